@@ -100,6 +100,8 @@ $sliced
 SLICED = Template("""
     const LEAST_INVERTED: usize = LEAST_IN_SLICES;
 
+    const LEAST_IN_BLOCKS: usize = LEAST_IN_SLICES;
+
     #[inline(always)]
     fn least_multiplied<V: Vector>() -> usize {
         LEAST_IN_SLICES

@@ -1,13 +1,11 @@
 -- Products of elements in blocks of their words: what the words of a block are, and the sums of products of blocks.
-use Rattle.std.proofs.Common.{◌≡◌, ℕ, zero, suc, ◌+◌, ◌<◌, ◌^◌, List, [], ◌∷◌, length, get_or, map, take, drop, refl, sym, ◌∙◌, ap, ap₂, subst, arith}
-use Rattle.std.specs.Prelude.{bit_xor, slice_index_or, slice_set}
-use Rattle.std.proofs.lemmas.List.{drop-drop, get_or-map, length-map}
+use Rattle.std.proofs.Common.{◌≡◌, ℕ, zero, suc, ◌+◌, ◌<◌, ◌^◌, List, [], ◌∷◌, length, map, take, drop, refl, sym, ◌∙◌, ap, ap₂}
+use Rattle.std.specs.Prelude.{bit_xor}
+use Rattle.std.proofs.lemmas.List.{drop-drop, length-map}
 use Rattle.std.proofs.lemmas.Nat.{pow_pos, xor_lt}
-use native.Mathlib.Nat.{le_refl}
 use lib.Bits.{xor_assoc}
 use Rattle.field_base.specs.Powers.{dot_of}
 use Rattle.field_base.specs.Ring.{IsRing}
-use Rattle.packed_lanes.proofs.LanePoints.{Written, lane_written, same_entry}
 
 -- sums of products depend on numbers alone
 pub dot_of-same : {A B : Type 0} → (times : ℕ → ℕ → ℕ) (value : A → ℕ) (number : B → ℕ) (xs ys : List A) (us vs : List B)
@@ -58,23 +56,6 @@ block_added {A} times repr xs ys start size end sum block next behind is so_far 
 pub as_long : {A W : Type 0} → (repr : A → ℕ) (number : W → ℕ) (xs : List A) (words : List W) → map number words ≡ map repr xs
     → length words ≡ length xs
 as_long repr number xs words same = sym (length-map words number) ∙ ap length same ∙ length-map xs repr
-
--- a word among the first ones is that of the element at its place
-pub word_at : {A W : Type 0} → (repr : A → ℕ) (number : W → ℕ) (xs : List A) (words : List W) → map number words ≡ map repr xs
-    → (k : ℕ) → k < length xs → (w : W) (x : A) → number (get_or words k w) ≡ repr (get_or xs k x)
-word_at repr number xs words same k within w x =
-    let long = as_long repr number xs words same in
-    sym (get_or-map number words k w 0 (omega (arith, within, long)))
-    ∙ ap (λ (ns : List ℕ). get_or ns k 0) same
-    ∙ get_or-map repr xs k x 0 within
-
--- a place more is written, by what is said of it as it was
-pub place_written : {A : Type 0} → (P : ℕ → A → A → Type 0) (old now : List A) (i : ℕ) (r : A) → length now ≡ length old → i < length old
-    → Written P old now i → ((e : A) → P i (slice_index_or old i e) r) → Written P old (slice_set now i r) (i + 1)
-place_written {A} P old now i r long within before given =
-    let x : A = slice_index_or now i r in
-    lane_written P old now i x r long within (same_entry now i r x (omega (arith, long, within))) before
-    (subst (λ (v : A). P i v r) (sym (before.left i r (le_refl i))) (given r))
 
 -- a sum of products of a ring is one of its elements
 pub dot_of-below : {A : Type 0} → (width unit : ℕ) (times : ℕ → ℕ → ℕ) → IsRing width unit times → (repr : A → ℕ) (xs ys : List A)

@@ -1,4 +1,5 @@
 pub mod Arrays
 mod BlockProducts
+mod ChangedPlaces
 mod NumberDigits
 pub mod PlaceProducts

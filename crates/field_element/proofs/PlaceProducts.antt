@@ -1,11 +1,9 @@
--- Lists whose elements are replaced from the first on, one after the other or in blocks: by products with the elements of another
+-- Lists whose elements are replaced from the first on, one after the other: by products with the elements of another
 -- list, or by its elements.
 use Rattle.std.proofs.Common.{◌≡◌, ℕ, zero, suc, ◌+◌, ◌<◌, ◌≤◌, List, [], ◌∷◌, ◌++◌, length, get_or, map, take, drop, refl, sym, ◌∙◌, ap, ap₂, arith}
 use Rattle.std.specs.Prelude.{slice_set}
 use Rattle.std.specs.Simd.Lanes.{zip2}
-use Rattle.std.proofs.lemmas.List.{append-nil, drop-map, drop_all, get_or-map, length-map, map-append, map-set, take_all}
-use Rattle.std.specs.List.{take-map}
-use borrow.Rule.Slice.PartMut.{mid_of, put_mid, same_len_mid}
+use Rattle.std.proofs.lemmas.List.{append-nil, drop_all, get_or-map, length-map, map-set, take_all}
 use Rattle.packed_lanes.specs.Lanes.{lane_by_lane}
 
 -- the first i elements of xs joined by f to those of ys at their places, and the others of xs as they were
@@ -40,17 +38,6 @@ place_joined f zero (x ∷ xs) (y ∷ ys) within long = refl
 place_joined f (suc i) (x ∷ xs) (y ∷ ys) within long =
     ap (λ (zs : List ℕ). f x y ∷ zs) (place_joined f i xs ys (omega arith) (omega arith))
 
--- a block more, of n elements
-block_joined : (f : ℕ → ℕ → ℕ) (n i : ℕ) (xs ys : List ℕ) → i + n ≤ length xs → length ys ≡ length xs
-    → put_mid i n (joined_before f i xs ys) (lane_by_lane f (mid_of i n (joined_before f i xs ys)) (mid_of i n ys))
-    ≡ joined_before f (i + n) xs ys
-block_joined f n zero xs ys room long = let e : 0 + n ≡ n = omega arith in rw e refl
-block_joined f n (suc i) [] ys room long = absurd (omega arith)
-block_joined f n (suc i) (x ∷ xs) [] room long = absurd (omega arith)
-block_joined f n (suc i) (x ∷ xs) (y ∷ ys) room long =
-    let e : suc i + n ≡ suc (i + n) = omega arith in
-    rw e (ap (λ (zs : List ℕ). f x y ∷ zs) (block_joined f n i xs ys (omega arith) (omega arith)))
-
 -- a number more is written
 pub number_written : (i : ℕ) (old now ys : List ℕ) (r : ℕ) → i < length old → length ys ≡ length old → r ≡ get_or ys i 0
     → now ≡ joined_before other i old ys → slice_set now i r ≡ joined_before other (i + 1) old ys
@@ -75,22 +62,6 @@ numbers_written i old now ys past long so_far = all_joined other i old now ys pa
 -- ---- over elements with numbers
 
 module _ {A : Type 0} (repr : A → ℕ) (f : ℕ → ℕ → ℕ) where
-  -- the numbers of a list in which a block is replaced
-  numbers_put : (a k : ℕ) (xs ys : List A) → map repr (put_mid a k xs ys) ≡ put_mid a k (map repr xs) (map repr ys)
-  numbers_put a k xs ys =
-      map-append repr (take a xs) (ys ++ drop k (drop a xs))
-      ∙ ap₂ (λ (us vs : List ℕ). us ++ vs) (sym (take-map repr a xs))
-      (map-append repr ys (drop k (drop a xs))
-      ∙ ap (λ (vs : List ℕ). map repr ys ++ vs) (sym (drop-map repr k (drop a xs)) ∙ ap (drop k) (sym (drop-map repr a xs))))
-
-  -- and of a block
-  numbers_of_mid : (a k : ℕ) (xs : List A) → map repr (mid_of a k xs) ≡ mid_of a k (map repr xs)
-  numbers_of_mid a k xs = sym (take-map repr k (drop a xs)) ∙ ap (take k) (sym (drop-map repr a xs))
-
-  -- before the first place nothing is replaced
-  pub none_replaced : (i : ℕ) (old : List A) (ys : List ℕ) → i ≡ 0 → map repr old ≡ joined_before f i (map repr old) ys
-  none_replaced i old ys is = ap (λ (k : ℕ). joined_before f k (map repr old) ys) (sym is)
-
   -- an element more is replaced
   pub place_replaced : (i : ℕ) (old now : List A) (ys : List ℕ) (x r : A) (y : ℕ) → i < length old → i < length now
       → length ys ≡ length old → x ≡ get_or now i x → y ≡ get_or ys i 0 → repr r ≡ f (repr x) y
@@ -103,27 +74,6 @@ module _ {A : Type 0} (repr : A → ℕ) (f : ℕ → ℕ → ℕ) where
       ∙ ap (λ (zs : List ℕ). slice_set zs i (f (get_or zs i 0) (get_or ys i 0))) so_far
       ∙ place_joined f i (map repr old) ys (omega (arith, length-map old repr, within)) (long ∙ sym (length-map old repr))
       ∙ ap (λ (k : ℕ). joined_before f k (map repr old) ys) next
-
-  -- a block more is replaced, and the list is as long as before
-  pub block_replaced : (i k n m : ℕ) (old now right part : List A) → k ≡ n → m ≡ i + n → i + n ≤ length old
-      → length right ≡ length old → length part ≡ length (mid_of i k now)
-      → map repr part ≡ lane_by_lane f (map repr (mid_of i k now)) (map repr (mid_of i k right))
-      → (length now ≡ length old) × (map repr now ≡ joined_before f i (map repr old) (map repr right))
-      → (length (put_mid i k now part) ≡ length old)
-      × (map repr (put_mid i k now part) ≡ joined_before f m (map repr old) (map repr right))
-  block_replaced i k n m old now right part same next room long lent of_part so_far =
-      let ys = map repr right in (
-        same_len_mid i k now part lent ∙ so_far.0,
-        ap (λ (j : ℕ). map repr (put_mid i j now part)) same
-            ∙ numbers_put i n now part
-            ∙ ap (put_mid i n (map repr now)) (of_part ∙ ap₂ (lane_by_lane f) (mid now) (mid right))
-            ∙ ap (λ (us : List ℕ). put_mid i n us (lane_by_lane f (mid_of i n us) (mid_of i n ys))) so_far.1
-            ∙ block_joined f n i (map repr old) ys (omega (arith, length-map old repr, room)) (length-map right repr ∙ long ∙ sym (length-map old repr))
-            ∙ ap (λ (j : ℕ). joined_before f j (map repr old) ys) (sym next),
-      )
-    where
-      mid : (xs : List A) → map repr (mid_of i k xs) ≡ mid_of i n (map repr xs)
-      mid xs = ap (λ (j : ℕ). map repr (mid_of i j xs)) same ∙ numbers_of_mid i n xs
 
   -- past the last place all are
   pub all_replaced : (i : ℕ) (old now : List A) (ys : List ℕ) → length old ≤ i → length ys ≡ length old

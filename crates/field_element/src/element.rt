@@ -2,6 +2,7 @@
 ghost use Rattle.std.specs.Prelude.{◌≡◌, ◌<◌, ◌%◌, ◌^◌, ℕ, ⊤};
 
 mod bits;
+mod blocks;
 mod coefficients;
 mod cubic_traits;
 mod cubic_word;
@@ -14,7 +15,9 @@ mod texts;
 
 pub use crate::element::coefficients::Coefficients;
 pub use crate::element::lanes::HasPacking;
-use crate::element::lanes::{dot_of_elements, multiply_elements};
+use crate::element::lanes::{
+    add_scaled_elements, dot_of_elements, invert_elements, multiply_elements, multiply_elements_by,
+};
 pub use crate::element::stored::{element_of_word, word_of};
 use field_base::{FieldKernel, Gf2, Stored};
 use std::alloc::AllocError;

@@ -91,7 +91,7 @@ impl Many<Coefficients, Coefficients> for CubicKernel {
     ghost use Rattle.std.proofs.Common.{lit<};
     ghost use Rattle.many_words.specs.Room.{few_fit};
 
-    ghost room_law = { few_fit 128 24 (lit< tt) };
+    ghost room_law = { few_fit 1024 24 (lit< tt) };
 }
 
 impl HasPacking<Coefficients> for CubicKernel {

@@ -39,6 +39,9 @@ pub trait Many<R: Stored, W: Holds<R>>: FieldKernel<R> + Sized {
     /// The least number of words whose inverses take less than as a batch: by the inverse of one product, and three products each.
     const LEAST_IN_BATCH: usize = 0;
 
+    /// The least number of terms whose products `dot_product` makes in blocks. Fewer are added two at a time.
+    const LEAST_IN_BLOCKS: usize = usize::MAX;
+
     /// How many words a block of products in vectors `V` has: the words behind whole blocks are multiplied in narrow vectors.
     #[inline(always)]
     fn block<V: Vector>() -> usize

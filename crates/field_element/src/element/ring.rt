@@ -6,7 +6,10 @@ ghost use Rattle.field_base.specs.Orders.{HasFullOrder};
 ghost use Rattle.field_base.specs.Powers.{repeated_square};
 ghost use Rattle.field_element.specs.RangeLemmas.{number_of_stored, one_in_range, stored_in_range, zero_in_range};
 
-use crate::element::{Element, HasPacking, dot_of_elements, multiply_elements, value};
+use crate::element::{
+    Element, HasPacking, add_scaled_elements, dot_of_elements, invert_elements, multiply_elements,
+    multiply_elements_by, value,
+};
 use field_base::traits::{Field, PrimeCharacteristicRing, Represented, Sealed, TowerLevel};
 use field_base::{FieldKernel, Gf2, LevelKernel, Stored, Unsigned};
 use packed_lanes::Laned;
@@ -109,6 +112,14 @@ impl<R: Stored, K: HasPacking<R>> PrimeCharacteristicRing for Element<R, K> {
         dot_of_elements(left, right)
     }
 
+    fn multiply_by(values: &mut [Element<R, K>], scalar: Element<R, K>) {
+        multiply_elements_by(values, scalar);
+    }
+
+    fn add_scaled(sums: &mut [Element<R, K>], scalar: Element<R, K>, values: &[Element<R, K>]) {
+        add_scaled_elements(sums, scalar, values);
+    }
+
     ghost zero_law = { R.zero_number };
 
     ghost one_law = { R.one_number };
@@ -169,9 +180,15 @@ impl<R: Stored, K: HasPacking<R>> Field for Element<R, K> {
       in_range = stored_in_range K.width R.bits R.number R.of_number R.number_of K.generator K.generator_fits;
     } };
 
+    const LEAST_INVERTED: usize = K::LEAST_IN_BATCH;
+
     #[inline]
     fn bits() -> usize {
         K::bits()
+    }
+
+    fn invert_each(values: &[Element<R, K>], inverses: &mut [Element<R, K>]) {
+        invert_elements(values, inverses);
     }
 
     // `invert` is called before the test for 0, so that the code has no branch where the kernel has none.

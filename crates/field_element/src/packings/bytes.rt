@@ -1,12 +1,8 @@
-// Products of many bytes of AES: in blocks of 32 and 16 by shift and add in lanes, and those that fill no block by tables.
+// Bytes of AES as elements, read and written.
 ghost use Rattle.std.specs.Prelude.{◌≡◌, length, map};
-ghost use Rattle.field_base.specs.Remainder.{aes_modulus, mul_mod};
 ghost use Rattle.field_element.specs.Element.{repr_of};
-ghost use Rattle.packed_lanes.specs.Lanes.{lane_by_lane};
 
 use crate::names::Rijndael8b;
-use std::simd::prelude::*;
-use word_polynomial::multiply_byte_lanes;
 
 /// Writes the bytes that the elements are.
 #[inline(always)]

@@ -34,6 +34,8 @@ impl Many<u16, u16> for Tower<Bits16> {
 
     const LEAST_INVERTED: usize = LEAST_IN_SLICES;
 
+    const LEAST_IN_BLOCKS: usize = LEAST_IN_SLICES;
+
     #[inline(always)]
     fn least_multiplied<V: Vector>() -> usize {
         LEAST_IN_SLICES
@@ -75,6 +77,8 @@ impl Many<u32, u32> for Tower<Bits32> {
     const LEAST_SCALED: usize = LEAST_IN_PLANES;
 
     const LEAST_INVERTED: usize = LEAST_IN_SLICES;
+
+    const LEAST_IN_BLOCKS: usize = LEAST_IN_SLICES;
 
     #[inline(always)]
     fn least_multiplied<V: Vector>() -> usize {
@@ -118,6 +122,8 @@ impl Many<u64, u64> for Tower<Bits64> {
 
     const LEAST_INVERTED: usize = LEAST_IN_SLICES;
 
+    const LEAST_IN_BLOCKS: usize = LEAST_IN_SLICES;
+
     #[inline(always)]
     fn least_multiplied<V: Vector>() -> usize {
         LEAST_IN_SLICES
@@ -159,6 +165,8 @@ impl<W: SlicedWide> Many<u128, W> for Tower<Bits128> {
     const LEAST_SCALED: usize = LEAST_IN_PLANES;
 
     const LEAST_INVERTED: usize = LEAST_IN_SLICES;
+
+    const LEAST_IN_BLOCKS: usize = LEAST_IN_SLICES;
 
     #[inline(always)]
     fn least_multiplied<V: Vector>() -> usize {
