@@ -4,6 +4,7 @@ pub mod CornerSums
 pub mod CubeLaws
 pub mod CubeTables
 pub mod FoldedBlocks
+pub mod HornerLanes
 pub mod LagrangeSteps
 pub mod LaneLists
 pub mod MixedDots

@@ -4,7 +4,7 @@ use field_base::traits::{Field, PrimeCharacteristicRing, TowerLevel};
 use field_element::{BinaryField8, Ghash128};
 use field_slices::{
     RoundPolynomial, batch_multiplicative_inverse, batch_multiplicative_inverse_in_place, eq_poly,
-    evaluate_multilinear, fold, mixed_dot_product, powers_vec, shifted_powers_vec,
+    evaluate, evaluate_multilinear, fold, mixed_dot_product, powers_vec, shifted_powers_vec,
 };
 use linked_list_allocator::LocalHeap;
 use std::alloc::{AllocError, Allocator, Global};
@@ -86,4 +86,19 @@ fn a_round_of_one_coordinate(rt: HostRuntime) {
     assert!(rt;
         message.sums_to(claim) && !message.sums_to(claim + x) && message.value_at(x) == lines
     );
+}
+
+/// Whether the value of the first 600 powers of one element at another is what their products' powers add up to: 600 coefficients go by
+/// blocks of 128, of which the last is short.
+fn powers_add_up(alloc: Global, base: Ghash128, x: Ghash128) -> Result<bool, AllocError> {
+    let powers = powers_vec(alloc, base, 600)?;
+    let ratio = base * x;
+    let value = evaluate(powers.as_slice(), x);
+    Ok(value * (Ghash128::ONE + ratio) == Ghash128::ONE + ratio.exp_u64(600))
+}
+
+#[test]
+fn a_value_of_many_coefficients(rt: HostRuntime) -> Result<(), Fail> {
+    assert!(rt; powers_add_up(rt.alloc(), Ghash128::new(0x87), Ghash128::new(1 << 100))?);
+    Ok(())
 }

@@ -1,7 +1,7 @@
 use Rattle.std.proofs.Common.{ℕ, ◌∙◌, ap, arith}
 use Rattle.std.specs.Prelude.{bit_xor}
 use Rattle.field_base.proofs.Horner.{horner_step}
-use Rattle.field_slices.proofs.horner.evaluate.Goals as goal
+use Rattle.field_slices.proofs.horner.evaluate_one_by_one.Goals as goal
 
 pub loop-place-preserved : goal.loop-place-preserved
 loop-place-preserved g c =

@@ -1,6 +1,6 @@
 use Rattle.std.proofs.Common.{◌≡◌, drop}
 use Rattle.field_base.specs.Powers.{value_of}
-use Rattle.field_slices.proofs.horner.evaluate.Given as goal
+use Rattle.field_slices.proofs.horner.evaluate_one_by_one.Given as goal
 
 -- what is there is the value of the coefficients from this place on
 abbrev pub invariant-loop-place : goal.invariant-loop-place
