@@ -33,7 +33,7 @@ square_root    slices::write_each         TakesRoots    SquareRoot
 power          slices::write_each         RaisesTo      Power
 product        slices::product            TakesProduct
 dot_product    dot_product                TakesDotProduct
-evaluate       slices::evaluate           Evaluates
+evaluate       evaluate                   Evaluates
 add_in_place          in_place::change_each_by  Adds          Sum
 multiply_in_place     multiply_in_place         Multiplies
 multiply_by_in_place  multiply_by_in_place      MultipliesBy

@@ -76,11 +76,13 @@ WORKED = [
 ]
 # The same of the C library.
 WORKED_CALLS = [
-    # Values at x of no coefficients, of one, of the highest alone, and of 128 times x^127.
+    # Values at x of no coefficients, of one, of the highest alone, and of 128 times x^127; and of 1 + x^130 + x^599, where x^128 is 87 and
+    # x^512 is x^28 + x^8 + x^4 + 1.
     "g128_evaluate - 2 0",
     "g128_evaluate 1234 2 1234",
     f"g128_evaluate {'0,' * 127}2 2 87",
     f"g128_evaluate {','.join(['8' + '0' * 31] * 128)} 2 1fc7",
+    f"g128_evaluate 1,{'0,' * 129}1,{'0,' * 468}1 2 8000088800000000000000000021d",
     # Images of the tower's elements in the byte field of AES.
     "t8_to_r8 2,4,10,13 bc,c,35,88",
 ]

@@ -112,6 +112,8 @@ def field_cases(field, draw):
         yield evaluated(field, left[:count], few)
     yield evaluated(field, left[:17], few[:20])
     yield evaluated(field, left, few[:2])
+    for count in (512, 514):
+        yield evaluated(field, (left + right)[:count], few[:2])
     assert field.has_full_order(field.generator)
     yield case(name("generator"), [field.generator])
 

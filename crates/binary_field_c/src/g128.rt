@@ -109,7 +109,7 @@ pub extern "C" fn bf_g128_evaluate(
 ) -> u32
     ensures { Evaluates ghash_field coefficients.now points.now values.old values.new result }
 {
-    slices::evaluate::<u128, Wide, GhashKernel>(coefficients, points, values)
+    c_arithmetic::evaluate::<u128, Wide, GhashKernel, u64x2>(coefficients, points, values)
 }
 
 /// Adds to each element of sums the value at its place.

@@ -113,7 +113,7 @@ pub extern "C" fn bf_p192_evaluate(
 ) -> u32
     ensures { Evaluates cubic_field coefficients.now points.now values.old values.new result }
 {
-    slices::evaluate::<Triple, Cubic, CubicKernel>(coefficients, points, values)
+    c_arithmetic::evaluate::<Triple, Cubic, CubicKernel, u64x2>(coefficients, points, values)
 }
 
 /// Adds to each element of sums the value at its place.

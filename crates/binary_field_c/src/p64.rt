@@ -105,7 +105,7 @@ pub extern "C" fn bf_p64_dot_product(left: &[u64], right: &[u64], sum: &mut u64)
 pub extern "C" fn bf_p64_evaluate(coefficients: &[u64], points: &[u64], values: &mut [u64]) -> u32
     ensures { Evaluates poly64_field coefficients.now points.now values.old values.new result }
 {
-    slices::evaluate::<u64, u64, Poly64Kernel>(coefficients, points, values)
+    c_arithmetic::evaluate::<u64, u64, Poly64Kernel, u64x2>(coefficients, points, values)
 }
 
 /// Adds to each element of sums the value at its place.

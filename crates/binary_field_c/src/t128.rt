@@ -109,7 +109,7 @@ pub extern "C" fn bf_t128_evaluate(
 ) -> u32
     ensures { Evaluates wide_level_field coefficients.now points.now values.old values.new result }
 {
-    slices::evaluate::<u128, Wide, Tower<Bits128>>(coefficients, points, values)
+    c_arithmetic::evaluate::<u128, Wide, Tower<Bits128>, u64x2>(coefficients, points, values)
 }
 
 /// Adds to each element of sums the value at its place.

@@ -105,7 +105,7 @@ pub extern "C" fn bf_t16_dot_product(left: &[u16], right: &[u16], sum: &mut u16)
 pub extern "C" fn bf_t16_evaluate(coefficients: &[u16], points: &[u16], values: &mut [u16]) -> u32
     ensures { Evaluates (level_field 4) coefficients.now points.now values.old values.new result }
 {
-    slices::evaluate::<u16, u16, Tower<Bits16>>(coefficients, points, values)
+    c_arithmetic::evaluate::<u16, u16, Tower<Bits16>, u64x2>(coefficients, points, values)
 }
 
 /// Adds to each element of sums the value at its place.

@@ -105,7 +105,7 @@ pub extern "C" fn bf_t2_dot_product(left: &[u8], right: &[u8], sum: &mut u8) -> 
 pub extern "C" fn bf_t2_evaluate(coefficients: &[u8], points: &[u8], values: &mut [u8]) -> u32
     ensures { Evaluates (level_field 1) coefficients.now points.now values.old values.new result }
 {
-    slices::evaluate::<u8, u8, Tower<Bits2>>(coefficients, points, values)
+    c_arithmetic::evaluate::<u8, u8, Tower<Bits2>, u64x2>(coefficients, points, values)
 }
 
 /// Adds to each element of sums the value at its place.

@@ -105,7 +105,7 @@ pub extern "C" fn bf_t32_dot_product(left: &[u32], right: &[u32], sum: &mut u32)
 pub extern "C" fn bf_t32_evaluate(coefficients: &[u32], points: &[u32], values: &mut [u32]) -> u32
     ensures { Evaluates (level_field 5) coefficients.now points.now values.old values.new result }
 {
-    slices::evaluate::<u32, u32, Tower<Bits32>>(coefficients, points, values)
+    c_arithmetic::evaluate::<u32, u32, Tower<Bits32>, u64x2>(coefficients, points, values)
 }
 
 /// Adds to each element of sums the value at its place.

@@ -105,7 +105,7 @@ pub extern "C" fn bf_t64_dot_product(left: &[u64], right: &[u64], sum: &mut u64)
 pub extern "C" fn bf_t64_evaluate(coefficients: &[u64], points: &[u64], values: &mut [u64]) -> u32
     ensures { Evaluates (level_field 6) coefficients.now points.now values.old values.new result }
 {
-    slices::evaluate::<u64, u64, Tower<Bits64>>(coefficients, points, values)
+    c_arithmetic::evaluate::<u64, u64, Tower<Bits64>, u64x2>(coefficients, points, values)
 }
 
 /// Adds to each element of sums the value at its place.

@@ -1,3 +1,4 @@
 pub mod BatchProducts
 mod ErasureCounts
 mod ErasureRestored
+mod WordSums

@@ -11,6 +11,7 @@ mod many;
 mod messages;
 mod numbers;
 pub mod operations;
+mod polynomials;
 mod shards;
 pub mod slices;
 pub mod status;
@@ -28,6 +29,7 @@ pub use crate::many::{
 pub use crate::messages::{
     gcm_ghash, gcm_ghash_final, hash, hash_update, hash_update_padded, tags_are_equal,
 };
+pub use crate::polynomials::evaluate;
 pub use crate::shards::{
     add_shard, encode, encode_prepared, prepare, reconstruct, reconstruct_data, tables_length,
     verify, verify_prepared,

@@ -1,8 +1,8 @@
 // Arithmetic on slices of words, place by place, over any field whose elements are words. Each function returns a status: the
 // lengths are compared first, then it is seen that all words are elements, and nothing is written before.
 ghost use Rattle.std.specs.Prelude.{◌≡◌, ◌↔◌, ◌*◌, ◌≤◌, IsTrue};
-ghost use Rattle.field_base.specs.Powers.{power, value_of};
-ghost use Rattle.c_arithmetic.specs.Calls.{CallOnEach, CallOnTwo, ChangesBasis, Evaluates};
+ghost use Rattle.field_base.specs.Powers.{power};
+ghost use Rattle.c_arithmetic.specs.Calls.{CallOnEach, CallOnTwo, ChangesBasis};
 ghost use Rattle.c_arithmetic.specs.Calls.{NamesGenerator, TakesProduct};
 ghost use Rattle.many_words.specs.Fields.{field_of};
 ghost use Rattle.many_words.specs.Words.{AreElements};
@@ -89,27 +89,6 @@ pub fn product<R: Stored, W: Holds<R>, K: FieldKernel<R>>(words: &[W], product: 
     status::OK
 }
 
-/// Writes the value at each point of the polynomial with these coefficients, the constant one first.
-#[inline]
-pub fn evaluate<R: Stored, W: Holds<R>, K: FieldKernel<R>>(
-    coefficients: &[W],
-    points: &[W],
-    values: &mut [W],
-) -> u32
-    ensures { Evaluates (field_of W.number K.width K.product K.generator) coefficients.now points.now values.old values.new result }
-{
-    if points.len() != values.len() {
-        return status::LENGTH;
-    }
-    if !are_elements::<R, W, K>(coefficients) || !are_elements::<R, W, K>(points) {
-        return status::NOT_AN_ELEMENT;
-    }
-    for place in 0..values.len() {
-        values[place] = value_at::<R, W, K>(coefficients, points[place]);
-    }
-    status::OK
-}
-
 /// Writes a generator of the nonzero elements.
 #[inline]
 pub fn generator<R: Stored, W: Holds<R>, K: FieldKernel<R>>(generator: &mut W) -> u32
@@ -150,22 +129,6 @@ pub(crate) fn power_of<R: Stored, W: Holds<R>, K: FieldKernel<R>>(word: W, expon
         }
         base = fields::square::<R, W, K>(base);
         rest /= 2;
-    }
-    value
-}
-
-// The value at a point of the polynomial with these coefficients, by Horner's rule from the last one down.
-#[inline]
-fn value_at<R: Stored, W: Holds<R>, K: FieldKernel<R>>(coefficients: &[W], point: W) -> W
-    requires { AreElements (field_of W.number K.width K.product K.generator) coefficients.now }
-    ensures { W.number result ≡ value_of 1 K.product W.number coefficients.now (W.number point) }
-{
-    let mut value = fields::zero::<R, W>();
-    for place in (0..coefficients.len()).rev() {
-        value = fields::add::<R, W>(
-            fields::multiply::<R, W, K>(value, point),
-            coefficients[place],
-        );
     }
     value
 }

@@ -2,7 +2,7 @@ use Rattle.std.proofs.Common.{ℕ, ◌^◌, ◌<◌, ◌-◌, sym, ◌∙◌, ap
 use Rattle.std.specs.Prelude.{bit_xor}
 use Rattle.field_base.proofs.Horner.{horner_start, horner_step}
 use Rattle.many_words.specs.Fields.{field_of}
-use Rattle.c_arithmetic.proofs.slices.value_at.Goals as goal
+use Rattle.c_arithmetic.proofs.polynomials.value_one_by_one.Goals as goal
 
 pub loop-place-init : goal.loop-place-init
 loop-place-init g c =

@@ -1,7 +1,7 @@
 use Rattle.std.proofs.Common.{◌≡◌, ℕ, ◌<◌, get_or}
 use Rattle.field_base.specs.Powers.{value_of}
 use Rattle.many_words.specs.Fields.{field_of}
-use Rattle.c_arithmetic.proofs.slices.evaluate.Given as goal
+use Rattle.c_arithmetic.proofs.polynomials.evaluate.Given as goal
 
 abbrev pub invariant-loop-place : goal.invariant-loop-place
 invariant-loop-place g l =
