@@ -835,6 +835,13 @@ uint32_t bf_g128_matrix_rank_wide(const bf_u128 *matrix, size_t matrix_length, s
 uint32_t bf_g128_matrix_determinant_wide(const bf_u128 *matrix, size_t matrix_length, size_t size, bf_u128 *space, size_t space_length, bf_u128 *determinant) BF_CHECKED BF_NONNULL(6);
 uint32_t bf_g128_matrix_inverse_wide(const bf_u128 *matrix, size_t matrix_length, size_t size, bf_u128 *inverse, size_t inverse_length, bf_u128 *space, size_t space_length, size_t *places, size_t places_length) BF_CHECKED;
 uint32_t bf_g128_matrix_solve_wide(const bf_u128 *matrix, size_t matrix_length, size_t rows, size_t columns, const bf_u128 *right, size_t right_length, bf_u128 *solution, size_t solution_length, bf_u128 *space, size_t space_length, size_t *places, size_t places_length) BF_CHECKED;
+uint32_t bf_tag_ghash_wide(const uint8_t *key, size_t key_length, const uint8_t *message, size_t message_length, uint8_t *hash, size_t hash_length) BF_CHECKED;
+uint32_t bf_tag_polyval_wide(const uint8_t *key, size_t key_length, const uint8_t *message, size_t message_length, uint8_t *hash, size_t hash_length) BF_CHECKED;
+uint32_t bf_tag_gcm_ghash_wide(const uint8_t *key, size_t key_length, const uint8_t *associated, size_t associated_length, const uint8_t *ciphertext, size_t ciphertext_length, uint8_t *hash, size_t hash_length) BF_CHECKED;
+uint32_t bf_tag_ghash_update_wide(const uint8_t *key, size_t key_length, const uint8_t *blocks, size_t blocks_length, uint8_t *hash, size_t hash_length) BF_CHECKED;
+uint32_t bf_tag_ghash_update_padded_wide(const uint8_t *key, size_t key_length, const uint8_t *message, size_t message_length, uint8_t *hash, size_t hash_length) BF_CHECKED;
+uint32_t bf_tag_polyval_update_wide(const uint8_t *key, size_t key_length, const uint8_t *blocks, size_t blocks_length, uint8_t *hash, size_t hash_length) BF_CHECKED;
+uint32_t bf_tag_polyval_update_padded_wide(const uint8_t *key, size_t key_length, const uint8_t *message, size_t message_length, uint8_t *hash, size_t hash_length) BF_CHECKED;
 
 /* Writes the shards of parity of shards that stand apart, each of size bytes: the pointers are those of the shards of data and of parity, of
  * which none of parity overlaps another shard. tables is what bf_rs_prepare wrote for this code. It is bf_rs_add_shard for each pair of shards,

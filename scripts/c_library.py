@@ -161,6 +161,8 @@ WIDE = [
       for name in ("multiply", "multiply_in_place", "inverse", "inverse_in_place", "batch_inverse")],
     *[f"g128_{name}" for name in ("inverse", "inverse_in_place", "batch_inverse")],
     *[f"g128_{name}" for name, _, _ in MATRIX_FUNCTIONS],
+    "tag_ghash", "tag_polyval", "tag_gcm_ghash",
+    *[f"tag_{name}_{how}" for name in ("ghash", "polyval") for how in ("update", "update_padded")],
 ]
 
 # These return no status.

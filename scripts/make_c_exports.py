@@ -48,7 +48,9 @@ OPERATIONS = {row[0]: row[3] for row in CALL_ROWS if len(row) > 3}
 
 # The vectors that the calls work in, and the functions of c_arithmetic of no field over a type of vectors.
 NARROW, WIDE = "u64x2", "u64x4"
-WITH_WIDTH = {"butterfly_forward", "butterfly_inverse", "low_stages", "transform", "inverse_transform"}
+WITH_WIDTH = {
+    "butterfly_forward", "butterfly_inverse", "low_stages", "transform", "inverse_transform", "hash", "hash_update", "hash_update_padded", "gcm_ghash",
+}
 
 # Calls whose loops may take two elements in a turn.
 IN_TURNS = {"square", "square_root"}
@@ -65,8 +67,8 @@ g128_butterfly_inverse  transforms  butterfly_inverse  ButterfliesInverse (wide_
 g128_low_stages         transforms  low_stages         RunsLowStages shifts.now basis.now first_run values.old values.new result
 g128_transform          transforms  transform          Transforms (wide_number shift.now) values.old values.new result
 g128_inverse_transform  transforms  inverse_transform  InvertsTransform (wide_number shift.now) values.old values.new result
-tag_ghash               messages    hash::<tags::Ghash>    Hashes (Unit {0}) key.now (ghash key.now (blocks_of message.now)) hash.old hash.new result
-tag_polyval             messages    hash::<tags::Polyval>  Hashes (Unit {0}) key.now (polyval key.now (blocks_of message.now)) hash.old hash.new result
+tag_ghash               messages    hash::<tags::HighestFirst>  Hashes (Unit {0}) key.now (ghash key.now (blocks_of message.now)) hash.old hash.new result
+tag_polyval             messages    hash::<tags::LowestFirst>   Hashes (Unit {0}) key.now (polyval key.now (blocks_of message.now)) hash.old hash.new result
 tag_ghash_update           messages  hash_update::<tags::HighestFirst>         Hashes (length blocks.now % 16 ≡ 0) key.now \
 (ghash_from key.now hash.old (blocks_of blocks.now)) hash.old hash.new result
 tag_ghash_update_padded    messages  hash_update_padded::<tags::HighestFirst>  Hashes (Unit {0}) key.now \
@@ -242,8 +244,11 @@ def called_over_words(field, call, more):
 
 
 def of_width(call, vector):
-    """The call of a function of c_arithmetic, over vectors of that type where it has a type of vectors."""
-    return f"c_arithmetic::{call}::<{vector}>" if call in WITH_WIDTH else f"c_arithmetic::{call}"
+    """The call of a function of c_arithmetic, over vectors of that type where it has a type of vectors, which stands behind its other types."""
+    name, _, types = call.partition("::<")
+    if name not in WITH_WIDTH:
+        return f"c_arithmetic::{call}"
+    return f"c_arithmetic::{name}::<{types.replace('>', ', ')}{vector}>"
 
 
 def called_on_many(field, name, vector):

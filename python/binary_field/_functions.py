@@ -417,4 +417,11 @@ FUNCTIONS: dict[str, list[tuple[str, str, str]]] = {
     "g128_matrix_determinant_wide": [("in", "matrix", "u128"), ("number", "size", "u64"), ("space", "space", "u128"), ("result", "determinant", "u128")],
     "g128_matrix_inverse_wide": [("in", "matrix", "u128"), ("number", "size", "u64"), ("out", "inverse", "u128"), ("space", "space", "u128"), ("space", "places", "usize")],
     "g128_matrix_solve_wide": [("in", "matrix", "u128"), ("number", "rows", "u64"), ("number", "columns", "u64"), ("in", "right", "u128"), ("out", "solution", "u128"), ("space", "space", "u128"), ("space", "places", "usize")],
+    "tag_ghash_wide": [("in", "key", "u8"), ("in", "message", "u8"), ("out", "hash", "u8")],
+    "tag_polyval_wide": [("in", "key", "u8"), ("in", "message", "u8"), ("out", "hash", "u8")],
+    "tag_gcm_ghash_wide": [("in", "key", "u8"), ("in", "associated", "u8"), ("in", "ciphertext", "u8"), ("out", "hash", "u8")],
+    "tag_ghash_update_wide": [("in", "key", "u8"), ("in", "blocks", "u8"), ("inout", "hash", "u8")],
+    "tag_ghash_update_padded_wide": [("in", "key", "u8"), ("in", "message", "u8"), ("inout", "hash", "u8")],
+    "tag_polyval_update_wide": [("in", "key", "u8"), ("in", "blocks", "u8"), ("inout", "hash", "u8")],
+    "tag_polyval_update_padded_wide": [("in", "key", "u8"), ("in", "message", "u8"), ("inout", "hash", "u8")],
 }

@@ -2914,6 +2914,7 @@ unsafe extern "C" {
     ) -> u32;
     /// hash: GHASH of the message (NIST SP 800-38D), zeros added to whole blocks; key and hash have 16 bytes.
     /// BF_LENGTH unless key and hash have 16 bytes.
+    #[cfg_attr(binary_field_wide, link_name = "bf_tag_ghash_wide")]
     pub fn bf_tag_ghash(
         key: *const u8,
         key_length: usize,
@@ -2924,6 +2925,7 @@ unsafe extern "C" {
     ) -> u32;
     /// hash: POLYVAL of the message (RFC 8452), zeros added to whole blocks; key and hash have 16 bytes. BF_LENGTH
     /// unless key and hash have 16 bytes.
+    #[cfg_attr(binary_field_wide, link_name = "bf_tag_polyval_wide")]
     pub fn bf_tag_polyval(
         key: *const u8,
         key_length: usize,
@@ -2935,6 +2937,7 @@ unsafe extern "C" {
     /// hash: the hash of GCM over associated data and ciphertext, each below 2^61 bytes, with the block of their
     /// lengths; key and hash have 16 bytes. BF_LENGTH unless key and hash have 16 bytes, and associated and
     /// ciphertext below 2^61 each.
+    #[cfg_attr(binary_field_wide, link_name = "bf_tag_gcm_ghash_wide")]
     pub fn bf_tag_gcm_ghash(
         key: *const u8,
         key_length: usize,
@@ -2947,6 +2950,7 @@ unsafe extern "C" {
     ) -> u32;
     /// GHASH of more whole blocks: hash is that of the blocks before, and then that of these too; key and hash have
     /// 16 bytes. BF_LENGTH unless key and hash have 16 bytes, and blocks a multiple of 16.
+    #[cfg_attr(binary_field_wide, link_name = "bf_tag_ghash_update_wide")]
     pub fn bf_tag_ghash_update(
         key: *const u8,
         key_length: usize,
@@ -2957,6 +2961,7 @@ unsafe extern "C" {
     ) -> u32;
     /// GHASH of more bytes, zeros added to whole blocks: hash is that of the blocks before, and then that of these
     /// too; key and hash have 16 bytes. BF_LENGTH unless key and hash have 16 bytes.
+    #[cfg_attr(binary_field_wide, link_name = "bf_tag_ghash_update_padded_wide")]
     pub fn bf_tag_ghash_update_padded(
         key: *const u8,
         key_length: usize,
@@ -2967,6 +2972,7 @@ unsafe extern "C" {
     ) -> u32;
     /// POLYVAL of more whole blocks: hash is that of the blocks before, and then that of these too; key and hash have
     /// 16 bytes. BF_LENGTH unless key and hash have 16 bytes, and blocks a multiple of 16.
+    #[cfg_attr(binary_field_wide, link_name = "bf_tag_polyval_update_wide")]
     pub fn bf_tag_polyval_update(
         key: *const u8,
         key_length: usize,
@@ -2977,6 +2983,7 @@ unsafe extern "C" {
     ) -> u32;
     /// POLYVAL of more bytes, zeros added to whole blocks: hash is that of the blocks before, and then that of these
     /// too; key and hash have 16 bytes. BF_LENGTH unless key and hash have 16 bytes.
+    #[cfg_attr(binary_field_wide, link_name = "bf_tag_polyval_update_padded_wide")]
     pub fn bf_tag_polyval_update_padded(
         key: *const u8,
         key_length: usize,

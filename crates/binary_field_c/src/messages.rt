@@ -7,12 +7,14 @@ ghost use Rattle.tags.specs.Pieces.{ghash_from, polyval_from};
 ghost use Rattle.tags.specs.Polyval.{polyval};
 ghost use Rattle.c_arithmetic.specs.Bytes.{Compares, Hashes};
 
+use std::simd::prelude::*;
+
 /// GHASH of the message (NIST SP 800-38D), zeros added to whole blocks; key and hash have 16 bytes.
 #[unsafe(no_mangle)]
 pub extern "C" fn bf_tag_ghash(key: &[u8], message: &[u8], hash: &mut [u8]) -> u32
     ensures { Hashes (Unit {0}) key.now (ghash key.now (blocks_of message.now)) hash.old hash.new result }
 {
-    c_arithmetic::hash::<tags::Ghash>(key, message, hash)
+    c_arithmetic::hash::<tags::HighestFirst, u64x2>(key, message, hash)
 }
 
 /// POLYVAL of the message (RFC 8452), zeros added to whole blocks; key and hash have 16 bytes.
@@ -20,7 +22,7 @@ pub extern "C" fn bf_tag_ghash(key: &[u8], message: &[u8], hash: &mut [u8]) -> u
 pub extern "C" fn bf_tag_polyval(key: &[u8], message: &[u8], hash: &mut [u8]) -> u32
     ensures { Hashes (Unit {0}) key.now (polyval key.now (blocks_of message.now)) hash.old hash.new result }
 {
-    c_arithmetic::hash::<tags::Polyval>(key, message, hash)
+    c_arithmetic::hash::<tags::LowestFirst, u64x2>(key, message, hash)
 }
 
 /// The hash of GCM over associated data and ciphertext, each below 2^61 bytes, with the block of their lengths; key and hash have 16
@@ -35,7 +37,7 @@ pub extern "C" fn bf_tag_gcm_ghash(
     ensures { Hashes ((length associated.now < 2 ^ 61) × (length ciphertext.now < 2 ^ 61)) key.now
         (ghash key.now (gcm_blocks associated.now ciphertext.now)) hash.old hash.new result }
 {
-    c_arithmetic::gcm_ghash(key, associated, ciphertext, hash)
+    c_arithmetic::gcm_ghash::<u64x2>(key, associated, ciphertext, hash)
 }
 
 /// GHASH of more whole blocks: hash is that of the blocks before, and then that of these too; key and hash have 16 bytes.
@@ -43,7 +45,7 @@ pub extern "C" fn bf_tag_gcm_ghash(
 pub extern "C" fn bf_tag_ghash_update(key: &[u8], blocks: &[u8], hash: &mut [u8]) -> u32
     ensures { Hashes (length blocks.now % 16 ≡ 0) key.now (ghash_from key.now hash.old (blocks_of blocks.now)) hash.old hash.new result }
 {
-    c_arithmetic::hash_update::<tags::HighestFirst>(key, blocks, hash)
+    c_arithmetic::hash_update::<tags::HighestFirst, u64x2>(key, blocks, hash)
 }
 
 /// GHASH of more bytes, zeros added to whole blocks: hash is that of the blocks before, and then that of these too; key and hash have 16
@@ -52,7 +54,7 @@ pub extern "C" fn bf_tag_ghash_update(key: &[u8], blocks: &[u8], hash: &mut [u8]
 pub extern "C" fn bf_tag_ghash_update_padded(key: &[u8], message: &[u8], hash: &mut [u8]) -> u32
     ensures { Hashes (Unit {0}) key.now (ghash_from key.now hash.old (blocks_of message.now)) hash.old hash.new result }
 {
-    c_arithmetic::hash_update_padded::<tags::HighestFirst>(key, message, hash)
+    c_arithmetic::hash_update_padded::<tags::HighestFirst, u64x2>(key, message, hash)
 }
 
 /// POLYVAL of more whole blocks: hash is that of the blocks before, and then that of these too; key and hash have 16 bytes.
@@ -60,7 +62,7 @@ pub extern "C" fn bf_tag_ghash_update_padded(key: &[u8], message: &[u8], hash: &
 pub extern "C" fn bf_tag_polyval_update(key: &[u8], blocks: &[u8], hash: &mut [u8]) -> u32
     ensures { Hashes (length blocks.now % 16 ≡ 0) key.now (polyval_from key.now hash.old (blocks_of blocks.now)) hash.old hash.new result }
 {
-    c_arithmetic::hash_update::<tags::LowestFirst>(key, blocks, hash)
+    c_arithmetic::hash_update::<tags::LowestFirst, u64x2>(key, blocks, hash)
 }
 
 /// POLYVAL of more bytes, zeros added to whole blocks: hash is that of the blocks before, and then that of these too; key and hash have 16
@@ -69,7 +71,7 @@ pub extern "C" fn bf_tag_polyval_update(key: &[u8], blocks: &[u8], hash: &mut [u
 pub extern "C" fn bf_tag_polyval_update_padded(key: &[u8], message: &[u8], hash: &mut [u8]) -> u32
     ensures { Hashes (Unit {0}) key.now (polyval_from key.now hash.old (blocks_of message.now)) hash.old hash.new result }
 {
-    c_arithmetic::hash_update_padded::<tags::LowestFirst>(key, message, hash)
+    c_arithmetic::hash_update_padded::<tags::LowestFirst, u64x2>(key, message, hash)
 }
 
 /// GHASH of the block of two lengths in bytes, each below 2^61, as GCM has them: hash is that of the blocks before, and then that of this

@@ -1,6 +1,11 @@
 // Second forms of calls, made for x86-64-v3, whose vectors have 256 bits.
 // Written by scripts/make_c_exports.py; do not edit.
-ghost use Rattle.std.specs.Prelude.{length};
+ghost use Rattle.std.specs.Prelude.{◌≡◌, ◌^◌, ◌%◌, ◌<◌, length};
+ghost use Rattle.tags.specs.Blocks.{blocks_of, gcm_blocks};
+ghost use Rattle.tags.specs.Gcm.{ghash};
+ghost use Rattle.tags.specs.Pieces.{ghash_from, polyval_from};
+ghost use Rattle.tags.specs.Polyval.{polyval};
+ghost use Rattle.c_arithmetic.specs.Bytes.{Hashes};
 ghost use Rattle.c_arithmetic.specs.Transforms.{ButterfliesForward, ButterfliesInverse, InvertsTransform, RunsLowStages, Transforms};
 ghost use Rattle.c_arithmetic.specs.Calls.{AddsScaled, Inverts, Multiplies, MultipliesBy, TakesDotProduct};
 ghost use Rattle.c_arithmetic.specs.Fields.{ghash_field, level_field, poly64_field, wide_level_field, wide_number};
@@ -441,4 +446,74 @@ pub extern "C" fn bf_g128_matrix_solve_wide(
     c_matrices::solve::<u128, Wide, GhashKernel, InVectors<u64x4>>(
         matrix, rows, columns, right, solution, space, places,
     )
+}
+
+/// The same as `bf_tag_ghash`.
+#[unsafe(no_mangle)]
+pub extern "C" fn bf_tag_ghash_wide(key: &[u8], message: &[u8], hash: &mut [u8]) -> u32
+    ensures { Hashes (Unit {0}) key.now (ghash key.now (blocks_of message.now)) hash.old hash.new result }
+{
+    c_arithmetic::hash::<tags::HighestFirst, u64x4>(key, message, hash)
+}
+
+/// The same as `bf_tag_polyval`.
+#[unsafe(no_mangle)]
+pub extern "C" fn bf_tag_polyval_wide(key: &[u8], message: &[u8], hash: &mut [u8]) -> u32
+    ensures { Hashes (Unit {0}) key.now (polyval key.now (blocks_of message.now)) hash.old hash.new result }
+{
+    c_arithmetic::hash::<tags::LowestFirst, u64x4>(key, message, hash)
+}
+
+/// The same as `bf_tag_gcm_ghash`.
+#[unsafe(no_mangle)]
+pub extern "C" fn bf_tag_gcm_ghash_wide(
+    key: &[u8],
+    associated: &[u8],
+    ciphertext: &[u8],
+    hash: &mut [u8],
+) -> u32
+    ensures { Hashes ((length associated.now < 2 ^ 61) × (length ciphertext.now < 2 ^ 61)) key.now
+        (ghash key.now (gcm_blocks associated.now ciphertext.now)) hash.old hash.new result }
+{
+    c_arithmetic::gcm_ghash::<u64x4>(key, associated, ciphertext, hash)
+}
+
+/// The same as `bf_tag_ghash_update`.
+#[unsafe(no_mangle)]
+pub extern "C" fn bf_tag_ghash_update_wide(key: &[u8], blocks: &[u8], hash: &mut [u8]) -> u32
+    ensures { Hashes (length blocks.now % 16 ≡ 0) key.now (ghash_from key.now hash.old (blocks_of blocks.now)) hash.old hash.new result }
+{
+    c_arithmetic::hash_update::<tags::HighestFirst, u64x4>(key, blocks, hash)
+}
+
+/// The same as `bf_tag_ghash_update_padded`.
+#[unsafe(no_mangle)]
+pub extern "C" fn bf_tag_ghash_update_padded_wide(
+    key: &[u8],
+    message: &[u8],
+    hash: &mut [u8],
+) -> u32
+    ensures { Hashes (Unit {0}) key.now (ghash_from key.now hash.old (blocks_of message.now)) hash.old hash.new result }
+{
+    c_arithmetic::hash_update_padded::<tags::HighestFirst, u64x4>(key, message, hash)
+}
+
+/// The same as `bf_tag_polyval_update`.
+#[unsafe(no_mangle)]
+pub extern "C" fn bf_tag_polyval_update_wide(key: &[u8], blocks: &[u8], hash: &mut [u8]) -> u32
+    ensures { Hashes (length blocks.now % 16 ≡ 0) key.now (polyval_from key.now hash.old (blocks_of blocks.now)) hash.old hash.new result }
+{
+    c_arithmetic::hash_update::<tags::LowestFirst, u64x4>(key, blocks, hash)
+}
+
+/// The same as `bf_tag_polyval_update_padded`.
+#[unsafe(no_mangle)]
+pub extern "C" fn bf_tag_polyval_update_padded_wide(
+    key: &[u8],
+    message: &[u8],
+    hash: &mut [u8],
+) -> u32
+    ensures { Hashes (Unit {0}) key.now (polyval_from key.now hash.old (blocks_of message.now)) hash.old hash.new result }
+{
+    c_arithmetic::hash_update_padded::<tags::LowestFirst, u64x4>(key, message, hash)
 }

@@ -6,7 +6,8 @@ ghost use Rattle.tags.specs.Pieces.{ghash_from};
 ghost use Rattle.c_arithmetic.specs.Bytes.{Compares, Hashes};
 
 use crate::status;
-use tags::{Encoding, UniversalHash, hash_from};
+use ghash_slices::Width;
+use tags::{Encoding, KeyedHash, UniversalHash, hash_from_in_vectors};
 
 // The bytes of a key, and of a hash.
 const BYTES: usize = 16;
@@ -15,42 +16,42 @@ const BYTES: usize = 16;
 const PART_END: usize = 1 << 61;
 
 /// Writes the hash of the message, zeros added to whole blocks: GHASH or POLYVAL.
-pub fn hash<H: UniversalHash>(key: &[u8], message: &[u8], hash: &mut [u8]) -> u32
-    ensures { Hashes (Unit {0}) key.now (H.hash key.now (blocks_of message.now)) hash.old hash.new result }
+pub fn hash<E: Encoding, V: Width>(key: &[u8], message: &[u8], hash: &mut [u8]) -> u32
+    ensures { Hashes (Unit {0}) key.now (E.hash key.now (blocks_of message.now)) hash.old hash.new result }
 {
     if key.len() != BYTES || hash.len() != BYTES {
         return status::LENGTH;
     }
-    let mut state = H::new(&block_of(key));
+    let mut state = KeyedHash::<E, V>::new(&block_of(key));
     state.update(message);
     hash.copy_from_slice(&state.finalize());
     status::OK
 }
 
 /// Goes on with a hash over more blocks, the last one filled up with zeros: `hash` is that of the blocks so far.
-pub fn hash_update_padded<E: Encoding>(key: &[u8], message: &[u8], hash: &mut [u8]) -> u32
+pub fn hash_update_padded<E: Encoding, V: Width>(key: &[u8], message: &[u8], hash: &mut [u8]) -> u32
     ensures { Hashes (Unit {0}) key.now (E.hash_from key.now hash.old (blocks_of message.now)) hash.old hash.new result }
 {
     if key.len() != BYTES || hash.len() != BYTES {
         return status::LENGTH;
     }
-    let next = hash_from::<E>(&block_of(key), &block_of(hash), message);
+    let next = hash_from_in_vectors::<E, V>(&block_of(key), &block_of(hash), message);
     hash.copy_from_slice(&next);
     status::OK
 }
 
 /// Goes on with a hash over whole blocks.
-pub fn hash_update<E: Encoding>(key: &[u8], blocks: &[u8], hash: &mut [u8]) -> u32
+pub fn hash_update<E: Encoding, V: Width>(key: &[u8], blocks: &[u8], hash: &mut [u8]) -> u32
     ensures { Hashes (length blocks.now % 16 ≡ 0) key.now (E.hash_from key.now hash.old (blocks_of blocks.now)) hash.old hash.new result }
 {
     if blocks.len() % BYTES != 0 {
         return status::LENGTH;
     }
-    hash_update_padded::<E>(key, blocks, hash)
+    hash_update_padded::<E, V>(key, blocks, hash)
 }
 
 /// Writes the hash of GCM over associated data and ciphertext with the block of their lengths.
-pub fn gcm_ghash(key: &[u8], associated: &[u8], ciphertext: &[u8], hash: &mut [u8]) -> u32
+pub fn gcm_ghash<V: Width>(key: &[u8], associated: &[u8], ciphertext: &[u8], hash: &mut [u8]) -> u32
     ensures { Hashes ((length associated.now < 2 ^ 61) × (length ciphertext.now < 2 ^ 61)) key.now
         (ghash key.now (gcm_blocks associated.now ciphertext.now)) hash.old hash.new result }
 {
@@ -60,7 +61,7 @@ pub fn gcm_ghash(key: &[u8], associated: &[u8], ciphertext: &[u8], hash: &mut [u
     if associated.len() >= PART_END || ciphertext.len() >= PART_END {
         return status::LENGTH;
     }
-    hash.copy_from_slice(&tags::gcm_ghash(&block_of(key), associated, ciphertext));
+    hash.copy_from_slice(&tags::gcm_ghash_in_vectors::<V>(&block_of(key), associated, ciphertext));
     status::OK
 }
 

@@ -6,6 +6,7 @@ ghost use Rattle.tags.specs.Reversed.{ghash_times};
 
 use crate::encoding::Encoding;
 use crate::interleaved::{LEAST_INTERLEAVED, TURN, with_turns};
+use ghash_slices::Width;
 use word_carryless::{multiply_128_twice, multiply_mod_128, reduce_128};
 
 pub(crate) const BLOCK_LENGTH: usize = 16;
@@ -90,7 +91,7 @@ fn with_four_blocks<E: Encoding>(sum: u128, powers: &Powers, blocks: &[u8]) -> u
 }
 
 // The hash after whole blocks more: many of them in interleaved sums, and the rest four at a time.
-pub(crate) fn with_blocks<E: Encoding>(sum: u128, powers: &Powers, blocks: &[u8]) -> u128
+pub(crate) fn with_blocks<E: Encoding, V: Width>(sum: u128, powers: &Powers, blocks: &[u8]) -> u128
     requires { length blocks.now % 16 ≡ 0 }
     ensures { (key : ℕ) → ArePowers key powers.now
         → result ≡ fold (λ y x. ghash_times (bit_xor y x) key) sum (map E.element (first_blocks (length blocks.now / 16) blocks.now)) }
@@ -99,7 +100,7 @@ pub(crate) fn with_blocks<E: Encoding>(sum: u128, powers: &Powers, blocks: &[u8]
         return with_few_blocks::<E>(sum, powers, blocks);
     }
     let (turns, rest) = blocks.split_at(blocks.len() - blocks.len() % TURN);
-    let hash = with_turns::<E>(sum, powers, turns);
+    let hash = with_turns::<E, V>(sum, powers, turns);
     with_few_blocks::<E>(hash, powers, rest)
 }
 

@@ -8,6 +8,8 @@ ghost use Rattle.tags.specs.Reversed.{ghash_times};
 
 use crate::blocks::{BLOCK_LENGTH, Powers, with_block, with_blocks};
 use crate::encoding::{Encoding, HighestFirst};
+use ghash_slices::Width;
+use std::simd::prelude::*;
 
 /// The hash of all blocks so far under the key `key`, where `hash` is that of the blocks before and `bytes` are the blocks more, the last
 /// one filled up with zeros. Before the first block `hash` is 16 zeros.
@@ -16,8 +18,19 @@ use crate::encoding::{Encoding, HighestFirst};
 pub fn hash_from<E: Encoding>(key: &[u8; 16], hash: &[u8; 16], bytes: &[u8]) -> [u8; 16]
     ensures { result ≡ E.hash_from key.now hash.now (blocks_of bytes.now) }
 {
+    hash_from_in_vectors::<E, u64x2>(key, hash, bytes)
+}
+
+/// The same as [`hash_from`], computed in vectors `V`.
+pub fn hash_from_in_vectors<E: Encoding, V: Width>(
+    key: &[u8; 16],
+    hash: &[u8; 16],
+    bytes: &[u8],
+) -> [u8; 16]
+    ensures { result ≡ E.hash_from key.now hash.now (blocks_of bytes.now) }
+{
     let powers = Powers::new(E::multiplier_of(*key));
-    E::write(with_padded_blocks::<E>(E::read(*hash), &powers, bytes))
+    E::write(with_padded_blocks::<E, V>(E::read(*hash), &powers, bytes))
 }
 
 /// The hash of GCM, where `hash` is that of the blocks of its associated data and of its text, the last one of each filled up with zeros:
@@ -38,12 +51,12 @@ pub fn gcm_ghash_final(
 }
 
 // The hash after more blocks, the last one filled up with zeros.
-fn with_padded_blocks<E: Encoding>(sum: u128, powers: &Powers, bytes: &[u8]) -> u128
+fn with_padded_blocks<E: Encoding, V: Width>(sum: u128, powers: &Powers, bytes: &[u8]) -> u128
     ensures { (key : ℕ) → ArePowers key powers.now
         → result ≡ polynomial_hash_from ghash_times key sum (map E.element (blocks_of bytes.now)) }
 {
     let whole = bytes.len() / BLOCK_LENGTH * BLOCK_LENGTH;
-    let sum = with_blocks::<E>(sum, powers, &bytes[..whole]);
+    let sum = with_blocks::<E, V>(sum, powers, &bytes[..whole]);
     if whole == bytes.len() {
         return sum;
     }

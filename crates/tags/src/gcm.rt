@@ -6,6 +6,8 @@ ghost use Rattle.tags.specs.Polyval.{polyval};
 
 use crate::encoding::{HighestFirst, LowestFirst};
 use crate::universal::hash_of_parts;
+use ghash_slices::Width;
+use std::simd::prelude::*;
 
 /// The hash from which GCM makes its tag (NIST SP 800-38D, section 7.1, step 5): GHASH, under the hash key `key`, of the
 /// associated data and of the text, each filled up with zeros to whole blocks, and of a block with both lengths in bits, 8 bytes
@@ -18,7 +20,16 @@ pub fn gcm_ghash(key: &[u8; 16], associated: &[u8], text: &[u8]) -> [u8; 16]
     requires text_fits { length text.now < 2 ^ 61 }
     ensures { result ≡ ghash key.now (gcm_blocks associated.now text.now) }
 {
-    hash_of_parts::<HighestFirst>(key, associated, text)
+    gcm_ghash_in_vectors::<u64x2>(key, associated, text)
+}
+
+/// The same as [`gcm_ghash`], computed in vectors `V`.
+pub fn gcm_ghash_in_vectors<V: Width>(key: &[u8; 16], associated: &[u8], text: &[u8]) -> [u8; 16]
+    requires associated_fits { length associated.now < 2 ^ 61 }
+    requires text_fits { length text.now < 2 ^ 61 }
+    ensures { result ≡ ghash key.now (gcm_blocks associated.now text.now) }
+{
+    hash_of_parts::<HighestFirst, V>(key, associated, text)
 }
 
 /// The hash from which GCM-SIV makes its tag (RFC 8452, section 4): POLYVAL, under the message-authentication key `key`, of the associated
@@ -30,5 +41,5 @@ pub fn gcm_siv_polyval(key: &[u8; 16], associated: &[u8], text: &[u8]) -> [u8; 1
     requires text_fits { length text.now < 2 ^ 61 }
     ensures { result ≡ polyval key.now (gcm_siv_blocks associated.now text.now) }
 {
-    hash_of_parts::<LowestFirst>(key, associated, text)
+    hash_of_parts::<LowestFirst, u64x2>(key, associated, text)
 }

@@ -15,8 +15,7 @@ ghost use Rattle.tags.specs.Reversed.{ghash_times};
 
 use crate::blocks::{BLOCK_LENGTH, Powers, read_block, sum_of_products};
 use crate::encoding::Encoding;
-use ghash_slices::{Multiples, add_in_lanes, numbers_are_values};
-use std::simd::prelude::*;
+use ghash_slices::{Multiples, Width, add_in_lanes, numbers_are_values};
 use word_carryless::square_mod_128;
 
 // The sums.
@@ -29,7 +28,7 @@ pub(crate) const TURN: usize = 512;
 pub(crate) const LEAST_INTERLEAVED: usize = 2048;
 
 // The hash after turns of 32 blocks more, of which there is one at least.
-pub(crate) fn with_turns<E: Encoding>(sum: u128, powers: &Powers, blocks: &[u8]) -> u128
+pub(crate) fn with_turns<E: Encoding, V: Width>(sum: u128, powers: &Powers, blocks: &[u8]) -> u128
     requires whole { length blocks.now % 512 ≡ 0 }
     requires some { 512 ≤ length blocks.now }
     ensures { (key : ℕ) → ArePowers key powers.now
@@ -40,7 +39,7 @@ pub(crate) fn with_turns<E: Encoding>(sum: u128, powers: &Powers, blocks: &[u8])
     sums[0] = sum ^ sums[0];
     for turn in 1..blocks.len() / TURN {
         let at = TURN * turn;
-        add_turn::<E>(&mut sums, &multiples, &blocks[at..at + TURN]);
+        add_turn::<E, V>(&mut sums, &multiples, &blocks[at..at + TURN]);
     }
     hash_of_sums(&sums, powers)
 }
@@ -70,14 +69,14 @@ fn read_blocks<E: Encoding>(blocks: &[u8]) -> [u128; SUMS]
 }
 
 // Multiplies each sum by the scalar, and adds to it the next block.
-fn add_turn<E: Encoding>(sums: &mut [u128; SUMS], multiples: &Multiples, blocks: &[u8])
+fn add_turn<E: Encoding, V: Width>(sums: &mut [u128; SUMS], multiples: &Multiples, blocks: &[u8])
     requires { length blocks.now ≡ 512 }
     ensures { sums.new ≡ zip2 (add_multiple ghash_product (scalar_of multiples.now)) (map E.element (first_blocks 32 blocks.now)) sums.old }
 {
     let mut next = read_blocks::<E>(blocks);
     numbers_are_values(&next);
     numbers_are_values(sums);
-    add_in_lanes::<u64x2, u128>(&mut next, sums, multiples);
+    add_in_lanes::<V, u128>(&mut next, sums, multiples);
     numbers_are_values(&next);
     *sums = next;
 }

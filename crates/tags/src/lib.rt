@@ -16,8 +16,8 @@ mod reversal;
 mod universal;
 
 pub use crate::compare::tags_are_equal;
-pub use crate::continued::{gcm_ghash_final, hash_from};
+pub use crate::continued::{gcm_ghash_final, hash_from, hash_from_in_vectors};
 pub use crate::encoding::{Encoding, HighestFirst, LowestFirst};
-pub use crate::gcm::{gcm_ghash, gcm_siv_polyval};
+pub use crate::gcm::{gcm_ghash, gcm_ghash_in_vectors, gcm_siv_polyval};
 pub use crate::laws::{few_keys_collide, hashes_go_on, parts_are_encoded, products_are_reversed};
 pub use crate::universal::{Ghash, KeyedHash, Polyval, UniversalHash};

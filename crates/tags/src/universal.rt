@@ -6,7 +6,9 @@ ghost use Rattle.tags.specs.Blocks.{blocks_of, zero_padded};
 use crate::absorber::Absorber;
 use crate::compare::tags_are_equal;
 use crate::encoding::{Encoding, HighestFirst, LowestFirst};
+use ghash_slices::Width;
 use std::marker::PhantomData;
+use std::simd::prelude::*;
 
 /// A universal hash of the message so far, under a key: it takes its message in pieces, and what it holds is its key and its message.
 pub trait UniversalHash: Sized {
@@ -46,31 +48,33 @@ pub trait UniversalHash: Sized {
     }
 }
 
-/// A universal hash of blocks that are written as `E` says: `Ghash` or `Polyval`.
+/// A universal hash of blocks that are written as `E` says, `Ghash` or `Polyval`, computed in vectors `V`.
 #[derive(Drop)]
-pub struct KeyedHash<E> {
+pub struct KeyedHash<E, V = u64x2> {
     absorber: Absorber,
     encoding: PhantomData<E>,
+    vectors: PhantomData<V>,
 }
 
-impl<E: Encoding> UniversalHash for KeyedHash<E> {
+impl<E: Encoding, V: Width> UniversalHash for KeyedHash<E, V> {
     ghost holds = { λ s key m. HoldsKeyed E.element E.multiplier s key m };
 
     ghost hash = { E.hash };
 
-    fn new(key: &[u8; 16]) -> KeyedHash<E> {
+    fn new(key: &[u8; 16]) -> KeyedHash<E, V> {
         KeyedHash {
             absorber: Absorber::new(E::multiplier_of(*key)),
             encoding: PhantomData,
+            vectors: PhantomData,
         }
     }
 
     fn update(&mut self, bytes: &[u8]) {
-        self.absorber.update::<E>(bytes);
+        self.absorber.update::<E, V>(bytes);
     }
 
     fn update_padded(&mut self, bytes: &[u8]) {
-        self.absorber.update::<E>(bytes);
+        self.absorber.update::<E, V>(bytes);
         self.absorber.pad::<E>();
     }
 
@@ -94,13 +98,17 @@ pub type Ghash = KeyedHash<HighestFirst>;
 pub type Polyval = KeyedHash<LowestFirst>;
 
 // The hash of two parts of a message, each filled up with zeros to whole blocks, and of a block of both lengths in bits.
-pub(crate) fn hash_of_parts<E: Encoding>(key: &[u8; 16], associated: &[u8], text: &[u8]) -> [u8; 16]
+pub(crate) fn hash_of_parts<E: Encoding, V: Width>(
+    key: &[u8; 16],
+    associated: &[u8],
+    text: &[u8],
+) -> [u8; 16]
     requires associated_fits { length associated.now < 2 ^ 61 }
     requires text_fits { length text.now < 2 ^ 61 }
     ensures { result ≡ E.hash key.now (blocks_of associated.now ++ blocks_of text.now
         ++ (E.bytes (length associated.now * 8) ++ E.bytes (length text.now * 8)) ∷ []) }
 {
-    let mut hash = KeyedHash::<E>::new(key);
+    let mut hash = KeyedHash::<E, V>::new(key);
     hash.update_padded(associated);
     hash.update_padded(text);
     hash.update(&E::bytes_of(associated.len() as u64 * 8));

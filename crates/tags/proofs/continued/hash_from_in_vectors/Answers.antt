@@ -5,7 +5,7 @@ use Rattle.tags.specs.Hash.{polynomial_hash_from}
 use Rattle.tags.specs.Powers.{ArePowers}
 use Rattle.tags.specs.Reversed.{ghash_times}
 use Rattle.tags.proofs.Pieces.{are_bytes}
-use Rattle.tags.proofs.continued.hash_from.Goals as goal
+use Rattle.tags.proofs.continued.hash_from_in_vectors.Goals as goal
 
 pub returns : goal.returns
 returns g c =
