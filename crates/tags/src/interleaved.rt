@@ -25,7 +25,7 @@ const SUMS: usize = 32;
 pub(crate) const TURN: usize = 512;
 
 /// The least number of bytes that pay for the multiples of the key's power, and for Horner's rule over the sums.
-pub(crate) const LEAST_INTERLEAVED: usize = 2048;
+pub(crate) const LEAST_INTERLEAVED: usize = 1024;
 
 // The hash after turns of 32 blocks more, of which there is one at least.
 pub(crate) fn with_turns<E: Encoding, V: Width>(sum: u128, powers: &Powers, blocks: &[u8]) -> u128
