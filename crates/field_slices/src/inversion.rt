@@ -1,5 +1,5 @@
-// Inverses of many elements by one inverse and three products an element (P. L. Montgomery, Speeding the Pollard and elliptic curve
-// methods of factorization, 1987, section 10.3.1).
+// Inverses of many elements: by one inverse and three products an element (P. L. Montgomery, Speeding the Pollard and elliptic curve
+// methods of factorization, 1987, section 10.3.1), and where a field has a better way for so many, by that.
 ghost use Rattle.std.specs.Prelude.{◌≡◌, ◌≢◌, ◌<◌, ℕ, length, map, slice_index, IfOk};
 ghost use Rattle.field_base.specs.Field.{AreInverses};
 ghost use Rattle.field_slices.specs.Inverses.{nonzero_product};
@@ -7,8 +7,8 @@ ghost use Rattle.field_slices.specs.Inverses.{nonzero_product};
 use field_base::traits::{Field, PrimeCharacteristicRing};
 use std::alloc::{AllocError, Allocator};
 
-/// The inverses of the elements, place by place, with 0 for 0. It takes one inverse, and three products for each element that is not
-/// 0. It fails only where the allocator refuses.
+/// The inverses of the elements, place by place, with 0 for 0. Fewer than `F::LEAST_INVERTED` take one inverse, and three products for
+/// each element that is not 0, and more go by `F::invert_each`. It fails only where the allocator refuses.
 pub fn batch_multiplicative_inverse<F: Field, A: Allocator>(
     alloc: A,
     values: &[F],
