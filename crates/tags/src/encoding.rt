@@ -72,7 +72,7 @@ impl Encoding for HighestFirst {
     }
 
     fn write(sum: u128) -> [u8; 16] {
-        sum.reverse_bits().to_be_bytes()
+        reversed_bits(sum).to_be_bytes()
     }
 
     fn bytes_of(number: u64) -> [u8; 8] {
@@ -105,7 +105,7 @@ impl Encoding for LowestFirst {
     }
 
     fn write(sum: u128) -> [u8; 16] {
-        sum.reverse_bits().to_le_bytes()
+        reversed_bits(sum).to_le_bytes()
     }
 
     fn bytes_of(number: u64) -> [u8; 8] {
