@@ -628,7 +628,9 @@ uint32_t bf_t128_inverse_transform(
  * the last one, of any length: behind each call hash is what bf_tag_ghash gives of all bytes so far. For GCM the associated
  * data come first and then the ciphertext, the last piece of each padded, and bf_tag_gcm_ghash_final makes of that what
  * bf_tag_gcm_ghash gives. GCM-SIV goes so by POLYVAL, over the plain text, and ends with bf_tag_polyval_update of 16 bytes:
- * both lengths in bits, 8 bytes each, the lowest first. */
+ * both lengths in bits, 8 bytes each, the lowest first. A key of many calls is prepared once: bf_tag_ghash_update_prepared
+ * takes what bf_tag_ghash_prepare made of it in place of the key, and pieces as bf_tag_ghash_update_padded does, and
+ * bf_tag_polyval_update_prepared so of POLYVAL. What was made of a key tells the key. */
 
 /* hash: GHASH of the message (NIST SP 800-38D), zeros added to whole blocks; key and hash have 16 bytes. BF_LENGTH unless
  * key and hash have 16 bytes. */
@@ -660,6 +662,18 @@ uint32_t bf_tag_ghash_update_padded(
     const uint8_t *key, size_t key_length, const uint8_t *message, size_t message_length, uint8_t *hash,
     size_t hash_length) BF_CHECKED;
 
+/* prepared: what hashes under the key go by, for tag_ghash_update_prepared: the element by which the field multiplies for
+ * it, and its powers up to the fourth; key has 16 bytes, and prepared 64. BF_LENGTH unless key has 16 bytes, and prepared
+ * 64. */
+uint32_t bf_tag_ghash_prepare(
+    const uint8_t *key, size_t key_length, uint8_t *prepared, size_t prepared_length) BF_CHECKED;
+
+/* The same as tag_ghash_update_padded, by what tag_ghash_prepare wrote for the key; by other bytes it writes 16 bytes of
+ * which nothing is said; prepared has 64 bytes, and hash 16. BF_LENGTH unless prepared has 64 bytes, and hash 16. */
+uint32_t bf_tag_ghash_update_prepared(
+    const uint8_t *prepared, size_t prepared_length, const uint8_t *message, size_t message_length,
+    uint8_t *hash, size_t hash_length) BF_CHECKED;
+
 /* POLYVAL of more whole blocks: hash is that of the blocks before, and then that of these too; key and hash have 16 bytes.
  * BF_LENGTH unless key and hash have 16 bytes, and blocks a multiple of 16. */
 uint32_t bf_tag_polyval_update(
@@ -671,6 +685,18 @@ uint32_t bf_tag_polyval_update(
 uint32_t bf_tag_polyval_update_padded(
     const uint8_t *key, size_t key_length, const uint8_t *message, size_t message_length, uint8_t *hash,
     size_t hash_length) BF_CHECKED;
+
+/* prepared: what hashes under the key go by, for tag_polyval_update_prepared: the element by which the field multiplies for
+ * it, and its powers up to the fourth; key has 16 bytes, and prepared 64. BF_LENGTH unless key has 16 bytes, and prepared
+ * 64. */
+uint32_t bf_tag_polyval_prepare(
+    const uint8_t *key, size_t key_length, uint8_t *prepared, size_t prepared_length) BF_CHECKED;
+
+/* The same as tag_polyval_update_padded, by what tag_polyval_prepare wrote for the key; by other bytes it writes 16 bytes of
+ * which nothing is said; prepared has 64 bytes, and hash 16. BF_LENGTH unless prepared has 64 bytes, and hash 16. */
+uint32_t bf_tag_polyval_update_prepared(
+    const uint8_t *prepared, size_t prepared_length, const uint8_t *message, size_t message_length,
+    uint8_t *hash, size_t hash_length) BF_CHECKED;
 
 /* GHASH of the block of two lengths in bytes, each below 2^61, as GCM has them: hash is that of the blocks before, and then
  * that of this one too; key and hash have 16 bytes. BF_LENGTH unless key and hash have 16 bytes, and both lengths are below
@@ -840,8 +866,10 @@ uint32_t bf_tag_polyval_wide(const uint8_t *key, size_t key_length, const uint8_
 uint32_t bf_tag_gcm_ghash_wide(const uint8_t *key, size_t key_length, const uint8_t *associated, size_t associated_length, const uint8_t *ciphertext, size_t ciphertext_length, uint8_t *hash, size_t hash_length) BF_CHECKED;
 uint32_t bf_tag_ghash_update_wide(const uint8_t *key, size_t key_length, const uint8_t *blocks, size_t blocks_length, uint8_t *hash, size_t hash_length) BF_CHECKED;
 uint32_t bf_tag_ghash_update_padded_wide(const uint8_t *key, size_t key_length, const uint8_t *message, size_t message_length, uint8_t *hash, size_t hash_length) BF_CHECKED;
+uint32_t bf_tag_ghash_update_prepared_wide(const uint8_t *prepared, size_t prepared_length, const uint8_t *message, size_t message_length, uint8_t *hash, size_t hash_length) BF_CHECKED;
 uint32_t bf_tag_polyval_update_wide(const uint8_t *key, size_t key_length, const uint8_t *blocks, size_t blocks_length, uint8_t *hash, size_t hash_length) BF_CHECKED;
 uint32_t bf_tag_polyval_update_padded_wide(const uint8_t *key, size_t key_length, const uint8_t *message, size_t message_length, uint8_t *hash, size_t hash_length) BF_CHECKED;
+uint32_t bf_tag_polyval_update_prepared_wide(const uint8_t *prepared, size_t prepared_length, const uint8_t *message, size_t message_length, uint8_t *hash, size_t hash_length) BF_CHECKED;
 
 /* Writes the shards of parity of shards that stand apart, each of size bytes: the pointers are those of the shards of data and of parity, of
  * which none of parity overlaps another shard. tables is what bf_rs_prepare wrote for this code. It is bf_rs_add_shard for each pair of shards,

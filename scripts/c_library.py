@@ -111,6 +111,12 @@ OTHER_FUNCTIONS = [
         (f"tag_{name}_update_padded", [("in", "key", "u8"), ("in", "message", "u8"), ("inout", "hash", "u8")],
          f"{standard} of more bytes, zeros added to whole blocks: hash is that of the blocks before, and then that of these too; key and "
          "hash have 16 bytes"),
+        (f"tag_{name}_prepare", [("in", "key", "u8"), ("out", "prepared", "u8")],
+         f"what hashes under the key go by, for tag_{name}_update_prepared: the element by which the field multiplies for it, and its powers up to the "
+         "fourth; key has 16 bytes, and prepared 64"),
+        (f"tag_{name}_update_prepared", [("in", "prepared", "u8"), ("in", "message", "u8"), ("inout", "hash", "u8")],
+         f"the same as tag_{name}_update_padded, by what tag_{name}_prepare wrote for the key; by other bytes it writes 16 bytes of which "
+         "nothing is said; prepared has 64 bytes, and hash 16"),
     ]],
     ("tag_gcm_ghash_final", [("in", "key", "u8"), ("count", "associated_length"), ("count", "ciphertext_length"), ("inout", "hash", "u8")],
      "GHASH of the block of two lengths in bytes, each below 2^61, as GCM has them: hash is that of the blocks before, and then that of this "
@@ -162,7 +168,7 @@ WIDE = [
     *[f"g128_{name}" for name in ("inverse", "inverse_in_place", "batch_inverse")],
     *[f"g128_{name}" for name, _, _ in MATRIX_FUNCTIONS],
     "tag_ghash", "tag_polyval", "tag_gcm_ghash",
-    *[f"tag_{name}_{how}" for name in ("ghash", "polyval") for how in ("update", "update_padded")],
+    *[f"tag_{name}_{how}" for name in ("ghash", "polyval") for how in ("update", "update_padded", "update_prepared")],
 ]
 
 # These return no status.

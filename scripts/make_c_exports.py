@@ -49,7 +49,8 @@ OPERATIONS = {row[0]: row[3] for row in CALL_ROWS if len(row) > 3}
 # The vectors that the calls work in, and the functions of c_arithmetic of no field over a type of vectors.
 NARROW, WIDE = "u64x2", "u64x4"
 WITH_WIDTH = {
-    "butterfly_forward", "butterfly_inverse", "low_stages", "transform", "inverse_transform", "hash", "hash_update", "hash_update_padded", "gcm_ghash",
+    "butterfly_forward", "butterfly_inverse", "low_stages", "transform", "inverse_transform", "hash", "hash_update", "hash_update_padded",
+    "hash_update_prepared", "gcm_ghash",
 }
 
 # Calls whose loops may take two elements in a turn.
@@ -77,6 +78,12 @@ tag_polyval_update         messages  hash_update::<tags::LowestFirst>          H
 (polyval_from key.now hash.old (blocks_of blocks.now)) hash.old hash.new result
 tag_polyval_update_padded  messages  hash_update_padded::<tags::LowestFirst>   Hashes (Unit {0}) key.now \
 (polyval_from key.now hash.old (blocks_of message.now)) hash.old hash.new result
+tag_ghash_prepare    messages  hash_prepare::<tags::HighestFirst>  PreparesKey key.now (ghash_prepared key.now) prepared.old prepared.new result
+tag_polyval_prepare  messages  hash_prepare::<tags::LowestFirst>   PreparesKey key.now (polyval_prepared key.now) prepared.old prepared.new result
+tag_ghash_update_prepared    messages  hash_update_prepared::<tags::HighestFirst>  HashesPrepared ghash_prepared prepared.now \
+(λ key. ghash_from key hash.old (blocks_of message.now)) hash.old hash.new result
+tag_polyval_update_prepared  messages  hash_update_prepared::<tags::LowestFirst>   HashesPrepared polyval_prepared prepared.now \
+(λ key. polyval_from key hash.old (blocks_of message.now)) hash.old hash.new result
 tag_gcm_ghash_final     messages    gcm_ghash_final    Hashes ((associated_length < 2 ^ 61) × (ciphertext_length < 2 ^ 61)) key.now \
 (ghash_from key.now hash.old (block_of_lengths associated_length ciphertext_length ∷ [])) hash.old hash.new result
 tag_gcm_ghash           messages    gcm_ghash          Hashes ((length associated.now < 2 ^ 61) × (length ciphertext.now < 2 ^ 61)) key.now \
@@ -143,7 +150,8 @@ HOMES = {
     "tags.specs.Gcm": ["ghash"],
     "tags.specs.Pieces": ["ghash_from", "polyval_from"],
     "tags.specs.Polyval": ["polyval"],
-    "c_arithmetic.specs.Bytes": ["AddsOneShard", "Compares", "Encodes", "EncodesPrepared", "Hashes", "Prepares", "Reconstructs", "TellsTablesLength", "Verifies", "VerifiesPrepared"],
+    "tags.specs.Prepared": ["ghash_prepared", "polyval_prepared"],
+    "c_arithmetic.specs.Bytes": ["AddsOneShard", "Compares", "Encodes", "EncodesPrepared", "Hashes", "HashesPrepared", "Prepares", "PreparesKey", "Reconstructs", "TellsTablesLength", "Verifies", "VerifiesPrepared"],
     "c_arithmetic.specs.Erasure": ["EncodesErasure", "ReconstructsErasure", "TellsSpace", "VerifiesErasure"],
     "c_arithmetic.specs.Linear": ["MapsLinearly"],
     "c_arithmetic.specs.Transforms": [

@@ -29,6 +29,9 @@ LENGTHS = {
     "tag_gcm_ghash": "key and hash have 16 bytes, and associated and ciphertext below 2^61 each",
     "_update": "key and hash have 16 bytes, and blocks a multiple of 16",
     "_update_padded": "key and hash have 16 bytes",
+    "tag_ghash_prepare": "key has 16 bytes, and prepared 64",
+    "tag_polyval_prepare": "key has 16 bytes, and prepared 64",
+    "_update_prepared": "prepared has 64 bytes, and hash 16",
     "tag_gcm_ghash_final": "key and hash have 16 bytes, and both lengths are below 2^61",
     "tags_are_equal": "",
     "rs_encode": "shards has a multiple, but not 0, of data + parity bytes",
@@ -187,7 +190,9 @@ def sections():
         "the caller makes 16 zeros at first. bf_tag_ghash_update takes pieces of whole blocks, and bf_tag_ghash_update_padded the last one, of any "
         "length: behind each call hash is what bf_tag_ghash gives of all bytes so far. For GCM the associated data come first and then the "
         "ciphertext, the last piece of each padded, and bf_tag_gcm_ghash_final makes of that what bf_tag_gcm_ghash gives. GCM-SIV goes so by "
-        "POLYVAL, over the plain text, and ends with bf_tag_polyval_update of 16 bytes: both lengths in bits, 8 bytes each, the lowest first.",
+        "POLYVAL, over the plain text, and ends with bf_tag_polyval_update of 16 bytes: both lengths in bits, 8 bytes each, the lowest first. A key "
+        "of many calls is prepared once: bf_tag_ghash_update_prepared takes what bf_tag_ghash_prepare made of it in place of the key, and pieces "
+        "as bf_tag_ghash_update_padded does, and bf_tag_polyval_update_prepared so of POLYVAL. What was made of a key tells the key.",
         "rs_": "Reed-Solomon codes over bytes modulo x^8 + x^4 + x^3 + x^2 + 1: shard i has the values at the byte i of the polynomials "
         "that the data determine.",
         "erasure_": "Reed-Solomon codes over t16 by additive transforms, of thousands of shards: column i of the shards, their word i, has the "

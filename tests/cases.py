@@ -251,13 +251,18 @@ def tag_cases(draw):
     key, message = bytes.fromhex("25629347589242761d31f826ba4b757b"), "4f4f95668c83dfb6401762bb2d01a262d1a24ddd2721d006bbe45f20d3c9f362"
     assert definitions.polyval(key, bytes.fromhex(message)).hex() == "f7a3b47b846119fae5b7866cf5e5b77e"
     # The last ones go by interleaved sums: one turn has 512 bytes.
-    for length in (*range(LONGEST + 1), 1023, 1024, 1616, 2117):
+    for length in (*range(LONGEST + 1), 1023, 1024, 1025, 1616, 2117):
         key, message = draw.randbytes(16), draw.randbytes(length)
         yield case("tag_ghash", key, message, list(definitions.ghash(key, message)))
         yield case("tag_polyval", key, message, list(definitions.polyval(key, message)))
         start = draw.randbytes(16)
-        for name, defined in (("ghash", definitions.ghash), ("polyval", definitions.polyval)):
+        for name, defined, prepared_of in (
+            ("ghash", definitions.ghash, definitions.ghash_prepared), ("polyval", definitions.polyval, definitions.polyval_prepared),
+        ):
             after = list(defined(key, message, start))
+            prepared = prepared_of(key)
+            yield case(f"tag_{name}_prepare", key, list(prepared))
+            yield case(f"tag_{name}_update_prepared", prepared, message, (list(start), after))
             yield case(f"tag_{name}_update_padded", key, message, (list(start), after))
             whole = case(f"tag_{name}_update", key, message, (list(start), after))
             yield refused(whole, "BF_LENGTH") if length % 16 else whole

@@ -421,6 +421,10 @@ class Bytes(unittest.TestCase):
             self.assertEqual(bf.gcm_ghash(key, message, np.frombuffer(key, np.uint8)), definitions.gcm_ghash(key, message, key))
             self.assertEqual(self.in_pieces(bf.ghash_update, bf.ghash_update_padded, key, message), bf.ghash(key, message))
             self.assertEqual(self.in_pieces(bf.polyval_update, bf.polyval_update_padded, key, message), bf.polyval(key, message))
+            for hashed, prepare, update in (
+                (bf.ghash, bf.ghash_prepare, bf.ghash_update_prepared), (bf.polyval, bf.polyval_prepare, bf.polyval_update_prepared),
+            ):
+                self.assertEqual(self.in_pieces(update, update, prepare(key), message), hashed(key, message))
             both = self.in_pieces(bf.ghash_update, bf.ghash_update_padded, key, message, bf.ghash_update_padded(key, bytes(16), key[:3]))
             self.assertEqual(bf.gcm_ghash_final(key, both, 3, length), bf.gcm_ghash(key, key[:3], message))
         for wrong in (-1, 1 << 61, 1 << 70):
@@ -428,6 +432,9 @@ class Bytes(unittest.TestCase):
             self.assertRaises(ValueError, bf.gcm_ghash_final, key, bytes(16), 0, wrong)
         self.assertRaises(ValueError, bf.ghash_update, key, bytes(16), bytes(17))
         self.assertRaises(ValueError, bf.polyval_update, key, bytes(15), bytes(16))
+        self.assertRaises(ValueError, bf.ghash_prepare, bytes(17))
+        self.assertRaises(ValueError, bf.ghash_update_prepared, bytes(63), bytes(16), b"")
+        self.assertRaises(ValueError, bf.polyval_update_prepared, bytes(64), bytes(17), b"")
         self.assertTrue(bf.tags_are_equal(b"tag", b"tag"))
         self.assertFalse(bf.tags_are_equal(b"tag", b"tags"))
         self.assertRaises(ValueError, bf.ghash, b"short", b"")

@@ -277,6 +277,29 @@ def polyval(key, message, start=bytes(16)):
     return s.to_bytes(16, "little")
 
 
+def ghash_field_product(a, b):
+    """In the field of GHASH as the library has it, where bit i is the coefficient of x^i."""
+    return polynomials.multiply(fields.field_named("g128").modulus, a, b)
+
+
+def powers_as_bytes(element):
+    """An element of that field and its powers up to the fourth, 16 bytes each, the lowest first."""
+    powers = [element]
+    while len(powers) < 4:
+        powers.append(ghash_field_product(powers[-1], element))
+    return b"".join(it.to_bytes(16, "little") for it in powers)
+
+
+def ghash_prepared(key):
+    """Of a key of GHASH, the bits of whose block are the coefficients, that of x^0 first."""
+    return powers_as_bytes(int(f"{int.from_bytes(key, 'big'):0128b}"[::-1], 2))
+
+
+def polyval_prepared(key):
+    """Of a key of POLYVAL, which is read the other way round and multiplied by x."""
+    return powers_as_bytes(ghash_field_product(2, int(f"{int.from_bytes(key, 'little'):0128b}"[::-1], 2)))
+
+
 # ---- Reed-Solomon codes
 
 

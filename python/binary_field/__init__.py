@@ -20,11 +20,15 @@ from ._bytes import (
     gcm_ghash,
     gcm_ghash_final,
     ghash,
+    ghash_prepare,
     ghash_update,
     ghash_update_padded,
+    ghash_update_prepared,
     polyval,
+    polyval_prepare,
     polyval_update,
     polyval_update_padded,
+    polyval_update_prepared,
     tags_are_equal,
 )
 from ._fields import (
@@ -59,7 +63,8 @@ from ._workers import get_workers, set_workers
 __all__ = [
     "BinaryField128", "BinaryField16", "BinaryField2", "BinaryField32", "BinaryField4", "BinaryField64", "BinaryField8", "FieldArray",
     "Gf2", "Ghash128", "Poly", "Poly192", "Poly64", "ReedSolomon", "Rijndael8b", "TransformCode", "butterfly_forward", "butterfly_inverse",
-    "egcd", "from_powers", "gcd", "gcm_ghash", "gcm_ghash_final", "get_workers", "ghash", "ghash_update", "ghash_update_padded",
-    "inverse_transform", "irreducible_poly", "lagrange_poly", "linear_map", "low_stages", "polyval", "polyval_update", "polyval_update_padded",
-    "set_workers", "tags_are_equal", "to_powers", "transform", "transform_points",
+    "egcd", "from_powers", "gcd", "gcm_ghash", "gcm_ghash_final", "get_workers", "ghash", "ghash_prepare", "ghash_update", "ghash_update_padded",
+    "ghash_update_prepared", "inverse_transform", "irreducible_poly", "lagrange_poly", "linear_map", "low_stages", "polyval", "polyval_prepare",
+    "polyval_update", "polyval_update_padded", "polyval_update_prepared", "set_workers", "tags_are_equal", "to_powers", "transform",
+    "transform_points",
 ]

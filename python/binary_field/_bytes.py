@@ -19,8 +19,9 @@ def _bytes(value: Any) -> Words:
     return np.ascontiguousarray(np.frombuffer(view.cast("B") if view.nbytes and view.contiguous else view.tobytes(), np.uint8))
 
 
-def _hash(name: str, *given: Any) -> bytes:
-    result = np.zeros(16, np.uint8)
+def _hash(name: str, *given: Any, size: int = 16) -> bytes:
+    """What a function writes, of so many bytes."""
+    result = np.zeros(size, np.uint8)
     call(name, *map(_bytes, given), result)
     return result.tobytes()
 
@@ -97,6 +98,45 @@ def polyval_update_padded(key: Any, hash_so_far: Any, message: Any) -> bytes:
     'e20c8edbbf9f56216764e11642057883'
     """
     return _goes_on("tag_polyval_update_padded", hash_so_far, key, _bytes(message))
+
+
+def ghash_prepare(key: Any) -> bytes:
+    """What hashes under the key go by, 64 bytes, for many calls of `ghash_update_prepared`. They tell the key.
+
+    >>> prepared = bf.ghash_prepare(b"sixteen byte key")
+    >>> bf.ghash_update_prepared(prepared, bytes(16), b"a message") == bf.ghash(b"sixteen byte key", b"a message")
+    True
+    """
+    return _hash("tag_ghash_prepare", key, size=64)
+
+
+def ghash_update_prepared(prepared: Any, hash_so_far: Any, message: Any) -> bytes:
+    """What `ghash_update_padded` gives, by what `ghash_prepare` made of the key. By other bytes it is any hash.
+
+    >>> prepared = bf.ghash_prepare(b"sixteen byte key")
+    >>> bf.ghash_update_prepared(prepared, bytes(16), b"a message").hex()
+    '66c5daff8936bb1e9c4c9904324d3958'
+    """
+    return _goes_on("tag_ghash_update_prepared", hash_so_far, prepared, _bytes(message))
+
+
+def polyval_prepare(key: Any) -> bytes:
+    """What hashes of POLYVAL under the key go by, as `ghash_prepare` has it of GHASH.
+
+    >>> len(bf.polyval_prepare(b"sixteen byte key"))
+    64
+    """
+    return _hash("tag_polyval_prepare", key, size=64)
+
+
+def polyval_update_prepared(prepared: Any, hash_so_far: Any, message: Any) -> bytes:
+    """What `polyval_update_padded` gives, by what `polyval_prepare` made of the key. By other bytes it is any hash.
+
+    >>> prepared = bf.polyval_prepare(b"sixteen byte key")
+    >>> bf.polyval_update_prepared(prepared, bytes(16), b"a message").hex()
+    'e20c8edbbf9f56216764e11642057883'
+    """
+    return _goes_on("tag_polyval_update_prepared", hash_so_far, prepared, _bytes(message))
 
 
 def gcm_ghash_final(key: Any, hash_so_far: Any, associated_length: int, ciphertext_length: int) -> bytes:

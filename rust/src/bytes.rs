@@ -18,15 +18,10 @@ pub trait RawDataSerializable: Field {
     }
 }
 
-// A hash of a message under a key, whole or from the hash of the blocks before.
+// A hash of a message under a key, or by what was made of it, whole or from the hash of the blocks before.
 type Hash = unsafe extern "C" fn(*const u8, usize, *const u8, usize, *mut u8, usize) -> u32;
 
-fn hash_into(
-    function: Hash,
-    key: &[u8; 16],
-    message: &[u8],
-    hash: &mut [u8; 16],
-) -> Result<(), Error> {
+fn hash_into(function: Hash, key: &[u8], message: &[u8], hash: &mut [u8; 16]) -> Result<(), Error> {
     Error::of(call!(function: [key], [message], [mut hash]))
 }
 
@@ -73,6 +68,38 @@ pub fn polyval_update(key: &[u8; 16], hash: &mut [u8; 16], blocks: &[u8]) -> Res
 /// The same with the last bytes of a message, of any number, to which zeros are added to whole blocks.
 pub fn polyval_update_padded(key: &[u8; 16], hash: &mut [u8; 16], message: &[u8]) {
     hash_into(bf_tag_polyval_update_padded, key, message, hash).expect("a hash of any message");
+}
+
+// What a function makes of a key.
+fn prepared(
+    function: unsafe extern "C" fn(*const u8, usize, *mut u8, usize) -> u32,
+    key: &[u8; 16],
+) -> [u8; 64] {
+    let mut prepared = [0; 64];
+    succeed(call!(function: [key], [mut prepared]));
+    prepared
+}
+
+/// What hashes under the key go by, for many calls of [`ghash_update_prepared`]. It tells the key.
+pub fn ghash_prepare(key: &[u8; 16]) -> [u8; 64] {
+    prepared(bf_tag_ghash_prepare, key)
+}
+
+/// The same as [`ghash_update_padded`], by what [`ghash_prepare`] made of the key. By other bytes it writes any hash.
+pub fn ghash_update_prepared(prepared: &[u8; 64], hash: &mut [u8; 16], message: &[u8]) {
+    hash_into(bf_tag_ghash_update_prepared, prepared, message, hash)
+        .expect("a hash of any message");
+}
+
+/// What hashes under the key go by, for many calls of [`polyval_update_prepared`]. It tells the key.
+pub fn polyval_prepare(key: &[u8; 16]) -> [u8; 64] {
+    prepared(bf_tag_polyval_prepare, key)
+}
+
+/// The same as [`polyval_update_padded`], by what [`polyval_prepare`] made of the key. By other bytes it writes any hash.
+pub fn polyval_update_prepared(prepared: &[u8; 64], hash: &mut [u8; 16], message: &[u8]) {
+    hash_into(bf_tag_polyval_update_prepared, prepared, message, hash)
+        .expect("a hash of any message");
 }
 
 /// Makes what [`gcm_ghash`] gives of GHASH of the associated data and then of the ciphertext, the last bytes of each by

@@ -2970,6 +2970,27 @@ unsafe extern "C" {
         hash: *mut u8,
         hash_length: usize,
     ) -> u32;
+    /// prepared: what hashes under the key go by, for tag_ghash_update_prepared: the element by which the field
+    /// multiplies for it, and its powers up to the fourth; key has 16 bytes, and prepared 64. BF_LENGTH unless key
+    /// has 16 bytes, and prepared 64.
+    pub fn bf_tag_ghash_prepare(
+        key: *const u8,
+        key_length: usize,
+        prepared: *mut u8,
+        prepared_length: usize,
+    ) -> u32;
+    /// The same as tag_ghash_update_padded, by what tag_ghash_prepare wrote for the key; by other bytes it writes 16
+    /// bytes of which nothing is said; prepared has 64 bytes, and hash 16. BF_LENGTH unless prepared has 64 bytes,
+    /// and hash 16.
+    #[cfg_attr(binary_field_wide, link_name = "bf_tag_ghash_update_prepared_wide")]
+    pub fn bf_tag_ghash_update_prepared(
+        prepared: *const u8,
+        prepared_length: usize,
+        message: *const u8,
+        message_length: usize,
+        hash: *mut u8,
+        hash_length: usize,
+    ) -> u32;
     /// POLYVAL of more whole blocks: hash is that of the blocks before, and then that of these too; key and hash have
     /// 16 bytes. BF_LENGTH unless key and hash have 16 bytes, and blocks a multiple of 16.
     #[cfg_attr(binary_field_wide, link_name = "bf_tag_polyval_update_wide")]
@@ -2987,6 +3008,27 @@ unsafe extern "C" {
     pub fn bf_tag_polyval_update_padded(
         key: *const u8,
         key_length: usize,
+        message: *const u8,
+        message_length: usize,
+        hash: *mut u8,
+        hash_length: usize,
+    ) -> u32;
+    /// prepared: what hashes under the key go by, for tag_polyval_update_prepared: the element by which the field
+    /// multiplies for it, and its powers up to the fourth; key has 16 bytes, and prepared 64. BF_LENGTH unless key
+    /// has 16 bytes, and prepared 64.
+    pub fn bf_tag_polyval_prepare(
+        key: *const u8,
+        key_length: usize,
+        prepared: *mut u8,
+        prepared_length: usize,
+    ) -> u32;
+    /// The same as tag_polyval_update_padded, by what tag_polyval_prepare wrote for the key; by other bytes it writes
+    /// 16 bytes of which nothing is said; prepared has 64 bytes, and hash 16. BF_LENGTH unless prepared has 64 bytes,
+    /// and hash 16.
+    #[cfg_attr(binary_field_wide, link_name = "bf_tag_polyval_update_prepared_wide")]
+    pub fn bf_tag_polyval_update_prepared(
+        prepared: *const u8,
+        prepared_length: usize,
         message: *const u8,
         message_length: usize,
         hash: *mut u8,

@@ -404,6 +404,20 @@ fn tags_in_pieces(key: &[u8; 16], text: &[u8; 16]) {
     polyval_update_padded(key, &mut hash, &message[32..]);
     assert_eq!(hash, polyval(key, &message));
     assert_eq!(polyval_update(key, &mut hash, &[0; 17]), Err(Error::Length));
+    tags_by_prepared_keys(key, &message);
+}
+
+// The hashes by what is made of the key.
+fn tags_by_prepared_keys(key: &[u8; 16], message: &[u8]) {
+    let (of_ghash, of_polyval) = (ghash_prepare(key), polyval_prepare(key));
+    assert_ne!(of_ghash, of_polyval);
+    let mut hash = [0; 16];
+    ghash_update_prepared(&of_ghash, &mut hash, &message[..16]);
+    ghash_update_prepared(&of_ghash, &mut hash, &message[16..]);
+    assert_eq!(hash, ghash(key, message));
+    hash = [0; 16];
+    polyval_update_prepared(&of_polyval, &mut hash, message);
+    assert_eq!(hash, polyval(key, message));
 }
 
 #[test]

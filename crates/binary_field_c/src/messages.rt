@@ -5,7 +5,8 @@ ghost use Rattle.tags.specs.Blocks.{block_of_lengths, blocks_of, gcm_blocks};
 ghost use Rattle.tags.specs.Gcm.{ghash};
 ghost use Rattle.tags.specs.Pieces.{ghash_from, polyval_from};
 ghost use Rattle.tags.specs.Polyval.{polyval};
-ghost use Rattle.c_arithmetic.specs.Bytes.{Compares, Hashes};
+ghost use Rattle.tags.specs.Prepared.{ghash_prepared, polyval_prepared};
+ghost use Rattle.c_arithmetic.specs.Bytes.{Compares, Hashes, HashesPrepared, PreparesKey};
 
 use std::simd::prelude::*;
 
@@ -57,6 +58,28 @@ pub extern "C" fn bf_tag_ghash_update_padded(key: &[u8], message: &[u8], hash: &
     c_arithmetic::hash_update_padded::<tags::HighestFirst, u64x2>(key, message, hash)
 }
 
+/// What hashes under the key go by, for tag_ghash_update_prepared: the element by which the field multiplies for it, and its powers up to
+/// the fourth; key has 16 bytes, and prepared 64.
+#[unsafe(no_mangle)]
+pub extern "C" fn bf_tag_ghash_prepare(key: &[u8], prepared: &mut [u8]) -> u32
+    ensures { PreparesKey key.now (ghash_prepared key.now) prepared.old prepared.new result }
+{
+    c_arithmetic::hash_prepare::<tags::HighestFirst>(key, prepared)
+}
+
+/// The same as tag_ghash_update_padded, by what tag_ghash_prepare wrote for the key; by other bytes it writes 16 bytes of which nothing is
+/// said; prepared has 64 bytes, and hash 16.
+#[unsafe(no_mangle)]
+pub extern "C" fn bf_tag_ghash_update_prepared(
+    prepared: &[u8],
+    message: &[u8],
+    hash: &mut [u8],
+) -> u32
+    ensures { HashesPrepared ghash_prepared prepared.now (λ key. ghash_from key hash.old (blocks_of message.now)) hash.old hash.new result }
+{
+    c_arithmetic::hash_update_prepared::<tags::HighestFirst, u64x2>(prepared, message, hash)
+}
+
 /// POLYVAL of more whole blocks: hash is that of the blocks before, and then that of these too; key and hash have 16 bytes.
 #[unsafe(no_mangle)]
 pub extern "C" fn bf_tag_polyval_update(key: &[u8], blocks: &[u8], hash: &mut [u8]) -> u32
@@ -72,6 +95,29 @@ pub extern "C" fn bf_tag_polyval_update_padded(key: &[u8], message: &[u8], hash:
     ensures { Hashes (Unit {0}) key.now (polyval_from key.now hash.old (blocks_of message.now)) hash.old hash.new result }
 {
     c_arithmetic::hash_update_padded::<tags::LowestFirst, u64x2>(key, message, hash)
+}
+
+/// What hashes under the key go by, for tag_polyval_update_prepared: the element by which the field multiplies for it, and its powers up
+/// to the fourth; key has 16 bytes, and prepared 64.
+#[unsafe(no_mangle)]
+pub extern "C" fn bf_tag_polyval_prepare(key: &[u8], prepared: &mut [u8]) -> u32
+    ensures { PreparesKey key.now (polyval_prepared key.now) prepared.old prepared.new result }
+{
+    c_arithmetic::hash_prepare::<tags::LowestFirst>(key, prepared)
+}
+
+/// The same as tag_polyval_update_padded, by what tag_polyval_prepare wrote for the key; by other bytes it writes 16 bytes of which
+/// nothing is said; prepared has 64 bytes, and hash 16.
+#[unsafe(no_mangle)]
+pub extern "C" fn bf_tag_polyval_update_prepared(
+    prepared: &[u8],
+    message: &[u8],
+    hash: &mut [u8],
+) -> u32
+    ensures { HashesPrepared polyval_prepared prepared.now (λ key. polyval_from key hash.old
+        (blocks_of message.now)) hash.old hash.new result }
+{
+    c_arithmetic::hash_update_prepared::<tags::LowestFirst, u64x2>(prepared, message, hash)
 }
 
 /// GHASH of the block of two lengths in bytes, each below 2^61, as GCM has them: hash is that of the blocks before, and then that of this

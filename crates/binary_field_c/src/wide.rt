@@ -5,7 +5,8 @@ ghost use Rattle.tags.specs.Blocks.{blocks_of, gcm_blocks};
 ghost use Rattle.tags.specs.Gcm.{ghash};
 ghost use Rattle.tags.specs.Pieces.{ghash_from, polyval_from};
 ghost use Rattle.tags.specs.Polyval.{polyval};
-ghost use Rattle.c_arithmetic.specs.Bytes.{Hashes};
+ghost use Rattle.tags.specs.Prepared.{ghash_prepared, polyval_prepared};
+ghost use Rattle.c_arithmetic.specs.Bytes.{Hashes, HashesPrepared};
 ghost use Rattle.c_arithmetic.specs.Transforms.{ButterfliesForward, ButterfliesInverse, InvertsTransform, RunsLowStages, Transforms};
 ghost use Rattle.c_arithmetic.specs.Calls.{AddsScaled, Inverts, Multiplies, MultipliesBy, TakesDotProduct};
 ghost use Rattle.c_arithmetic.specs.Fields.{ghash_field, level_field, poly64_field, wide_level_field, wide_number};
@@ -498,6 +499,18 @@ pub extern "C" fn bf_tag_ghash_update_padded_wide(
     c_arithmetic::hash_update_padded::<tags::HighestFirst, u64x4>(key, message, hash)
 }
 
+/// The same as `bf_tag_ghash_update_prepared`.
+#[unsafe(no_mangle)]
+pub extern "C" fn bf_tag_ghash_update_prepared_wide(
+    prepared: &[u8],
+    message: &[u8],
+    hash: &mut [u8],
+) -> u32
+    ensures { HashesPrepared ghash_prepared prepared.now (λ key. ghash_from key hash.old (blocks_of message.now)) hash.old hash.new result }
+{
+    c_arithmetic::hash_update_prepared::<tags::HighestFirst, u64x4>(prepared, message, hash)
+}
+
 /// The same as `bf_tag_polyval_update`.
 #[unsafe(no_mangle)]
 pub extern "C" fn bf_tag_polyval_update_wide(key: &[u8], blocks: &[u8], hash: &mut [u8]) -> u32
@@ -516,4 +529,17 @@ pub extern "C" fn bf_tag_polyval_update_padded_wide(
     ensures { Hashes (Unit {0}) key.now (polyval_from key.now hash.old (blocks_of message.now)) hash.old hash.new result }
 {
     c_arithmetic::hash_update_padded::<tags::LowestFirst, u64x4>(key, message, hash)
+}
+
+/// The same as `bf_tag_polyval_update_prepared`.
+#[unsafe(no_mangle)]
+pub extern "C" fn bf_tag_polyval_update_prepared_wide(
+    prepared: &[u8],
+    message: &[u8],
+    hash: &mut [u8],
+) -> u32
+    ensures { HashesPrepared polyval_prepared prepared.now (λ key. polyval_from key hash.old
+        (blocks_of message.now)) hash.old hash.new result }
+{
+    c_arithmetic::hash_update_prepared::<tags::LowestFirst, u64x4>(prepared, message, hash)
 }

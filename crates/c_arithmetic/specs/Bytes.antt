@@ -12,6 +12,17 @@ abbrev pub Hashes : Type 0 → List ℕ → List ℕ → List ℕ → List ℕ �
 Hashes fits key hash old new status =
     CallOf ((length key ≡ 16) × (length old ≡ 16) × fits) (Unit {0}) (new ≡ hash) old new status
 
+-- a call that writes what a hash under a key goes by: the key has 16 bytes, and that 64
+abbrev pub PreparesKey : List ℕ → List ℕ → List ℕ → List ℕ → ℕ → Type 0
+PreparesKey key prepared old new status = CallOf ((length key ≡ 16) × (length old ≡ 64)) (Unit {0}) (new ≡ prepared) old new status
+
+-- a call that hashes by 64 bytes in place of a key: where they were made of a key, it writes the hash under that key. By others it writes 16
+-- bytes of which nothing is said
+abbrev pub HashesPrepared : (List ℕ → List ℕ) → List ℕ → (List ℕ → List ℕ) → List ℕ → List ℕ → ℕ → Type 0
+HashesPrepared prepared_of prepared hash old new status =
+    CallOf ((length prepared ≡ 64) × (length old ≡ 16)) (Unit {0})
+    (((key : List ℕ) → prepared ≡ prepared_of key → new ≡ hash key) × (length new ≡ 16)) old new status
+
 -- a byte that answers whether a fact holds
 pub record Answers (fact : Type 0) (answer : ℕ) : Type 0 where
   pub yes : fact → answer ≡ 1

@@ -27,7 +27,8 @@ pub use crate::many::{
     multiply_by_in_place, multiply_in_place,
 };
 pub use crate::messages::{
-    gcm_ghash, gcm_ghash_final, hash, hash_update, hash_update_padded, tags_are_equal,
+    gcm_ghash, gcm_ghash_final, hash, hash_prepare, hash_update, hash_update_padded,
+    hash_update_prepared, tags_are_equal,
 };
 pub use crate::polynomials::evaluate;
 pub use crate::shards::{

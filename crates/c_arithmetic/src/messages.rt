@@ -3,14 +3,18 @@ ghost use Rattle.std.specs.Prelude.{◌≡◌, ◌^◌, ◌%◌, ◌<◌, [], �
 ghost use Rattle.tags.specs.Blocks.{block_of_lengths, blocks_of, gcm_blocks};
 ghost use Rattle.tags.specs.Gcm.{ghash};
 ghost use Rattle.tags.specs.Pieces.{ghash_from};
-ghost use Rattle.c_arithmetic.specs.Bytes.{Compares, Hashes};
+ghost use Rattle.tags.specs.Prepared.{powers_as_bytes};
+ghost use Rattle.c_arithmetic.specs.Bytes.{Compares, Hashes, HashesPrepared, PreparesKey};
 
 use crate::status;
 use ghash_slices::Width;
-use tags::{Encoding, KeyedHash, UniversalHash, hash_from_in_vectors};
+use tags::{Encoding, KeyedHash, UniversalHash, hash_from_in_vectors, hash_from_prepared};
 
 // The bytes of a key, and of a hash.
 const BYTES: usize = 16;
+
+// What is made of a key.
+const PREPARED_BYTES: usize = 64;
 
 // The longest part of a message for GCM, whose length in bits has 64 bits.
 const PART_END: usize = 1 << 61;
@@ -48,6 +52,36 @@ pub fn hash_update<E: Encoding, V: Width>(key: &[u8], blocks: &[u8], hash: &mut 
         return status::LENGTH;
     }
     hash_update_padded::<E, V>(key, blocks, hash)
+}
+
+/// Writes what hashes under the key go by.
+pub fn hash_prepare<E: Encoding>(key: &[u8], prepared: &mut [u8]) -> u32
+    ensures { PreparesKey key.now (powers_as_bytes (E.multiplier key.now)) prepared.old prepared.new result }
+{
+    if key.len() != BYTES || prepared.len() != PREPARED_BYTES {
+        return status::LENGTH;
+    }
+    prepared.copy_from_slice(&tags::prepare_key::<E>(&block_of(key)));
+    status::OK
+}
+
+/// Goes on with a hash over more blocks, the last one filled up with zeros, under a prepared key.
+pub fn hash_update_prepared<E: Encoding, V: Width>(
+    prepared: &[u8],
+    message: &[u8],
+    hash: &mut [u8],
+) -> u32
+    ensures { HashesPrepared (λ key. powers_as_bytes (E.multiplier key)) prepared.now
+        (λ key. E.hash_from key hash.old (blocks_of message.now)) hash.old hash.new result }
+{
+    if prepared.len() != PREPARED_BYTES || hash.len() != BYTES {
+        return status::LENGTH;
+    }
+    let mut powers = [0; PREPARED_BYTES];
+    powers.copy_from_slice(prepared);
+    let next = hash_from_prepared::<E, V>(&powers, &block_of(hash), message);
+    hash.copy_from_slice(&next);
+    status::OK
 }
 
 /// Writes the hash of GCM over associated data and ciphertext with the block of their lengths.

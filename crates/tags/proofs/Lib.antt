@@ -17,3 +17,4 @@ pub mod KeyedCollisions
 pub mod BlocksDiffer
 pub mod EncodedParts
 pub mod Pieces
+pub mod PreparedKeys

@@ -1,13 +1,14 @@
 -- The bits of a number in the other order: what the reversal of k bits does to sums, to the lowest and the highest bit, and that
 -- it undoes itself.
-use Rattle.std.proofs.Common.{◌≡◌, ℕ, zero, suc, ◌+◌, ◌*◌, ◌/◌, ◌%◌, ◌^◌, ◌<◌, refl, sym, ◌∙◌, ap, ap₂, subst, arith, lit<}
+use Rattle.std.proofs.Common.{◌≡◌, ℕ, zero, suc, ◌+◌, ◌*◌, ◌/◌, ◌%◌, ◌^◌, ◌<◌, refl, sym, ◌∙◌, ap, ap₂, arith, lit<}
 use Rattle.std.specs.Prelude.{bit_xor}
 use Rattle.std.specs.Int.{bit_at, reverse_bits_onto}
 use Rattle.std.proofs.lemmas.Nat.{xor_block, pow_pos, mod_low, shr_high}
 use Rattle.std.proofs.lemmas.Nat.Bits.{bit_at-suc, bit_at_lowest}
-use native.Mathlib.Nat.{mod-lt, mod-eq_of_lt, zero-mul, one-mul, zero-add, pow-suc, mul-mod_left, mul-div_cancel, div-add-mod', mul_assoc}
+use native.Mathlib.Nat.{mod-lt, mod-eq_of_lt, zero-mul, zero-add, pow-suc, mul-mod_left, mul-div_cancel, div-add-mod', mul_assoc}
 use lib.Bits.{xor_shifted}
-use Rattle.field_base.proofs.CarrylessProduct.{xor_half, xor_odd, bit_cases}
+use Rattle.field_base.proofs.CarrylessProduct.{xor_half, xor_odd}
+use Rattle.tags.specs.MultiplierLemmas.{reverse_bits-lt}
 
 -- the low k bits of n in the other order
 abbrev pub reversed : ℕ → ℕ → ℕ
@@ -51,15 +52,7 @@ reversed_front k n =
 
 -- k bits stay k bits
 pub reversed-lt : (k n : ℕ) → reversed k n < 2 ^ k
-unfolding reverse_bits_onto
-reversed-lt zero n = lit< tt
-reversed-lt (suc k) n =
-    subst (λ (z : ℕ). z < 2 ^ suc k) (sym (reversed_front k n))
-    (below (2 ^ k) (2 ^ suc k) (reversed k (n / 2)) (pow-suc 2 k) (reversed-lt k (n / 2)))
-  where
-    below : (p q r : ℕ) → q ≡ p * 2 → r < p → n % 2 * p + r < q
-    below p q r e fits =
-        bit_cases (λ d. d * p + r < q) (omega (arith, e, fits, zero-mul p)) (omega (arith, e, fits, one-mul p)) n
+reversed-lt k n = reverse_bits-lt k n
 
 -- a single bit
 first_bit : (n : ℕ) → reversed 1 n ≡ reversed 0 n * 2 + bit_at n 0

@@ -9,3 +9,5 @@ pub mod Reversed
 pub mod Collisions
 pub mod EncodedParts
 pub mod Pieces
+pub mod Prepared
+pub mod MultiplierLemmas

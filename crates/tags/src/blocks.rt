@@ -1,7 +1,9 @@
 // The hash of whole blocks over the field of GHASH, four blocks at a time.
-ghost use Rattle.std.specs.Prelude.{◌≡◌, ◌%◌, ◌/◌, ℕ, bit_xor, drop, fold, length, map, take};
+ghost use Rattle.std.specs.Prelude.{◌≡◌, ◌<◌, ◌%◌, ◌/◌, ◌^◌, ℕ, bit_xor, drop, fold, length, map, take};
+ghost use Rattle.std.specs.Int.{from_le_bytes, w128};
 ghost use Rattle.tags.specs.Blocks.{first_blocks};
 ghost use Rattle.tags.specs.Powers.{ArePowers, added_block};
+ghost use Rattle.tags.specs.Prepared.{powers_as_bytes};
 ghost use Rattle.tags.specs.Reversed.{ghash_times};
 
 use crate::encoding::Encoding;
@@ -37,6 +39,41 @@ impl Powers {
             fourth,
         }
     }
+
+    // The powers as bytes.
+    pub(crate) fn to_bytes(&self) -> [u8; 64]
+        ensures { (key : ℕ) → ArePowers key self.now → result ≡ powers_as_bytes key }
+    {
+        let mut bytes = [0; 64];
+        bytes[..16].copy_from_slice(&self.key.to_le_bytes());
+        bytes[16..32].copy_from_slice(&self.square.to_le_bytes());
+        bytes[32..48].copy_from_slice(&self.cube.to_le_bytes());
+        bytes[48..].copy_from_slice(&self.fourth.to_le_bytes());
+        bytes
+    }
+
+    // The powers that were written as these bytes.
+    pub(crate) fn from_bytes(bytes: &[u8; 64]) -> Powers
+        ensures { (key : ℕ) → key < 2 ^ 128 → bytes.now ≡ powers_as_bytes key → ArePowers key result }
+    {
+        Powers {
+            key: number_of(&bytes[..16]),
+            square: number_of(&bytes[16..32]),
+            cube: number_of(&bytes[32..48]),
+            fourth: number_of(&bytes[48..64]),
+        }
+    }
+}
+
+// The number of 16 bytes, the lowest first.
+#[inline]
+fn number_of(bytes: &[u8]) -> u128
+    requires { length bytes.now ≡ 16 }
+    ensures { result ≡ from_le_bytes w128 bytes.now }
+{
+    let mut number = [0u8; 16];
+    number.copy_from_slice(bytes);
+    u128::from_le_bytes(number)
 }
 
 // a key^4 + b key^3 + c key^2 + d key: the four products are taken two at once, and added before one reduction.

@@ -1,5 +1,5 @@
 // Hashes that go on from the hash of the blocks before.
-ghost use Rattle.std.specs.Prelude.{◌≡◌, ◌<◌, ◌≤◌, ◌^◌, ◌++◌, ℕ, [], ◌∷◌, length, map, replicate, take};
+ghost use Rattle.std.specs.Prelude.{◌≡◌, ◌<◌, ◌≤◌, ◌^◌, ◌++◌, ℕ, List, [], ◌∷◌, length, map, replicate, take};
 ghost use Rattle.tags.specs.Blocks.{block_of_lengths, blocks_of};
 ghost use Rattle.tags.specs.Hash.{polynomial_hash_from};
 ghost use Rattle.tags.specs.Pieces.{ghash_from};
@@ -29,8 +29,7 @@ pub fn hash_from_in_vectors<E: Encoding, V: Width>(
 ) -> [u8; 16]
     ensures { result ≡ E.hash_from key.now hash.now (blocks_of bytes.now) }
 {
-    let powers = Powers::new(E::multiplier_of(*key));
-    E::write(with_padded_blocks::<E, V>(E::read(*hash), &powers, bytes))
+    hash_from_powers::<E, V>(&Powers::new(E::multiplier_of(*key)), hash, bytes)
 }
 
 /// The hash of GCM, where `hash` is that of the blocks of its associated data and of its text, the last one of each filled up with zeros:
@@ -48,6 +47,17 @@ pub fn gcm_ghash_final(
     ensures { result ≡ ghash_from key.now hash.now (block_of_lengths associated_length text_length ∷ []) }
 {
     hash_from::<HighestFirst>(key, hash, &lengths(associated_length, text_length))
+}
+
+// The same by the powers of a key.
+pub(crate) fn hash_from_powers<E: Encoding, V: Width>(
+    powers: &Powers,
+    hash: &[u8; 16],
+    bytes: &[u8],
+) -> [u8; 16]
+    ensures { (key : List ℕ) → ArePowers (E.multiplier key) powers.now → result ≡ E.hash_from key hash.now (blocks_of bytes.now) }
+{
+    E::write(with_padded_blocks::<E, V>(E::read(*hash), powers, bytes))
 }
 
 // The hash after more blocks, the last one filled up with zeros.

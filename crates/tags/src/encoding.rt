@@ -1,11 +1,12 @@
 // How a standard writes blocks: a block of 16 bytes as an element of the field, where bit i of a number is the coefficient of x^i, a key as what
 // the field multiplies by, a hash as a block, and a length as 8 bytes.
-ghost use Rattle.std.specs.Prelude.{◌≡◌, ℕ, List, map};
+ghost use Rattle.std.specs.Prelude.{◌≡◌, ◌<◌, ◌^◌, ℕ, List, map};
 ghost use Rattle.std.specs.Int.{to_be_bytes, to_le_bytes, w64};
 ghost use Rattle.tags.specs.Blocks.{IsBlock};
 ghost use Rattle.tags.specs.Gcm.{ghash};
 ghost use Rattle.tags.specs.Hash.{polynomial_hash, polynomial_hash_from};
 ghost use Rattle.tags.specs.Pieces.{ghash_from, polyval_from};
+ghost use Rattle.tags.specs.MultiplierLemmas.{ghash_element-lt, polyval_multiplier-lt};
 ghost use Rattle.tags.specs.Polyval.{polyval};
 ghost use Rattle.tags.specs.Reversed.{ghash_element, ghash_times, polyval_element, polyval_multiplier};
 
@@ -25,6 +26,9 @@ pub trait Encoding {
     ghost hash_from: { List ℕ → List ℕ → List (List ℕ) → List ℕ };
 
     ghost bytes: { ℕ → List ℕ };
+
+    // What the field multiplies by has 128 bits.
+    ghost multiplier_law: { (key : List ℕ) → multiplier key < 2 ^ 128 };
 
     /// The element of a block.
     fn read(block: [u8; 16]) -> u128
@@ -62,6 +66,8 @@ impl Encoding for HighestFirst {
 
     ghost bytes = { to_be_bytes w64 };
 
+    ghost multiplier_law = { ghash_element-lt };
+
     #[inline]
     fn read(block: [u8; 16]) -> u128 {
         reversed_bits(u128::from_be_bytes(block))
@@ -94,6 +100,8 @@ impl Encoding for LowestFirst {
     ghost hash_from = { polyval_from };
 
     ghost bytes = { to_le_bytes w64 };
+
+    ghost multiplier_law = { polyval_multiplier-lt };
 
     #[inline]
     fn read(block: [u8; 16]) -> u128 {

@@ -12,6 +12,7 @@ mod encoding;
 mod gcm;
 mod interleaved;
 mod laws;
+mod prepared;
 mod reversal;
 mod universal;
 
@@ -20,4 +21,5 @@ pub use crate::continued::{gcm_ghash_final, hash_from, hash_from_in_vectors};
 pub use crate::encoding::{Encoding, HighestFirst, LowestFirst};
 pub use crate::gcm::{gcm_ghash, gcm_ghash_in_vectors, gcm_siv_polyval};
 pub use crate::laws::{few_keys_collide, hashes_go_on, parts_are_encoded, products_are_reversed};
+pub use crate::prepared::{hash_from_prepared, prepare_key};
 pub use crate::universal::{Ghash, KeyedHash, Polyval, UniversalHash};
