@@ -659,25 +659,28 @@ pub struct Slices$bits<V> {
 }
 
 impl<V: Vector> Sliced for Slices$bits<V> {
-    ghost LEVEL = { $quoted.LEVEL };
+    ghost LEVEL = { $level };
 
-    ghost units = { $quoted.units };
+    ghost units = { V.units };
 
-    ghost lane = { λ x. $quoted.lane x.inner };
+    ghost lane = { λ x. lanes_$bits $quoted.lane x.inner };
 
-    ghost fits_law = { λ x. $quoted.fits_law x.inner };
+    ghost fits_law = { λ x. lanes_$bits-lt $quoted.lane (2 ^ 2 ^ $level) $quoted.fits_law x.inner };
 
     #[inline(always)]
+    #[tactic(auto, unfolding(crate::specs::Called::lanes_$bits))]
     fn level() -> usize {
         $path::level()
     }
 
     #[inline(always)]
+    #[tactic(auto, unfolding(crate::specs::Called::lanes_$bits))]
     fn lanes() -> usize {
         V::lanes()
     }
 
     #[inline(always)]
+    #[tactic(auto, unfolding(crate::specs::Called::lanes_$bits))]
     fn zeros() -> Slices$bits<V> {
         Slices$bits {
             inner: $path::zeros(),
@@ -685,61 +688,73 @@ impl<V: Vector> Sliced for Slices$bits<V> {
     }
 
     #[inline(always)]
+    #[tactic(auto, unfolding(crate::specs::Called::lanes_$bits))]
     fn set_sum(&mut self, x: &Slices$bits<V>, y: &Slices$bits<V>) {
         self.inner.set_sum(&x.inner, &y.inner);
     }
 
     #[inline(always)]
+    #[tactic(auto, unfolding(crate::specs::Called::lanes_$bits))]
     fn add(&mut self, x: &Slices$bits<V>) {
         self.inner.add(&x.inner);
     }
 
     #[inline(never)]
+    #[tactic(auto, unfolding(crate::specs::Called::lanes_$bits))]
     fn set_product(&mut self, x: &Slices$bits<V>, y: &Slices$bits<V>) {
         self.inner.set_product(&x.inner, &y.inner);
     }
 
     #[inline(always)]
+    #[tactic(auto, unfolding(crate::specs::Called::lanes_$bits))]
     fn add_by_root(&mut self, x: &Slices$bits<V>) {
         self.inner.add_by_root(&x.inner);
     }
 
     #[inline(never)]
+    #[tactic(auto, unfolding(crate::specs::Called::lanes_$bits))]
     fn square(&mut self) {
         self.inner.square();
     }
 
     #[inline(never)]
+    #[tactic(auto, unfolding(crate::specs::Called::lanes_$bits))]
     fn set_inverse(&mut self, x: &Slices$bits<V>) {
         self.inner.set_inverse(&x.inner);
     }
 
     #[inline(always)]
+    #[tactic(auto, unfolding(crate::specs::Called::lanes_$bits))]
     fn set_quotient_by_root(&mut self, x: &Slices$bits<V>) {
         self.inner.set_quotient_by_root(&x.inner);
     }
 
     #[inline(never)]
+    #[tactic(auto, unfolding(crate::specs::Called::lanes_$bits))]
     fn set_sqrt(&mut self, x: &Slices$bits<V>) {
         self.inner.set_sqrt(&x.inner);
     }
 
     #[inline(always)]
+    #[tactic(auto, unfolding(crate::specs::Called::lanes_$bits))]
     fn exchange(x: &mut Slices$bits<V>, y: &mut Slices$bits<V>, level: usize) {
         Sliced::exchange(&mut x.inner, &mut y.inner, level);
     }
 
     #[inline(never)]
+    #[tactic(auto, unfolding(crate::specs::Called::lanes_$bits))]
     fn turn(&mut self) {
         self.inner.turn();
     }
 
     #[inline(always)]
+    #[tactic(auto, unfolding(crate::specs::Called::lanes_$bits))]
     fn read<W: TowerWord>(&mut self, words: &[W], start: usize) -> usize {
         self.inner.read(words, start)
     }
 
     #[inline(always)]
+    #[tactic(auto, unfolding(crate::specs::Called::lanes_$bits))]
     fn write<W: TowerWord>(&self, words: &mut [W], start: usize) -> usize {
         self.inner.write(words, start)
     }
@@ -749,6 +764,7 @@ impl<V: Vector> Sliced for Slices$bits<V> {
 
 impl<V: Vector> SlicedPolynomials<V> for Slices$bits<V> {
     #[inline(never)]
+    #[tactic(auto, unfolding(crate::specs::Called::lanes_$bits))]
     fn set_carryless_product(
         low: &mut Slices$bits<V>,
         high: &mut Slices$bits<V>,
@@ -764,11 +780,13 @@ impl<V: Vector> SlicedPolynomials<V> for Slices$bits<V> {
     }
 
     #[inline(always)]
+    #[tactic(auto, unfolding(crate::specs::Called::lanes_$bits))]
     fn set_carryless_square(low: &mut Slices$bits<V>, high: &mut Slices$bits<V>, x: &Slices$bits<V>) {
         SlicedPolynomials::set_carryless_square(&mut low.inner, &mut high.inner, &x.inner);
     }
 
     #[inline(${tail_inline})]
+    #[tactic(auto, unfolding(crate::specs::Called::lanes_$bits))]
     fn add_by_tail<M: Tail>(&mut self, x: &Slices$bits<V>, carry: &mut Slices8<V>) {
         self.inner.add_by_tail::<M>(&x.inner, carry);
     }
@@ -788,6 +806,7 @@ def slices():
     yield """\
 // The levels of 8 to 128 bits by slices of bits. Each is a type of its own whose products, squares, inverses, roots and transpositions are
 // called and not put in line: so LLVM compiles, and the checker names, each level once.
+ghost use Rattle.bit_slices.specs.Called.{lanes_8, lanes_8-lt, lanes_16, lanes_16-lt, lanes_32, lanes_32-lt, lanes_64, lanes_64-lt, lanes_128, lanes_128-lt};
 ghost use Rattle.std.specs.Prelude.{◌≡◌, ◌<◌, ◌^◌, ℕ, refl};
 
 use crate::bit::Bit;
@@ -803,6 +822,7 @@ use crate::word::TowerWord;
         inner = "Pair<Pair<Pair<Bit<V>>>>" if bits == 8 else f"Pair<Slices{bits // 2}<V>>"
         yield SLICES.substitute(
             bits=bits,
+            level=LEVELS[bits].level,
             inner=inner,
             path=inner.replace("<", "::<", 1),
             quoted=f"⟦<{inner} as Sliced>⟧",

@@ -9,7 +9,6 @@ ghost use Rattle.c_matrices.specs.Matrices.{TakesRank};
 
 use c_arithmetic::operations::{Power, Square, SquareRoot, Sum};
 use c_arithmetic::{GhashKernel, Wide, in_place, slices};
-use c_matrices::rows::InVectors;
 use std::simd::prelude::*;
 
 /// The sum of the elements at each place.
@@ -188,7 +187,7 @@ pub extern "C" fn bf_g128_matrix_multiply(
 ) -> u32
     ensures { MultipliesMatrices ghash_field rows inner columns left.now right.now product.old product.new result }
 {
-    c_matrices::multiply::<u128, Wide, GhashKernel, InVectors<u64x2>>(
+    c_matrices::multiply::<u128, Wide, GhashKernel, u64x2>(
         left, right, product, rows, inner, columns,
     )
 }
@@ -205,7 +204,7 @@ pub extern "C" fn bf_g128_matrix_row_reduce(
 ) -> u32
     ensures { ReducesRows ghash_field rows columns matrix.old pivots.old rank.old matrix.new pivots.new rank.new result }
 {
-    c_matrices::row_reduce::<u128, Wide, GhashKernel, InVectors<u64x2>>(
+    c_matrices::row_reduce::<u128, Wide, GhashKernel, u64x2>(
         matrix, rows, columns, pivots, rank,
     )
 }
@@ -222,7 +221,7 @@ pub extern "C" fn bf_g128_matrix_rank(
 ) -> u32
     ensures { TakesRank ghash_field rows columns matrix.now (length space.old) (length places.old) rank.old rank.new result }
 {
-    c_matrices::rank::<u128, Wide, GhashKernel, InVectors<u64x2>>(
+    c_matrices::rank::<u128, Wide, GhashKernel, u64x2>(
         matrix, rows, columns, space, places, rank,
     )
 }
@@ -237,7 +236,7 @@ pub extern "C" fn bf_g128_matrix_determinant(
 ) -> u32
     ensures { TakesDeterminant ghash_field size matrix.now (length space.old) determinant.old determinant.new result }
 {
-    c_matrices::determinant::<u128, Wide, GhashKernel, InVectors<u64x2>>(
+    c_matrices::determinant::<u128, Wide, GhashKernel, u64x2>(
         matrix,
         size,
         space,
@@ -256,7 +255,7 @@ pub extern "C" fn bf_g128_matrix_inverse(
 ) -> u32
     ensures { InvertsMatrix ghash_field size matrix.now (length space.old) (length places.old) inverse.old inverse.new result }
 {
-    c_matrices::inverse::<u128, Wide, GhashKernel, InVectors<u64x2>>(
+    c_matrices::inverse::<u128, Wide, GhashKernel, u64x2>(
         matrix, size, inverse, space, places,
     )
 }
@@ -276,7 +275,7 @@ pub extern "C" fn bf_g128_matrix_solve(
     ensures { SolvesEquations ghash_field rows columns matrix.now right.now (length space.old)
         (length places.old) solution.old solution.new result }
 {
-    c_matrices::solve::<u128, Wide, GhashKernel, InVectors<u64x2>>(
+    c_matrices::solve::<u128, Wide, GhashKernel, u64x2>(
         matrix, rows, columns, right, solution, space, places,
     )
 }

@@ -9,7 +9,6 @@ ghost use Rattle.c_matrices.specs.Matrices.{TakesRank};
 
 use c_arithmetic::operations::{Power, Square, SquareRoot, Sum};
 use c_arithmetic::{Cubic, CubicKernel, Triple, in_place, slices};
-use c_matrices::rows::InVectors;
 use std::simd::prelude::*;
 
 /// The sum of the elements at each place.
@@ -192,7 +191,7 @@ pub extern "C" fn bf_p192_matrix_multiply(
 ) -> u32
     ensures { MultipliesMatrices cubic_field rows inner columns left.now right.now product.old product.new result }
 {
-    c_matrices::multiply::<Triple, Cubic, CubicKernel, InVectors<u64x2>>(
+    c_matrices::multiply::<Triple, Cubic, CubicKernel, u64x2>(
         left, right, product, rows, inner, columns,
     )
 }
@@ -209,7 +208,7 @@ pub extern "C" fn bf_p192_matrix_row_reduce(
 ) -> u32
     ensures { ReducesRows cubic_field rows columns matrix.old pivots.old rank.old matrix.new pivots.new rank.new result }
 {
-    c_matrices::row_reduce::<Triple, Cubic, CubicKernel, InVectors<u64x2>>(
+    c_matrices::row_reduce::<Triple, Cubic, CubicKernel, u64x2>(
         matrix, rows, columns, pivots, rank,
     )
 }
@@ -226,7 +225,7 @@ pub extern "C" fn bf_p192_matrix_rank(
 ) -> u32
     ensures { TakesRank cubic_field rows columns matrix.now (length space.old) (length places.old) rank.old rank.new result }
 {
-    c_matrices::rank::<Triple, Cubic, CubicKernel, InVectors<u64x2>>(
+    c_matrices::rank::<Triple, Cubic, CubicKernel, u64x2>(
         matrix, rows, columns, space, places, rank,
     )
 }
@@ -241,7 +240,7 @@ pub extern "C" fn bf_p192_matrix_determinant(
 ) -> u32
     ensures { TakesDeterminant cubic_field size matrix.now (length space.old) determinant.old determinant.new result }
 {
-    c_matrices::determinant::<Triple, Cubic, CubicKernel, InVectors<u64x2>>(
+    c_matrices::determinant::<Triple, Cubic, CubicKernel, u64x2>(
         matrix,
         size,
         space,
@@ -260,7 +259,7 @@ pub extern "C" fn bf_p192_matrix_inverse(
 ) -> u32
     ensures { InvertsMatrix cubic_field size matrix.now (length space.old) (length places.old) inverse.old inverse.new result }
 {
-    c_matrices::inverse::<Triple, Cubic, CubicKernel, InVectors<u64x2>>(
+    c_matrices::inverse::<Triple, Cubic, CubicKernel, u64x2>(
         matrix, size, inverse, space, places,
     )
 }
@@ -280,7 +279,7 @@ pub extern "C" fn bf_p192_matrix_solve(
     ensures { SolvesEquations cubic_field rows columns matrix.now right.now (length space.old)
         (length places.old) solution.old solution.new result }
 {
-    c_matrices::solve::<Triple, Cubic, CubicKernel, InVectors<u64x2>>(
+    c_matrices::solve::<Triple, Cubic, CubicKernel, u64x2>(
         matrix, rows, columns, right, solution, space, places,
     )
 }

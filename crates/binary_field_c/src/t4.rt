@@ -9,7 +9,6 @@ ghost use Rattle.c_matrices.specs.Matrices.{TakesRank};
 
 use c_arithmetic::operations::{Power, Square, SquareRoot, Sum};
 use c_arithmetic::{Bits4, Tower, in_place, slices};
-use c_matrices::rows::InVectors;
 use std::simd::prelude::*;
 
 /// The sum of the elements at each place.
@@ -184,7 +183,7 @@ pub extern "C" fn bf_t4_matrix_multiply(
 ) -> u32
     ensures { MultipliesMatrices (level_field 2) rows inner columns left.now right.now product.old product.new result }
 {
-    c_matrices::multiply::<u8, u8, Tower<Bits4>, InVectors<u64x2>>(
+    c_matrices::multiply::<u8, u8, Tower<Bits4>, u64x2>(
         left, right, product, rows, inner, columns,
     )
 }
@@ -201,7 +200,7 @@ pub extern "C" fn bf_t4_matrix_row_reduce(
 ) -> u32
     ensures { ReducesRows (level_field 2) rows columns matrix.old pivots.old rank.old matrix.new pivots.new rank.new result }
 {
-    c_matrices::row_reduce::<u8, u8, Tower<Bits4>, InVectors<u64x2>>(
+    c_matrices::row_reduce::<u8, u8, Tower<Bits4>, u64x2>(
         matrix, rows, columns, pivots, rank,
     )
 }
@@ -218,7 +217,7 @@ pub extern "C" fn bf_t4_matrix_rank(
 ) -> u32
     ensures { TakesRank (level_field 2) rows columns matrix.now (length space.old) (length places.old) rank.old rank.new result }
 {
-    c_matrices::rank::<u8, u8, Tower<Bits4>, InVectors<u64x2>>(
+    c_matrices::rank::<u8, u8, Tower<Bits4>, u64x2>(
         matrix, rows, columns, space, places, rank,
     )
 }
@@ -233,7 +232,7 @@ pub extern "C" fn bf_t4_matrix_determinant(
 ) -> u32
     ensures { TakesDeterminant (level_field 2) size matrix.now (length space.old) determinant.old determinant.new result }
 {
-    c_matrices::determinant::<u8, u8, Tower<Bits4>, InVectors<u64x2>>(
+    c_matrices::determinant::<u8, u8, Tower<Bits4>, u64x2>(
         matrix,
         size,
         space,
@@ -252,7 +251,7 @@ pub extern "C" fn bf_t4_matrix_inverse(
 ) -> u32
     ensures { InvertsMatrix (level_field 2) size matrix.now (length space.old) (length places.old) inverse.old inverse.new result }
 {
-    c_matrices::inverse::<u8, u8, Tower<Bits4>, InVectors<u64x2>>(
+    c_matrices::inverse::<u8, u8, Tower<Bits4>, u64x2>(
         matrix, size, inverse, space, places,
     )
 }
@@ -272,7 +271,7 @@ pub extern "C" fn bf_t4_matrix_solve(
     ensures { SolvesEquations (level_field 2) rows columns matrix.now right.now (length space.old)
         (length places.old) solution.old solution.new result }
 {
-    c_matrices::solve::<u8, u8, Tower<Bits4>, InVectors<u64x2>>(
+    c_matrices::solve::<u8, u8, Tower<Bits4>, u64x2>(
         matrix, rows, columns, right, solution, space, places,
     )
 }

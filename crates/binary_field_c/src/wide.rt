@@ -14,7 +14,6 @@ ghost use Rattle.c_matrices.specs.Matrices.{InvertsMatrix, MultipliesMatrices, R
 ghost use Rattle.c_matrices.specs.Matrices.{TakesRank};
 
 use c_arithmetic::{Bits16, Bits32, Bits64, Bits128, GhashKernel, Poly64Kernel, Tower, Wide};
-use c_matrices::rows::InVectors;
 use std::simd::prelude::*;
 
 /// The same as `bf_g128_multiply`.
@@ -358,7 +357,7 @@ pub extern "C" fn bf_g128_matrix_multiply_wide(
 ) -> u32
     ensures { MultipliesMatrices ghash_field rows inner columns left.now right.now product.old product.new result }
 {
-    c_matrices::multiply::<u128, Wide, GhashKernel, InVectors<u64x4>>(
+    c_matrices::multiply::<u128, Wide, GhashKernel, u64x4>(
         left, right, product, rows, inner, columns,
     )
 }
@@ -374,7 +373,7 @@ pub extern "C" fn bf_g128_matrix_row_reduce_wide(
 ) -> u32
     ensures { ReducesRows ghash_field rows columns matrix.old pivots.old rank.old matrix.new pivots.new rank.new result }
 {
-    c_matrices::row_reduce::<u128, Wide, GhashKernel, InVectors<u64x4>>(
+    c_matrices::row_reduce::<u128, Wide, GhashKernel, u64x4>(
         matrix, rows, columns, pivots, rank,
     )
 }
@@ -391,7 +390,7 @@ pub extern "C" fn bf_g128_matrix_rank_wide(
 ) -> u32
     ensures { TakesRank ghash_field rows columns matrix.now (length space.old) (length places.old) rank.old rank.new result }
 {
-    c_matrices::rank::<u128, Wide, GhashKernel, InVectors<u64x4>>(
+    c_matrices::rank::<u128, Wide, GhashKernel, u64x4>(
         matrix, rows, columns, space, places, rank,
     )
 }
@@ -406,7 +405,7 @@ pub extern "C" fn bf_g128_matrix_determinant_wide(
 ) -> u32
     ensures { TakesDeterminant ghash_field size matrix.now (length space.old) determinant.old determinant.new result }
 {
-    c_matrices::determinant::<u128, Wide, GhashKernel, InVectors<u64x4>>(
+    c_matrices::determinant::<u128, Wide, GhashKernel, u64x4>(
         matrix,
         size,
         space,
@@ -425,7 +424,7 @@ pub extern "C" fn bf_g128_matrix_inverse_wide(
 ) -> u32
     ensures { InvertsMatrix ghash_field size matrix.now (length space.old) (length places.old) inverse.old inverse.new result }
 {
-    c_matrices::inverse::<u128, Wide, GhashKernel, InVectors<u64x4>>(
+    c_matrices::inverse::<u128, Wide, GhashKernel, u64x4>(
         matrix, size, inverse, space, places,
     )
 }
@@ -444,7 +443,7 @@ pub extern "C" fn bf_g128_matrix_solve_wide(
     ensures { SolvesEquations ghash_field rows columns matrix.now right.now (length space.old)
         (length places.old) solution.old solution.new result }
 {
-    c_matrices::solve::<u128, Wide, GhashKernel, InVectors<u64x4>>(
+    c_matrices::solve::<u128, Wide, GhashKernel, u64x4>(
         matrix, rows, columns, right, solution, space, places,
     )
 }

@@ -3,3 +3,4 @@ pub mod LaneLemmas
 pub mod Layout
 pub mod Tails
 pub mod TailLemmas
+pub mod Called

@@ -1,6 +1,7 @@
 // Written by scripts/make_level_impls.py; do not edit.
 // The levels of 8 to 128 bits by slices of bits. Each is a type of its own whose products, squares, inverses, roots and transpositions are
 // called and not put in line: so LLVM compiles, and the checker names, each level once.
+ghost use Rattle.bit_slices.specs.Called.{lanes_8, lanes_8-lt, lanes_16, lanes_16-lt, lanes_32, lanes_32-lt, lanes_64, lanes_64-lt, lanes_128, lanes_128-lt};
 ghost use Rattle.std.specs.Prelude.{◌≡◌, ◌<◌, ◌^◌, ℕ, refl};
 
 use crate::bit::Bit;
@@ -19,25 +20,28 @@ pub struct Slices8<V> {
 }
 
 impl<V: Vector> Sliced for Slices8<V> {
-    ghost LEVEL = { ⟦<Pair<Pair<Pair<Bit<V>>>> as Sliced>⟧.LEVEL };
+    ghost LEVEL = { 3 };
 
-    ghost units = { ⟦<Pair<Pair<Pair<Bit<V>>>> as Sliced>⟧.units };
+    ghost units = { V.units };
 
-    ghost lane = { λ x. ⟦<Pair<Pair<Pair<Bit<V>>>> as Sliced>⟧.lane x.inner };
+    ghost lane = { λ x. lanes_8 ⟦<Pair<Pair<Pair<Bit<V>>>> as Sliced>⟧.lane x.inner };
 
-    ghost fits_law = { λ x. ⟦<Pair<Pair<Pair<Bit<V>>>> as Sliced>⟧.fits_law x.inner };
+    ghost fits_law = { λ x. lanes_8-lt ⟦<Pair<Pair<Pair<Bit<V>>>> as Sliced>⟧.lane (2 ^ 2 ^ 3) ⟦<Pair<Pair<Pair<Bit<V>>>> as Sliced>⟧.fits_law x.inner };
 
     #[inline(always)]
+    #[tactic(auto, unfolding(crate::specs::Called::lanes_8))]
     fn level() -> usize {
         Pair::<Pair<Pair<Bit<V>>>>::level()
     }
 
     #[inline(always)]
+    #[tactic(auto, unfolding(crate::specs::Called::lanes_8))]
     fn lanes() -> usize {
         V::lanes()
     }
 
     #[inline(always)]
+    #[tactic(auto, unfolding(crate::specs::Called::lanes_8))]
     fn zeros() -> Slices8<V> {
         Slices8 {
             inner: Pair::<Pair<Pair<Bit<V>>>>::zeros(),
@@ -45,61 +49,73 @@ impl<V: Vector> Sliced for Slices8<V> {
     }
 
     #[inline(always)]
+    #[tactic(auto, unfolding(crate::specs::Called::lanes_8))]
     fn set_sum(&mut self, x: &Slices8<V>, y: &Slices8<V>) {
         self.inner.set_sum(&x.inner, &y.inner);
     }
 
     #[inline(always)]
+    #[tactic(auto, unfolding(crate::specs::Called::lanes_8))]
     fn add(&mut self, x: &Slices8<V>) {
         self.inner.add(&x.inner);
     }
 
     #[inline(never)]
+    #[tactic(auto, unfolding(crate::specs::Called::lanes_8))]
     fn set_product(&mut self, x: &Slices8<V>, y: &Slices8<V>) {
         self.inner.set_product(&x.inner, &y.inner);
     }
 
     #[inline(always)]
+    #[tactic(auto, unfolding(crate::specs::Called::lanes_8))]
     fn add_by_root(&mut self, x: &Slices8<V>) {
         self.inner.add_by_root(&x.inner);
     }
 
     #[inline(never)]
+    #[tactic(auto, unfolding(crate::specs::Called::lanes_8))]
     fn square(&mut self) {
         self.inner.square();
     }
 
     #[inline(never)]
+    #[tactic(auto, unfolding(crate::specs::Called::lanes_8))]
     fn set_inverse(&mut self, x: &Slices8<V>) {
         self.inner.set_inverse(&x.inner);
     }
 
     #[inline(always)]
+    #[tactic(auto, unfolding(crate::specs::Called::lanes_8))]
     fn set_quotient_by_root(&mut self, x: &Slices8<V>) {
         self.inner.set_quotient_by_root(&x.inner);
     }
 
     #[inline(never)]
+    #[tactic(auto, unfolding(crate::specs::Called::lanes_8))]
     fn set_sqrt(&mut self, x: &Slices8<V>) {
         self.inner.set_sqrt(&x.inner);
     }
 
     #[inline(always)]
+    #[tactic(auto, unfolding(crate::specs::Called::lanes_8))]
     fn exchange(x: &mut Slices8<V>, y: &mut Slices8<V>, level: usize) {
         Sliced::exchange(&mut x.inner, &mut y.inner, level);
     }
 
     #[inline(never)]
+    #[tactic(auto, unfolding(crate::specs::Called::lanes_8))]
     fn turn(&mut self) {
         self.inner.turn();
     }
 
     #[inline(always)]
+    #[tactic(auto, unfolding(crate::specs::Called::lanes_8))]
     fn read<W: TowerWord>(&mut self, words: &[W], start: usize) -> usize {
         self.inner.read(words, start)
     }
 
     #[inline(always)]
+    #[tactic(auto, unfolding(crate::specs::Called::lanes_8))]
     fn write<W: TowerWord>(&self, words: &mut [W], start: usize) -> usize {
         self.inner.write(words, start)
     }
@@ -109,6 +125,7 @@ impl<V: Vector> Sliced for Slices8<V> {
 
 impl<V: Vector> SlicedPolynomials<V> for Slices8<V> {
     #[inline(never)]
+    #[tactic(auto, unfolding(crate::specs::Called::lanes_8))]
     fn set_carryless_product(
         low: &mut Slices8<V>,
         high: &mut Slices8<V>,
@@ -124,11 +141,13 @@ impl<V: Vector> SlicedPolynomials<V> for Slices8<V> {
     }
 
     #[inline(always)]
+    #[tactic(auto, unfolding(crate::specs::Called::lanes_8))]
     fn set_carryless_square(low: &mut Slices8<V>, high: &mut Slices8<V>, x: &Slices8<V>) {
         SlicedPolynomials::set_carryless_square(&mut low.inner, &mut high.inner, &x.inner);
     }
 
     #[inline(never)]
+    #[tactic(auto, unfolding(crate::specs::Called::lanes_8))]
     fn add_by_tail<M: Tail>(&mut self, x: &Slices8<V>, carry: &mut Slices8<V>) {
         self.inner.add_by_tail::<M>(&x.inner, carry);
     }
@@ -147,25 +166,28 @@ pub struct Slices16<V> {
 }
 
 impl<V: Vector> Sliced for Slices16<V> {
-    ghost LEVEL = { ⟦<Pair<Slices8<V>> as Sliced>⟧.LEVEL };
+    ghost LEVEL = { 4 };
 
-    ghost units = { ⟦<Pair<Slices8<V>> as Sliced>⟧.units };
+    ghost units = { V.units };
 
-    ghost lane = { λ x. ⟦<Pair<Slices8<V>> as Sliced>⟧.lane x.inner };
+    ghost lane = { λ x. lanes_16 ⟦<Pair<Slices8<V>> as Sliced>⟧.lane x.inner };
 
-    ghost fits_law = { λ x. ⟦<Pair<Slices8<V>> as Sliced>⟧.fits_law x.inner };
+    ghost fits_law = { λ x. lanes_16-lt ⟦<Pair<Slices8<V>> as Sliced>⟧.lane (2 ^ 2 ^ 4) ⟦<Pair<Slices8<V>> as Sliced>⟧.fits_law x.inner };
 
     #[inline(always)]
+    #[tactic(auto, unfolding(crate::specs::Called::lanes_16))]
     fn level() -> usize {
         Pair::<Slices8<V>>::level()
     }
 
     #[inline(always)]
+    #[tactic(auto, unfolding(crate::specs::Called::lanes_16))]
     fn lanes() -> usize {
         V::lanes()
     }
 
     #[inline(always)]
+    #[tactic(auto, unfolding(crate::specs::Called::lanes_16))]
     fn zeros() -> Slices16<V> {
         Slices16 {
             inner: Pair::<Slices8<V>>::zeros(),
@@ -173,61 +195,73 @@ impl<V: Vector> Sliced for Slices16<V> {
     }
 
     #[inline(always)]
+    #[tactic(auto, unfolding(crate::specs::Called::lanes_16))]
     fn set_sum(&mut self, x: &Slices16<V>, y: &Slices16<V>) {
         self.inner.set_sum(&x.inner, &y.inner);
     }
 
     #[inline(always)]
+    #[tactic(auto, unfolding(crate::specs::Called::lanes_16))]
     fn add(&mut self, x: &Slices16<V>) {
         self.inner.add(&x.inner);
     }
 
     #[inline(never)]
+    #[tactic(auto, unfolding(crate::specs::Called::lanes_16))]
     fn set_product(&mut self, x: &Slices16<V>, y: &Slices16<V>) {
         self.inner.set_product(&x.inner, &y.inner);
     }
 
     #[inline(always)]
+    #[tactic(auto, unfolding(crate::specs::Called::lanes_16))]
     fn add_by_root(&mut self, x: &Slices16<V>) {
         self.inner.add_by_root(&x.inner);
     }
 
     #[inline(never)]
+    #[tactic(auto, unfolding(crate::specs::Called::lanes_16))]
     fn square(&mut self) {
         self.inner.square();
     }
 
     #[inline(never)]
+    #[tactic(auto, unfolding(crate::specs::Called::lanes_16))]
     fn set_inverse(&mut self, x: &Slices16<V>) {
         self.inner.set_inverse(&x.inner);
     }
 
     #[inline(always)]
+    #[tactic(auto, unfolding(crate::specs::Called::lanes_16))]
     fn set_quotient_by_root(&mut self, x: &Slices16<V>) {
         self.inner.set_quotient_by_root(&x.inner);
     }
 
     #[inline(never)]
+    #[tactic(auto, unfolding(crate::specs::Called::lanes_16))]
     fn set_sqrt(&mut self, x: &Slices16<V>) {
         self.inner.set_sqrt(&x.inner);
     }
 
     #[inline(always)]
+    #[tactic(auto, unfolding(crate::specs::Called::lanes_16))]
     fn exchange(x: &mut Slices16<V>, y: &mut Slices16<V>, level: usize) {
         Sliced::exchange(&mut x.inner, &mut y.inner, level);
     }
 
     #[inline(never)]
+    #[tactic(auto, unfolding(crate::specs::Called::lanes_16))]
     fn turn(&mut self) {
         self.inner.turn();
     }
 
     #[inline(always)]
+    #[tactic(auto, unfolding(crate::specs::Called::lanes_16))]
     fn read<W: TowerWord>(&mut self, words: &[W], start: usize) -> usize {
         self.inner.read(words, start)
     }
 
     #[inline(always)]
+    #[tactic(auto, unfolding(crate::specs::Called::lanes_16))]
     fn write<W: TowerWord>(&self, words: &mut [W], start: usize) -> usize {
         self.inner.write(words, start)
     }
@@ -237,6 +271,7 @@ impl<V: Vector> Sliced for Slices16<V> {
 
 impl<V: Vector> SlicedPolynomials<V> for Slices16<V> {
     #[inline(never)]
+    #[tactic(auto, unfolding(crate::specs::Called::lanes_16))]
     fn set_carryless_product(
         low: &mut Slices16<V>,
         high: &mut Slices16<V>,
@@ -252,11 +287,13 @@ impl<V: Vector> SlicedPolynomials<V> for Slices16<V> {
     }
 
     #[inline(always)]
+    #[tactic(auto, unfolding(crate::specs::Called::lanes_16))]
     fn set_carryless_square(low: &mut Slices16<V>, high: &mut Slices16<V>, x: &Slices16<V>) {
         SlicedPolynomials::set_carryless_square(&mut low.inner, &mut high.inner, &x.inner);
     }
 
     #[inline(always)]
+    #[tactic(auto, unfolding(crate::specs::Called::lanes_16))]
     fn add_by_tail<M: Tail>(&mut self, x: &Slices16<V>, carry: &mut Slices8<V>) {
         self.inner.add_by_tail::<M>(&x.inner, carry);
     }
@@ -275,25 +312,28 @@ pub struct Slices32<V> {
 }
 
 impl<V: Vector> Sliced for Slices32<V> {
-    ghost LEVEL = { ⟦<Pair<Slices16<V>> as Sliced>⟧.LEVEL };
+    ghost LEVEL = { 5 };
 
-    ghost units = { ⟦<Pair<Slices16<V>> as Sliced>⟧.units };
+    ghost units = { V.units };
 
-    ghost lane = { λ x. ⟦<Pair<Slices16<V>> as Sliced>⟧.lane x.inner };
+    ghost lane = { λ x. lanes_32 ⟦<Pair<Slices16<V>> as Sliced>⟧.lane x.inner };
 
-    ghost fits_law = { λ x. ⟦<Pair<Slices16<V>> as Sliced>⟧.fits_law x.inner };
+    ghost fits_law = { λ x. lanes_32-lt ⟦<Pair<Slices16<V>> as Sliced>⟧.lane (2 ^ 2 ^ 5) ⟦<Pair<Slices16<V>> as Sliced>⟧.fits_law x.inner };
 
     #[inline(always)]
+    #[tactic(auto, unfolding(crate::specs::Called::lanes_32))]
     fn level() -> usize {
         Pair::<Slices16<V>>::level()
     }
 
     #[inline(always)]
+    #[tactic(auto, unfolding(crate::specs::Called::lanes_32))]
     fn lanes() -> usize {
         V::lanes()
     }
 
     #[inline(always)]
+    #[tactic(auto, unfolding(crate::specs::Called::lanes_32))]
     fn zeros() -> Slices32<V> {
         Slices32 {
             inner: Pair::<Slices16<V>>::zeros(),
@@ -301,61 +341,73 @@ impl<V: Vector> Sliced for Slices32<V> {
     }
 
     #[inline(always)]
+    #[tactic(auto, unfolding(crate::specs::Called::lanes_32))]
     fn set_sum(&mut self, x: &Slices32<V>, y: &Slices32<V>) {
         self.inner.set_sum(&x.inner, &y.inner);
     }
 
     #[inline(always)]
+    #[tactic(auto, unfolding(crate::specs::Called::lanes_32))]
     fn add(&mut self, x: &Slices32<V>) {
         self.inner.add(&x.inner);
     }
 
     #[inline(never)]
+    #[tactic(auto, unfolding(crate::specs::Called::lanes_32))]
     fn set_product(&mut self, x: &Slices32<V>, y: &Slices32<V>) {
         self.inner.set_product(&x.inner, &y.inner);
     }
 
     #[inline(always)]
+    #[tactic(auto, unfolding(crate::specs::Called::lanes_32))]
     fn add_by_root(&mut self, x: &Slices32<V>) {
         self.inner.add_by_root(&x.inner);
     }
 
     #[inline(never)]
+    #[tactic(auto, unfolding(crate::specs::Called::lanes_32))]
     fn square(&mut self) {
         self.inner.square();
     }
 
     #[inline(never)]
+    #[tactic(auto, unfolding(crate::specs::Called::lanes_32))]
     fn set_inverse(&mut self, x: &Slices32<V>) {
         self.inner.set_inverse(&x.inner);
     }
 
     #[inline(always)]
+    #[tactic(auto, unfolding(crate::specs::Called::lanes_32))]
     fn set_quotient_by_root(&mut self, x: &Slices32<V>) {
         self.inner.set_quotient_by_root(&x.inner);
     }
 
     #[inline(never)]
+    #[tactic(auto, unfolding(crate::specs::Called::lanes_32))]
     fn set_sqrt(&mut self, x: &Slices32<V>) {
         self.inner.set_sqrt(&x.inner);
     }
 
     #[inline(always)]
+    #[tactic(auto, unfolding(crate::specs::Called::lanes_32))]
     fn exchange(x: &mut Slices32<V>, y: &mut Slices32<V>, level: usize) {
         Sliced::exchange(&mut x.inner, &mut y.inner, level);
     }
 
     #[inline(never)]
+    #[tactic(auto, unfolding(crate::specs::Called::lanes_32))]
     fn turn(&mut self) {
         self.inner.turn();
     }
 
     #[inline(always)]
+    #[tactic(auto, unfolding(crate::specs::Called::lanes_32))]
     fn read<W: TowerWord>(&mut self, words: &[W], start: usize) -> usize {
         self.inner.read(words, start)
     }
 
     #[inline(always)]
+    #[tactic(auto, unfolding(crate::specs::Called::lanes_32))]
     fn write<W: TowerWord>(&self, words: &mut [W], start: usize) -> usize {
         self.inner.write(words, start)
     }
@@ -365,6 +417,7 @@ impl<V: Vector> Sliced for Slices32<V> {
 
 impl<V: Vector> SlicedPolynomials<V> for Slices32<V> {
     #[inline(never)]
+    #[tactic(auto, unfolding(crate::specs::Called::lanes_32))]
     fn set_carryless_product(
         low: &mut Slices32<V>,
         high: &mut Slices32<V>,
@@ -380,11 +433,13 @@ impl<V: Vector> SlicedPolynomials<V> for Slices32<V> {
     }
 
     #[inline(always)]
+    #[tactic(auto, unfolding(crate::specs::Called::lanes_32))]
     fn set_carryless_square(low: &mut Slices32<V>, high: &mut Slices32<V>, x: &Slices32<V>) {
         SlicedPolynomials::set_carryless_square(&mut low.inner, &mut high.inner, &x.inner);
     }
 
     #[inline(always)]
+    #[tactic(auto, unfolding(crate::specs::Called::lanes_32))]
     fn add_by_tail<M: Tail>(&mut self, x: &Slices32<V>, carry: &mut Slices8<V>) {
         self.inner.add_by_tail::<M>(&x.inner, carry);
     }
@@ -403,25 +458,28 @@ pub struct Slices64<V> {
 }
 
 impl<V: Vector> Sliced for Slices64<V> {
-    ghost LEVEL = { ⟦<Pair<Slices32<V>> as Sliced>⟧.LEVEL };
+    ghost LEVEL = { 6 };
 
-    ghost units = { ⟦<Pair<Slices32<V>> as Sliced>⟧.units };
+    ghost units = { V.units };
 
-    ghost lane = { λ x. ⟦<Pair<Slices32<V>> as Sliced>⟧.lane x.inner };
+    ghost lane = { λ x. lanes_64 ⟦<Pair<Slices32<V>> as Sliced>⟧.lane x.inner };
 
-    ghost fits_law = { λ x. ⟦<Pair<Slices32<V>> as Sliced>⟧.fits_law x.inner };
+    ghost fits_law = { λ x. lanes_64-lt ⟦<Pair<Slices32<V>> as Sliced>⟧.lane (2 ^ 2 ^ 6) ⟦<Pair<Slices32<V>> as Sliced>⟧.fits_law x.inner };
 
     #[inline(always)]
+    #[tactic(auto, unfolding(crate::specs::Called::lanes_64))]
     fn level() -> usize {
         Pair::<Slices32<V>>::level()
     }
 
     #[inline(always)]
+    #[tactic(auto, unfolding(crate::specs::Called::lanes_64))]
     fn lanes() -> usize {
         V::lanes()
     }
 
     #[inline(always)]
+    #[tactic(auto, unfolding(crate::specs::Called::lanes_64))]
     fn zeros() -> Slices64<V> {
         Slices64 {
             inner: Pair::<Slices32<V>>::zeros(),
@@ -429,61 +487,73 @@ impl<V: Vector> Sliced for Slices64<V> {
     }
 
     #[inline(always)]
+    #[tactic(auto, unfolding(crate::specs::Called::lanes_64))]
     fn set_sum(&mut self, x: &Slices64<V>, y: &Slices64<V>) {
         self.inner.set_sum(&x.inner, &y.inner);
     }
 
     #[inline(always)]
+    #[tactic(auto, unfolding(crate::specs::Called::lanes_64))]
     fn add(&mut self, x: &Slices64<V>) {
         self.inner.add(&x.inner);
     }
 
     #[inline(never)]
+    #[tactic(auto, unfolding(crate::specs::Called::lanes_64))]
     fn set_product(&mut self, x: &Slices64<V>, y: &Slices64<V>) {
         self.inner.set_product(&x.inner, &y.inner);
     }
 
     #[inline(always)]
+    #[tactic(auto, unfolding(crate::specs::Called::lanes_64))]
     fn add_by_root(&mut self, x: &Slices64<V>) {
         self.inner.add_by_root(&x.inner);
     }
 
     #[inline(never)]
+    #[tactic(auto, unfolding(crate::specs::Called::lanes_64))]
     fn square(&mut self) {
         self.inner.square();
     }
 
     #[inline(never)]
+    #[tactic(auto, unfolding(crate::specs::Called::lanes_64))]
     fn set_inverse(&mut self, x: &Slices64<V>) {
         self.inner.set_inverse(&x.inner);
     }
 
     #[inline(always)]
+    #[tactic(auto, unfolding(crate::specs::Called::lanes_64))]
     fn set_quotient_by_root(&mut self, x: &Slices64<V>) {
         self.inner.set_quotient_by_root(&x.inner);
     }
 
     #[inline(never)]
+    #[tactic(auto, unfolding(crate::specs::Called::lanes_64))]
     fn set_sqrt(&mut self, x: &Slices64<V>) {
         self.inner.set_sqrt(&x.inner);
     }
 
     #[inline(always)]
+    #[tactic(auto, unfolding(crate::specs::Called::lanes_64))]
     fn exchange(x: &mut Slices64<V>, y: &mut Slices64<V>, level: usize) {
         Sliced::exchange(&mut x.inner, &mut y.inner, level);
     }
 
     #[inline(never)]
+    #[tactic(auto, unfolding(crate::specs::Called::lanes_64))]
     fn turn(&mut self) {
         self.inner.turn();
     }
 
     #[inline(always)]
+    #[tactic(auto, unfolding(crate::specs::Called::lanes_64))]
     fn read<W: TowerWord>(&mut self, words: &[W], start: usize) -> usize {
         self.inner.read(words, start)
     }
 
     #[inline(always)]
+    #[tactic(auto, unfolding(crate::specs::Called::lanes_64))]
     fn write<W: TowerWord>(&self, words: &mut [W], start: usize) -> usize {
         self.inner.write(words, start)
     }
@@ -493,6 +563,7 @@ impl<V: Vector> Sliced for Slices64<V> {
 
 impl<V: Vector> SlicedPolynomials<V> for Slices64<V> {
     #[inline(never)]
+    #[tactic(auto, unfolding(crate::specs::Called::lanes_64))]
     fn set_carryless_product(
         low: &mut Slices64<V>,
         high: &mut Slices64<V>,
@@ -508,11 +579,13 @@ impl<V: Vector> SlicedPolynomials<V> for Slices64<V> {
     }
 
     #[inline(always)]
+    #[tactic(auto, unfolding(crate::specs::Called::lanes_64))]
     fn set_carryless_square(low: &mut Slices64<V>, high: &mut Slices64<V>, x: &Slices64<V>) {
         SlicedPolynomials::set_carryless_square(&mut low.inner, &mut high.inner, &x.inner);
     }
 
     #[inline(always)]
+    #[tactic(auto, unfolding(crate::specs::Called::lanes_64))]
     fn add_by_tail<M: Tail>(&mut self, x: &Slices64<V>, carry: &mut Slices8<V>) {
         self.inner.add_by_tail::<M>(&x.inner, carry);
     }
@@ -531,25 +604,28 @@ pub struct Slices128<V> {
 }
 
 impl<V: Vector> Sliced for Slices128<V> {
-    ghost LEVEL = { ⟦<Pair<Slices64<V>> as Sliced>⟧.LEVEL };
+    ghost LEVEL = { 7 };
 
-    ghost units = { ⟦<Pair<Slices64<V>> as Sliced>⟧.units };
+    ghost units = { V.units };
 
-    ghost lane = { λ x. ⟦<Pair<Slices64<V>> as Sliced>⟧.lane x.inner };
+    ghost lane = { λ x. lanes_128 ⟦<Pair<Slices64<V>> as Sliced>⟧.lane x.inner };
 
-    ghost fits_law = { λ x. ⟦<Pair<Slices64<V>> as Sliced>⟧.fits_law x.inner };
+    ghost fits_law = { λ x. lanes_128-lt ⟦<Pair<Slices64<V>> as Sliced>⟧.lane (2 ^ 2 ^ 7) ⟦<Pair<Slices64<V>> as Sliced>⟧.fits_law x.inner };
 
     #[inline(always)]
+    #[tactic(auto, unfolding(crate::specs::Called::lanes_128))]
     fn level() -> usize {
         Pair::<Slices64<V>>::level()
     }
 
     #[inline(always)]
+    #[tactic(auto, unfolding(crate::specs::Called::lanes_128))]
     fn lanes() -> usize {
         V::lanes()
     }
 
     #[inline(always)]
+    #[tactic(auto, unfolding(crate::specs::Called::lanes_128))]
     fn zeros() -> Slices128<V> {
         Slices128 {
             inner: Pair::<Slices64<V>>::zeros(),
@@ -557,61 +633,73 @@ impl<V: Vector> Sliced for Slices128<V> {
     }
 
     #[inline(always)]
+    #[tactic(auto, unfolding(crate::specs::Called::lanes_128))]
     fn set_sum(&mut self, x: &Slices128<V>, y: &Slices128<V>) {
         self.inner.set_sum(&x.inner, &y.inner);
     }
 
     #[inline(always)]
+    #[tactic(auto, unfolding(crate::specs::Called::lanes_128))]
     fn add(&mut self, x: &Slices128<V>) {
         self.inner.add(&x.inner);
     }
 
     #[inline(never)]
+    #[tactic(auto, unfolding(crate::specs::Called::lanes_128))]
     fn set_product(&mut self, x: &Slices128<V>, y: &Slices128<V>) {
         self.inner.set_product(&x.inner, &y.inner);
     }
 
     #[inline(always)]
+    #[tactic(auto, unfolding(crate::specs::Called::lanes_128))]
     fn add_by_root(&mut self, x: &Slices128<V>) {
         self.inner.add_by_root(&x.inner);
     }
 
     #[inline(never)]
+    #[tactic(auto, unfolding(crate::specs::Called::lanes_128))]
     fn square(&mut self) {
         self.inner.square();
     }
 
     #[inline(never)]
+    #[tactic(auto, unfolding(crate::specs::Called::lanes_128))]
     fn set_inverse(&mut self, x: &Slices128<V>) {
         self.inner.set_inverse(&x.inner);
     }
 
     #[inline(always)]
+    #[tactic(auto, unfolding(crate::specs::Called::lanes_128))]
     fn set_quotient_by_root(&mut self, x: &Slices128<V>) {
         self.inner.set_quotient_by_root(&x.inner);
     }
 
     #[inline(never)]
+    #[tactic(auto, unfolding(crate::specs::Called::lanes_128))]
     fn set_sqrt(&mut self, x: &Slices128<V>) {
         self.inner.set_sqrt(&x.inner);
     }
 
     #[inline(always)]
+    #[tactic(auto, unfolding(crate::specs::Called::lanes_128))]
     fn exchange(x: &mut Slices128<V>, y: &mut Slices128<V>, level: usize) {
         Sliced::exchange(&mut x.inner, &mut y.inner, level);
     }
 
     #[inline(never)]
+    #[tactic(auto, unfolding(crate::specs::Called::lanes_128))]
     fn turn(&mut self) {
         self.inner.turn();
     }
 
     #[inline(always)]
+    #[tactic(auto, unfolding(crate::specs::Called::lanes_128))]
     fn read<W: TowerWord>(&mut self, words: &[W], start: usize) -> usize {
         self.inner.read(words, start)
     }
 
     #[inline(always)]
+    #[tactic(auto, unfolding(crate::specs::Called::lanes_128))]
     fn write<W: TowerWord>(&self, words: &mut [W], start: usize) -> usize {
         self.inner.write(words, start)
     }
@@ -621,6 +709,7 @@ impl<V: Vector> Sliced for Slices128<V> {
 
 impl<V: Vector> SlicedPolynomials<V> for Slices128<V> {
     #[inline(never)]
+    #[tactic(auto, unfolding(crate::specs::Called::lanes_128))]
     fn set_carryless_product(
         low: &mut Slices128<V>,
         high: &mut Slices128<V>,
@@ -636,11 +725,13 @@ impl<V: Vector> SlicedPolynomials<V> for Slices128<V> {
     }
 
     #[inline(always)]
+    #[tactic(auto, unfolding(crate::specs::Called::lanes_128))]
     fn set_carryless_square(low: &mut Slices128<V>, high: &mut Slices128<V>, x: &Slices128<V>) {
         SlicedPolynomials::set_carryless_square(&mut low.inner, &mut high.inner, &x.inner);
     }
 
     #[inline(always)]
+    #[tactic(auto, unfolding(crate::specs::Called::lanes_128))]
     fn add_by_tail<M: Tail>(&mut self, x: &Slices128<V>, carry: &mut Slices8<V>) {
         self.inner.add_by_tail::<M>(&x.inner, carry);
     }

@@ -1,4 +1,6 @@
 // The tails of two moduli, which are x^w and a tail of low degree: what multiplies by a tail bit by bit.
+#![tactic(auto, unfolding(crate::specs::Called::lanes_8))]
+
 ghost use Rattle.std.specs.Prelude.{◌≡◌, ◌/◌, ◌%◌, ℕ};
 ghost use Rattle.field_base.specs.Quadratic.{pair};
 ghost use Rattle.word_carryless.specs.Tail.{ghash_tail, poly64_tail};

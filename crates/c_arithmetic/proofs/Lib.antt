@@ -1,4 +1,3 @@
-pub mod BatchProducts
 mod ErasureCounts
 mod ErasureRestored
-mod WordSums
+pub mod LowNumbers

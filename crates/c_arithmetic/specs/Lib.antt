@@ -1,9 +1,10 @@
-pub mod Batch
 pub mod Bytes
 pub mod Calls
 pub mod Erasure
 pub mod Fields
 pub mod Fits
 pub mod Linear
+pub mod Low
+pub mod LowLemmas
 pub mod Transforms
 pub mod WideLemmas

@@ -12,6 +12,7 @@ mod messages;
 mod numbers;
 pub mod operations;
 mod polynomials;
+mod scalars;
 mod shards;
 pub mod slices;
 pub mod status;
@@ -20,10 +21,11 @@ mod wide;
 mod wide_level;
 mod words;
 
+pub use crate::batch::batch_invert;
 pub use crate::erasure::{erasure_encode, erasure_reconstruct, erasure_space, erasure_verify};
 pub use crate::linear::{map_bytes, map_wide};
 pub use crate::many::{
-    add_scaled, batch_invert, dot_product, invert, invert_in_place, multiply, multiply_by,
+    add_scaled, dot_product, invert, invert_in_place, multiply, multiply_by,
     multiply_by_in_place, multiply_in_place,
 };
 pub use crate::messages::{
@@ -31,6 +33,7 @@ pub use crate::messages::{
     hash_update_prepared, tags_are_equal,
 };
 pub use crate::polynomials::evaluate;
+pub use crate::scalars::{Words, truncate_all, truncated};
 pub use crate::shards::{
     add_shard, encode, encode_prepared, prepare, reconstruct, reconstruct_data, tables_length,
     verify, verify_prepared,

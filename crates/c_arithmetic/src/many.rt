@@ -4,7 +4,7 @@ ghost use Rattle.c_arithmetic.specs.Calls.{AddsScaled, Inverts, Multiplies, Mult
 ghost use Rattle.many_words.specs.Fields.{field_of};
 
 use crate::slices::{are_elements, write_each, write_each_of_two};
-use crate::{batch, status};
+use crate::status;
 use bit_slices::Vector;
 use field_base::Stored;
 use ghash_slices::Width;
@@ -167,19 +167,4 @@ pub fn invert_in_place<R: Stored, W: Holds<R>, K: Many<R, W>, V: Vector>(words: 
     }
     many_words::invert::<R, W, K, V>(words);
     status::OK
-}
-
-/// Writes the inverse of each word, and 0 for 0. Few words are a batch where that takes less: the inverse of one product, and three products
-/// a word.
-#[inline]
-pub fn batch_invert<R: Stored, W: Holds<R>, K: Many<R, W>, V: Vector>(
-    words: &[W],
-    inverses: &mut [W],
-) -> u32
-    ensures { Inverts (field_of W.number K.width K.product K.generator) words.now inverses.old inverses.new result }
-{
-    if words.len() < K::LEAST_IN_BATCH {
-        return batch::batch_invert::<R, W, K>(words, inverses);
-    }
-    invert::<R, W, K, V>(words, inverses)
 }

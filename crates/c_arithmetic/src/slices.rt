@@ -133,9 +133,9 @@ pub(crate) fn power_of<R: Stored, W: Holds<R>, K: FieldKernel<R>>(word: W, expon
     value
 }
 
-// Whether every word is an element. Where an element has as many bits as a word, nothing is left of the loop.
+/// Whether every word is an element. Where an element has as many bits as a word, nothing is left of the loop.
 #[inline]
-pub(crate) fn are_elements<R: Stored, W: Holds<R>, K: FieldKernel<R>>(words: &[W]) -> bool
+pub fn are_elements<R: Stored, W: Holds<R>, K: FieldKernel<R>>(words: &[W]) -> bool
     ensures { IsTrue result ↔ AreElements (field_of W.number K.width K.product K.generator) words.now }
 {
     for word in words {

@@ -6,8 +6,8 @@ use Rattle.field_matrices.specs.Matrices.{IsMatrixProduct, IsReducedEchelon, Hav
 use Rattle.many_words.specs.Words.{AreElements}
 use Rattle.many_words.specs.Fields.{WordField}
 use Rattle.c_matrices.specs.Matrices.{HasRank, IsReduced, entries}
-use Rattle.c_matrices.specs.Words.{low_number}
-use Rattle.c_matrices.proofs.LowNumbers.{low_elements}
+use Rattle.c_arithmetic.specs.Low.{low_number}
+use Rattle.c_arithmetic.proofs.LowNumbers.{low_elements}
 
 -- the entries of a matrix of so many columns, by its numbers
 abbrev pub entries_at : ℕ → List ℕ → ℕ → ℕ → ℕ

@@ -8,8 +8,8 @@ use Rattle.field_matrices.proofs.MatrixRows.{put-before, put-inside}
 use Rattle.many_words.specs.Words.{AreElements}
 use Rattle.many_words.specs.Fields.{WordField}
 use Rattle.c_matrices.specs.Matrices.{AreSolved, entries}
-use Rattle.c_matrices.specs.Words.{low_number}
-use Rattle.c_matrices.proofs.LowNumbers.{low_elements}
+use Rattle.c_arithmetic.specs.Low.{low_number}
+use Rattle.c_arithmetic.proofs.LowNumbers.{low_elements}
 
 -- two matrices that agree with two inverse ones are inverse
 pub inverse_same : (times : ℕ → ℕ → ℕ) (n : ℕ) (A B A' B' : ℕ → ℕ → ℕ) → ((i j : ℕ) → i < n → j < n → A' i j ≡ A i j)

@@ -1,5 +1,3 @@
 mod Calls
 mod Endings
 mod Equations
-mod LowNumbers
-mod RowSums

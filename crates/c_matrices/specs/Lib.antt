@@ -1,3 +1,1 @@
 pub mod Matrices
-pub mod WordLemmas
-pub mod Words

@@ -3,16 +3,17 @@ ghost use Rattle.std.specs.Prelude.{◌≡◌, length};
 ghost use Rattle.many_words.specs.Fields.{field_of};
 ghost use Rattle.c_matrices.specs.Matrices.{TakesDeterminant};
 
-use crate::elements::{are_elements, truncated};
-use crate::rows::AddsRows;
 use crate::shapes::has_shape;
-use crate::words::Words;
-use c_arithmetic::status;
-use field_base::{FieldKernel, Stored};
+use c_arithmetic::slices::are_elements;
+use c_arithmetic::{Words, status, truncated};
+use bit_slices::Vector;
+use field_base::Stored;
+use ghash_slices::Width;
+use many_words::Many;
 use tower_transforms::Holds;
 
 /// Writes the determinant of a matrix of `size` rows of as many words, in as much space; of no rows it is 1.
-pub fn determinant<R: Stored, W: Holds<R>, K: FieldKernel<R>, A: AddsRows<R, W, K>>(
+pub fn determinant<R: Stored, W: Holds<R>, K: Many<R, W>, V: Width + Vector>(
     matrix: &[W],
     size: u64,
     space: &mut [W],
@@ -29,7 +30,7 @@ pub fn determinant<R: Stored, W: Holds<R>, K: FieldKernel<R>, A: AddsRows<R, W, 
         return status::NOT_AN_ELEMENT;
     }
     space.copy_from_slice(matrix);
-    let value = field_matrices::determinant::<Words<R, W, K, A>>(space, size);
+    let value = field_matrices::determinant::<Words<R, W, K, V>>(space, size);
     *determinant = truncated::<R, W, K>(value);
     status::OK
 }

@@ -3,18 +3,19 @@ ghost use Rattle.std.specs.Prelude.{◌≡◌, length};
 ghost use Rattle.many_words.specs.Fields.{field_of};
 ghost use Rattle.c_matrices.specs.Matrices.{InvertsMatrix};
 
-use crate::elements::{are_elements, truncate_all};
-use crate::rows::AddsRows;
 use crate::shapes::has_shape;
 use crate::status::UNSOLVABLE;
-use crate::words::Words;
-use c_arithmetic::status;
-use field_base::{FieldKernel, Stored};
+use c_arithmetic::slices::are_elements;
+use c_arithmetic::{Words, status, truncate_all};
+use bit_slices::Vector;
+use field_base::Stored;
+use ghash_slices::Width;
+use many_words::Many;
 use field_matrices::{columns_into, invert_beside, put_columns};
 use tower_transforms::Holds;
 
 /// Writes the inverse of a matrix of `size` rows of as many words, in space for two matrices, and a place for each row.
-pub fn inverse<R: Stored, W: Holds<R>, K: FieldKernel<R>, A: AddsRows<R, W, K>>(
+pub fn inverse<R: Stored, W: Holds<R>, K: Many<R, W>, V: Width + Vector>(
     matrix: &[W],
     size: u64,
     inverse: &mut [W],
@@ -34,11 +35,11 @@ pub fn inverse<R: Stored, W: Holds<R>, K: FieldKernel<R>, A: AddsRows<R, W, K>>(
     if !are_elements::<R, W, K>(matrix) {
         return status::NOT_AN_ELEMENT;
     }
-    put_columns::<Words<R, W, K, A>>(space, matrix, size, size + size, 0, size);
-    if !invert_beside::<Words<R, W, K, A>>(space, size, places) {
+    put_columns::<Words<R, W, K, V>>(space, matrix, size, size + size, 0, size);
+    if !invert_beside::<Words<R, W, K, V>>(space, size, places) {
         return UNSOLVABLE;
     }
-    columns_into::<Words<R, W, K, A>>(inverse, space, size, size + size, size, size);
+    columns_into::<Words<R, W, K, V>>(inverse, space, size, size + size, size, size);
     truncate_all::<R, W, K>(inverse);
     status::OK
 }

@@ -4,15 +4,12 @@
 #![tactic(auto)]
 
 mod determinants;
-mod elements;
 mod inverses;
 mod products;
 mod reductions;
-pub mod rows;
 mod shapes;
 pub mod status;
 mod systems;
-mod words;
 
 pub use crate::determinants::determinant;
 pub use crate::inverses::inverse;

@@ -3,17 +3,18 @@ ghost use Rattle.std.specs.Prelude.{◌≡◌};
 ghost use Rattle.many_words.specs.Fields.{field_of};
 ghost use Rattle.c_matrices.specs.Matrices.{MultipliesMatrices};
 
-use crate::elements::{are_elements, truncate_all};
-use crate::rows::AddsRows;
 use crate::shapes::has_shape;
-use crate::words::Words;
-use c_arithmetic::status;
-use field_base::{FieldKernel, Stored};
+use c_arithmetic::slices::are_elements;
+use c_arithmetic::{Words, status, truncate_all};
+use bit_slices::Vector;
+use field_base::Stored;
+use ghash_slices::Width;
+use many_words::Many;
 use field_matrices::multiply_into;
 use tower_transforms::Holds;
 
 /// Writes the product of `left`, of `rows` rows of `inner` words, and `right`, of `inner` rows of `columns` words.
-pub fn multiply<R: Stored, W: Holds<R>, K: FieldKernel<R>, A: AddsRows<R, W, K>>(
+pub fn multiply<R: Stored, W: Holds<R>, K: Many<R, W>, V: Width + Vector>(
     left: &[W],
     right: &[W],
     product: &mut [W],
@@ -34,7 +35,7 @@ pub fn multiply<R: Stored, W: Holds<R>, K: FieldKernel<R>, A: AddsRows<R, W, K>>
     if !are_elements::<R, W, K>(left) || !are_elements::<R, W, K>(right) {
         return status::NOT_AN_ELEMENT;
     }
-    multiply_into::<Words<R, W, K, A>>(product, left, right, rows, inner, columns);
+    multiply_into::<Words<R, W, K, V>>(product, left, right, rows, inner, columns);
     truncate_all::<R, W, K>(product);
     status::OK
 }

@@ -3,17 +3,18 @@ ghost use Rattle.std.specs.Prelude.{◌≡◌, length};
 ghost use Rattle.many_words.specs.Fields.{field_of};
 ghost use Rattle.c_matrices.specs.Matrices.{ReducesRows, TakesRank};
 
-use crate::elements::{are_elements, truncate_all};
-use crate::rows::AddsRows;
 use crate::shapes::has_shape;
-use crate::words::Words;
-use c_arithmetic::status;
-use field_base::{FieldKernel, Stored};
+use c_arithmetic::slices::are_elements;
+use c_arithmetic::{Words, status, truncate_all};
+use bit_slices::Vector;
+use field_base::Stored;
+use ghash_slices::Width;
+use many_words::Many;
 use tower_transforms::Holds;
 
 /// Brings a matrix of `rows` rows of `columns` words to reduced row echelon form, and writes its rank. The first so many places of
 /// `pivots`, which has a place for each row, are the columns of the leading entries.
-pub fn row_reduce<R: Stored, W: Holds<R>, K: FieldKernel<R>, A: AddsRows<R, W, K>>(
+pub fn row_reduce<R: Stored, W: Holds<R>, K: Many<R, W>, V: Width + Vector>(
     matrix: &mut [W],
     rows: u64,
     columns: u64,
@@ -30,13 +31,13 @@ pub fn row_reduce<R: Stored, W: Holds<R>, K: FieldKernel<R>, A: AddsRows<R, W, K
     if !are_elements::<R, W, K>(matrix) {
         return status::NOT_AN_ELEMENT;
     }
-    *rank = field_matrices::row_reduce::<Words<R, W, K, A>>(matrix, rows, columns, pivots);
+    *rank = field_matrices::row_reduce::<Words<R, W, K, V>>(matrix, rows, columns, pivots);
     truncate_all::<R, W, K>(matrix);
     status::OK
 }
 
 /// Writes the rank of a matrix of `rows` rows of `columns` words, in as much space, and a place for each row.
-pub fn rank<R: Stored, W: Holds<R>, K: FieldKernel<R>, A: AddsRows<R, W, K>>(
+pub fn rank<R: Stored, W: Holds<R>, K: Many<R, W>, V: Width + Vector>(
     matrix: &[W],
     rows: u64,
     columns: u64,
@@ -58,6 +59,6 @@ pub fn rank<R: Stored, W: Holds<R>, K: FieldKernel<R>, A: AddsRows<R, W, K>>(
         return status::NOT_AN_ELEMENT;
     }
     space.copy_from_slice(matrix);
-    *rank = field_matrices::row_reduce::<Words<R, W, K, A>>(space, rows, columns, places);
+    *rank = field_matrices::row_reduce::<Words<R, W, K, V>>(space, rows, columns, places);
     status::OK
 }

@@ -3,19 +3,20 @@ ghost use Rattle.std.specs.Prelude.{◌≡◌, ◌↔◌, IsTrue, length};
 ghost use Rattle.many_words.specs.Fields.{field_of};
 ghost use Rattle.c_matrices.specs.Matrices.{HaveEquationLengths, SolvesEquations};
 
-use crate::elements::{are_elements, truncate_all};
-use crate::rows::AddsRows;
 use crate::shapes::has_shape;
 use crate::status::UNSOLVABLE;
-use crate::words::Words;
-use c_arithmetic::status;
-use field_base::{FieldKernel, Stored};
+use c_arithmetic::slices::are_elements;
+use c_arithmetic::{Words, status, truncate_all};
+use bit_slices::Vector;
+use field_base::Stored;
+use ghash_slices::Width;
+use many_words::Many;
 use field_matrices::{put_columns, solve_augmented};
 use tower_transforms::Holds;
 
 /// Writes a solution of linear equations: `matrix`, of `rows` rows of `columns` words, has the coefficients of an equation in each row,
 /// and `right` the right sides. It works in a row of one word more for each equation, and a place for each row.
-pub fn solve<R: Stored, W: Holds<R>, K: FieldKernel<R>, A: AddsRows<R, W, K>>(
+pub fn solve<R: Stored, W: Holds<R>, K: Many<R, W>, V: Width + Vector>(
     matrix: &[W],
     rows: u64,
     columns: u64,
@@ -42,9 +43,9 @@ pub fn solve<R: Stored, W: Holds<R>, K: FieldKernel<R>, A: AddsRows<R, W, K>>(
     if !are_elements::<R, W, K>(matrix) || !are_elements::<R, W, K>(right) {
         return status::NOT_AN_ELEMENT;
     }
-    put_columns::<Words<R, W, K, A>>(space, matrix, rows, columns + 1, 0, columns);
-    put_columns::<Words<R, W, K, A>>(space, right, rows, columns + 1, columns, 1);
-    if !solve_augmented::<Words<R, W, K, A>>(space, rows, columns + 1, solution, places) {
+    put_columns::<Words<R, W, K, V>>(space, matrix, rows, columns + 1, 0, columns);
+    put_columns::<Words<R, W, K, V>>(space, right, rows, columns + 1, columns, 1);
+    if !solve_augmented::<Words<R, W, K, V>>(space, rows, columns + 1, solution, places) {
         return UNSOLVABLE;
     }
     truncate_all::<R, W, K>(solution);

@@ -1,6 +1,8 @@
 // What matrices compute with.
 ghost use Rattle.std.specs.Prelude.{◌≡◌, ◌≢◌, ◌↔◌, ◌^◌, ◌<◌, ℕ, IsTrue, bit_xor, length, map};
-ghost use Rattle.field_base.specs.Field.{IsField};
+ghost use Rattle.std.specs.Simd.Lanes.{zip2};
+ghost use Rattle.field_base.specs.Field.{AreInverses, IsField};
+ghost use Rattle.field_base.specs.Powers.{dot_of};
 ghost use Rattle.field_matrices.specs.Matrices.{AreScaledSums};
 
 use field_base::traits::Field;
@@ -50,6 +52,55 @@ pub trait Scalars {
         ensures long { length sums.new ≡ length sums.old }
         ensures sums { AreScaledSums product (number scalar) (map number values.now) (map number sums.old) (map number sums.new) };
 
+    /// The square.
+    #[inline(always)]
+    fn square(x: Self::Value) -> Self::Value
+        ensures { number result ≡ product (number x) (number x) }
+    {
+        Self::multiply(x, x)
+    }
+
+    /// Adds to each value the other one at its place.
+    #[inline(always)]
+    fn add_each(values: &mut [Self::Value], others: &[Self::Value])
+        requires { length others.now ≡ length values.old }
+        ensures { map number values.new ≡ zip2 bit_xor (map number values.old) (map number others.now) }
+    {
+        for place in 0..values.len() {
+            values[place] = Self::add(values[place], others[place]);
+        }
+    }
+
+    /// Multiplies each value by the other one at its place.
+    fn multiply_each(values: &mut [Self::Value], others: &[Self::Value])
+        requires { length others.now ≡ length values.old }
+        ensures { map number values.new ≡ zip2 product (map number values.old) (map number others.now) }
+    {
+        for place in 0..values.len() {
+            values[place] = Self::multiply(values[place], others[place]);
+        }
+    }
+
+    /// Multiplies each value by the scalar.
+    fn multiply_by(values: &mut [Self::Value], scalar: Self::Value)
+        ensures { map number values.new ≡ map (λ x. product (number scalar) x) (map number values.old) };
+
+    /// The least number of values whose inverses `invert_each` gives in less time than one inverse and three products a value take.
+    #[inline(always)]
+    fn least_inverted() -> usize {
+        usize::MAX
+    }
+
+    /// Writes the inverse of each value, and 0 for 0.
+    fn invert_each(values: &[Self::Value], inverses: &mut [Self::Value])
+        requires { length inverses.old ≡ length values.now }
+        ensures { AreInverses product (map number values.now) (map number inverses.new) };
+
+    /// The sum of the products at each place.
+    fn dot(left: &[Self::Value], right: &[Self::Value]) -> Self::Value
+        requires { length left.now ≡ length right.now }
+        ensures { number result ≡ dot_of product number left.now right.now };
+
     ghost wide_law: { 0 < width };
 
     ghost field_law: { IsField width product };
@@ -94,9 +145,23 @@ impl<F: Field> Scalars for Elements<F> {
     }
 
     fn add_scaled(sums: &mut [F], scalar: F, values: &[F]) {
-        for place in 0..sums.len() {
-            sums[place] = sums[place] + scalar * values[place];
-        }
+        F::add_scaled(sums, scalar, values);
+    }
+
+    fn multiply_by(values: &mut [F], scalar: F) {
+        F::multiply_by(values, scalar);
+    }
+
+    fn least_inverted() -> usize {
+        F::LEAST_INVERTED
+    }
+
+    fn invert_each(values: &[F], inverses: &mut [F]) {
+        F::invert_each(values, inverses);
+    }
+
+    fn dot(left: &[F], right: &[F]) -> F {
+        F::dot_product_of_slices(left, right)
     }
 
     ghost wide_law = { F.wide_law };

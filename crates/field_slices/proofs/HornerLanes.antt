@@ -151,3 +151,7 @@ module _ (width unit : ℕ) (times : ℕ → ℕ → ℕ) (ring : IsRing width u
           ∙ ap (λ (xs : List A). value_of unit times repr xs a)
           (sym (append_assoc block (drop start cs) tail)
           ∙ ap (λ (xs : List A). xs ++ tail) (ap (λ (xs : List A). block ++ xs) (sym behind) ∙ take-append-drop size before))
+
+  -- the value depends on the numbers of the coefficients alone
+  pub value_of-numbers : {A : Type 0} (f g : A → ℕ) (cs : List A) → map f cs ≡ map g cs → value_of unit times f cs a ≡ value_of unit times g cs a
+  value_of-numbers f g cs same = sym (terms-numbers f 0 cs) ∙ ap (terms 0) same ∙ terms-numbers g 0 cs

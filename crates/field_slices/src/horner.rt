@@ -1,21 +1,30 @@
 // The value of a polynomial that is given by its coefficients.
 ghost use Rattle.std.specs.Prelude.{◌≡◌, ◌%◌, ◌≤◌, ◌++◌, length};
-ghost use Rattle.field_base.specs.Powers.{value_of};
+ghost use Rattle.field_base.specs.Powers.{repeated_square, value_of};
 
-use crate::sums::add_slice;
-use field_base::traits::{Field, PrimeCharacteristicRing};
+use field_base::traits::Field;
+use field_matrices::{Elements, Scalars};
 
 /// The value at `x` of the polynomial with these coefficients, lowest first: the sum of `coefficients[k]` times x^k; of no
-/// coefficients it is 0. By Horner's rule from the last coefficient down (D. E. Knuth, The Art of Computer Programming,
-/// volume 2, "Evaluation of Polynomials"), so with one product and one sum for each coefficient. From 512 coefficients on it goes by
-/// blocks of 128 and x^128, so that the products of a block are by one scalar. It takes no memory.
+/// coefficients it is 0. It is `value_at` of elements.
 pub fn evaluate<F: Field>(coefficients: &[F], x: F) -> F
     ensures { F.repr result ≡ value_of F.unit F.product F.repr coefficients.now (F.repr x) }
 {
+    value_at::<Elements<F>>(coefficients, x)
+}
+
+/// The value at `x` of the polynomial with these coefficients, lowest first, which are elements or words that stand for them. By Horner's
+/// rule from the last coefficient down (D. E. Knuth, The Art of Computer Programming, volume 2, "Evaluation of Polynomials"), so with one
+/// product and one sum for each coefficient. From 512 coefficients on it goes by blocks of 128 and x^128, so that the products of a block
+/// are by one scalar. It takes no memory.
+#[inline]
+pub fn value_at<S: Scalars>(coefficients: &[S::Value], x: S::Value) -> S::Value
+    ensures { S.number result ≡ value_of 1 S.product S.number coefficients.now (S.number x) }
+{
     if coefficients.len() < LEAST_IN_LANES {
-        evaluate_one_by_one(coefficients, x)
+        value_one_by_one::<S>(coefficients, x)
     } else {
-        evaluate_in_lanes(coefficients, x)
+        value_in_lanes::<S>(coefficients, x)
     }
 }
 
@@ -26,44 +35,55 @@ const LANES: usize = 128;
 const LEAST_IN_LANES: usize = 4 * LANES;
 
 // The same value by one chain: what is there times x, and the next coefficient.
-#[tactic(auto, using(field_base::proofs::Horner::horner_start, field_base::proofs::Horner::horner_step))]
-fn evaluate_one_by_one<F: Field>(coefficients: &[F], x: F) -> F
-    ensures { F.repr result ≡ value_of F.unit F.product F.repr coefficients.now (F.repr x) }
+#[inline]
+fn value_one_by_one<S: Scalars>(coefficients: &[S::Value], x: S::Value) -> S::Value
+    ensures { S.number result ≡ value_of 1 S.product S.number coefficients.now (S.number x) }
 {
-    let mut value = F::ZERO;
+    let mut value = S::zero();
     for place in (0..coefficients.len()).rev() {
-        value = value * x + coefficients[place];
+        value = S::add(S::multiply(value, x), coefficients[place]);
     }
     value
 }
 
 // The same value by as many chains as a block has coefficients, and then by one through their sums. These start as the last block, which
 // may be short, with zeros behind it. There are at least as many coefficients as sums, so that the sums fit in memory.
-fn evaluate_in_lanes<F: Field>(coefficients: &[F], x: F) -> F
+fn value_in_lanes<S: Scalars>(coefficients: &[S::Value], x: S::Value) -> S::Value
     requires { 128 ≤ length coefficients.now }
-    ensures { F.repr result ≡ value_of F.unit F.product F.repr coefficients.now (F.repr x) }
+    ensures { S.number result ≡ value_of 1 S.product S.number coefficients.now (S.number x) }
 {
     let (blocks, last) = coefficients.split_at(coefficients.len() / LANES * LANES);
-    let mut sums = [F::ZERO; LANES];
+    let mut sums = [S::zero(); LANES];
     sums[..last.len()].copy_from_slice(last);
-    add_blocks(&mut sums, blocks, x);
-    evaluate_one_by_one(&sums, x)
+    add_blocks::<S>(&mut sums, blocks, x);
+    value_one_by_one::<S>(&sums, x)
 }
 
 // Brings the coefficients of these blocks before the sums: for each block, from the last one down, the sums are multiplied by x^128, and
 // each gets the coefficient at its place.
-fn add_blocks<F: Field>(sums: &mut [F], blocks: &[F], x: F)
+fn add_blocks<S: Scalars>(sums: &mut [S::Value], blocks: &[S::Value], x: S::Value)
     requires size { length sums.old ≡ 128 }
     requires whole { length blocks.now % 128 ≡ 0 }
-    ensures { value_of F.unit F.product F.repr sums.new (F.repr x)
-        ≡ value_of F.unit F.product F.repr (blocks.now ++ sums.old) (F.repr x) }
+    ensures { value_of 1 S.product S.number sums.new (S.number x)
+        ≡ value_of 1 S.product S.number (blocks.now ++ sums.old) (S.number x) }
 {
-    let high = x.exp_power_of_2(7);
+    let high = squared::<S>(x, 7);
     let mut start = blocks.len();
     while start > 0 {
         let end = start;
         start -= LANES;
-        F::multiply_by(sums, high);
-        add_slice(sums, &blocks[start..end]);
+        S::multiply_by(sums, high);
+        S::add_each(sums, &blocks[start..end]);
     }
+}
+
+// The value squared `count` times.
+fn squared<S: Scalars>(x: S::Value, count: usize) -> S::Value
+    ensures { S.number result ≡ repeated_square 1 S.product count (S.number x) }
+{
+    let mut value = x;
+    for _ in 0..count {
+        value = S::square(value);
+    }
+    value
 }

@@ -4,7 +4,8 @@ ghost use Rattle.std.specs.Prelude.{◌≡◌, ◌≢◌, ◌<◌, ℕ, length, 
 ghost use Rattle.field_base.specs.Field.{AreInverses};
 ghost use Rattle.field_slices.specs.Inverses.{nonzero_product};
 
-use field_base::traits::{Field, PrimeCharacteristicRing};
+use field_base::traits::Field;
+use field_matrices::{Elements, Scalars};
 use std::alloc::{AllocError, Allocator};
 
 /// The inverses of the elements, place by place, with 0 for 0. Fewer than `F::LEAST_INVERTED` take one inverse, and three products for
@@ -36,50 +37,66 @@ pub fn batch_multiplicative_inverse_into<F: Field>(values: &[F], inverses: &mut 
     requires { length inverses.old ≡ length values.now }
     ensures { AreInverses F.product (map F.repr values.now) (map F.repr inverses.new) }
 {
-    if values.len() < F::LEAST_INVERTED {
-        let product = products_before(values, inverses);
-        inverses_from_products(values, inverses, product.inverse());
+    inverses_into::<Elements<F>>(values, inverses);
+}
+
+/// The same of values that are elements or words that stand for them.
+#[inline]
+pub fn inverses_into<S: Scalars>(values: &[S::Value], inverses: &mut [S::Value])
+    requires { length inverses.old ≡ length values.now }
+    ensures { AreInverses S.product (map S.number values.now) (map S.number inverses.new) }
+{
+    if values.len() < S::least_inverted() {
+        let product = products_before::<S>(values, inverses);
+        inverses_from_products::<S>(values, inverses, S::invert(product));
     } else {
-        F::invert_each(values, inverses);
+        S::invert_each(values, inverses);
     }
 }
 
-// Writes to each place the product of the elements before it, without zeros, and returns that of all. It is not 0.
-fn products_before<F: Field>(values: &[F], products: &mut [F]) -> F
+// Writes to each place the product of the values before it, without zeros, and returns that of all. It is not 0.
+#[inline]
+fn products_before<S: Scalars>(values: &[S::Value], products: &mut [S::Value]) -> S::Value
     requires { length products.old ≡ length values.now }
     ensures before { (i : ℕ) → i < length values.now
-        → slice_index (map F.repr products.new) i ≡ nonzero_product F.product (slice_index (map F.repr values.now)) i }
-    ensures whole { F.repr result ≡ nonzero_product F.product (slice_index (map F.repr values.now)) (length values.now) }
-    ensures nonzero { F.repr result ≢ 0 }
+        → slice_index (map S.number products.new) i ≡ nonzero_product S.product (slice_index (map S.number values.now)) i }
+    ensures whole { S.number result ≡ nonzero_product S.product (slice_index (map S.number values.now)) (length values.now) }
+    ensures nonzero { S.number result ≢ 0 }
 {
-    let mut product = F::ONE;
+    let mut product = S::one();
     for place in 0..values.len() {
         let value = values[place];
         products[place] = product;
-        if !value.is_zero() {
-            product = product * value;
+        if !S::is_zero(value) {
+            product = S::multiply(product, value);
         }
     }
     product
 }
 
-// Puts the inverse of each element in the place of the product of those before it. `inverse` is that of the product of all; from the
-// last place down it becomes that of the product of the elements before the place.
-fn inverses_from_products<F: Field>(values: &[F], products: &mut [F], inverse: F)
+// Puts the inverse of each value in the place of the product of those before it. `inverse` is that of the product of all; from the
+// last place down it becomes that of the product of the values before the place.
+#[inline]
+fn inverses_from_products<S: Scalars>(
+    values: &[S::Value],
+    products: &mut [S::Value],
+    inverse: S::Value,
+)
     requires length { length products.old ≡ length values.now }
     requires before { (i : ℕ) → i < length values.now
-        → slice_index (map F.repr products.old) i ≡ nonzero_product F.product (slice_index (map F.repr values.now)) i }
-    requires inverse { F.product (nonzero_product F.product (slice_index (map F.repr values.now)) (length values.now)) (F.repr inverse) ≡ 1 }
-    ensures { AreInverses F.product (map F.repr values.now) (map F.repr products.new) }
+        → slice_index (map S.number products.old) i ≡ nonzero_product S.product (slice_index (map S.number values.now)) i }
+    requires inverse { S.product (nonzero_product S.product (slice_index (map S.number values.now)) (length values.now)) (S.number inverse)
+        ≡ 1 }
+    ensures { AreInverses S.product (map S.number values.now) (map S.number products.new) }
 {
     let mut rest = inverse;
     for place in (0..values.len()).rev() {
         let value = values[place];
-        if value.is_zero() {
-            products[place] = F::ZERO;
+        if S::is_zero(value) {
+            products[place] = S::zero();
         } else {
-            products[place] = rest * products[place];
-            rest = rest * value;
+            products[place] = S::multiply(rest, products[place]);
+            rest = S::multiply(rest, value);
         }
     }
 }

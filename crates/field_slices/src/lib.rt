@@ -15,10 +15,10 @@ mod rounds;
 mod sums;
 
 pub use crate::cube::{eq_poly, eq_poly_into, evaluate_multilinear, fold};
-pub use crate::horner::evaluate;
+pub use crate::horner::{evaluate, value_at};
 pub use crate::inversion::{
     batch_multiplicative_inverse, batch_multiplicative_inverse_in_place,
-    batch_multiplicative_inverse_into,
+    batch_multiplicative_inverse_into, inverses_into,
 };
 pub use crate::laws::{corner_values_extend, first_coordinate_is_linear, folding_evaluates};
 pub use crate::nodes::interpolate_at_nodes;

@@ -12,6 +12,7 @@ pub(crate) fn bytes_from<W: WideWord>(values: &[W], start: usize) -> [u8; 256]
     requires { start ≤ length values.now }
     ensures { HoldBytes result (λ e. slice_index (map W.value values.now) (start + e)) }
 {
+    W::numbers_fit(values);
     let mut bytes = [0; 256];
     for place in 0..count_from(values.len(), start) {
         put_lanes(

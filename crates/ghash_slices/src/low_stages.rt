@@ -168,6 +168,7 @@ fn transform_run<V: Width, W: WideWord>(
     run_stage::<V, W>(values, start, 2, twiddles, low);
     run_stage::<V, W>(values, start, 1, twiddles, low);
     run_stage::<V, W>(values, start, 0, twiddles, low);
+    W::numbers_fit(values);
 }
 
 // One stage of that run, pair by pair: two places whose numbers differ in the bit of the stage alone are a pair.
@@ -186,6 +187,7 @@ fn run_stage<V: Width, W: WideWord>(
     ensures before { (p : ℕ) → p < start → slice_index (map W.value values.new) p ≡ slice_index (map W.value values.old) p }
     ensures behind { (p : ℕ) → start + 16 ≤ p → slice_index (map W.value values.new) p ≡ slice_index (map W.value values.old) p }
 {
+    W::numbers_fit(values);
     let half = half_of(bit);
     for turn in 0..2 {
         let first = start + lower_of(4 * turn, half);

@@ -1,15 +1,11 @@
 // Words that hold numbers of 128 bits.
-ghost use Rattle.std.specs.Prelude.{◌≡◌, ℕ, ◌%◌, ◌^◌, ◌<◌, length, map, slice_index, slice_set};
-ghost use native.Mathlib.Nat.{mod-lt};
-ghost use Rattle.std.proofs.lemmas.Nat.{pow_pos};
+ghost use Rattle.std.specs.Prelude.{◌≡◌, ℕ, ◌^◌, ◌<◌, length, map, slice_index, slice_set};
 
 /// A word that holds a number of 128 bits, an element of the field of GHASH: the number itself, or its halves as other languages have
 /// them. What works on slices of numbers works on slices of such words where they lie.
 pub trait WideWord: Copy {
     // The number that a word holds.
     ghost value: { Self → ℕ };
-
-    ghost range_law: { (x : Self) → value x < 2 ^ 128 };
 
     /// The number that it holds.
     fn number(self) -> u128
@@ -18,12 +14,14 @@ pub trait WideWord: Copy {
     /// The word that holds this number.
     fn of_number(number: u128) -> Self
         ensures { Self.value result ≡ number };
+
+    /// States that words hold numbers of 128 bits.
+    fn numbers_fit(words: &[Self])
+        ensures { (p : ℕ) → slice_index (map Self.value words.now) p < 2 ^ 128 };
 }
 
 impl WideWord for u128 {
-    ghost value = { λ x. x % 2 ^ 128 };
-
-    ghost range_law = { λ x. mod-lt x (pow_pos 128) };
+    ghost value = { λ x. x };
 
     #[inline(always)]
     fn number(self) -> u128 {
@@ -34,6 +32,9 @@ impl WideWord for u128 {
     fn of_number(number: u128) -> u128 {
         number
     }
+
+    #[inline(always)]
+    fn numbers_fit(words: &[u128]) {}
 }
 
 /// The number at a place, which has to be inside of the slice.
@@ -58,5 +59,5 @@ pub fn put_number<W: WideWord>(words: &mut [W], place: usize, number: u128)
 /// read.
 #[inline(always)]
 pub fn numbers_are_values(numbers: &[u128])
-    ensures { map (λ x. x % 2 ^ 128) numbers.now ≡ numbers.now }
+    ensures { map (λ x. x) numbers.now ≡ numbers.now }
 {}

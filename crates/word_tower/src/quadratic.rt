@@ -14,7 +14,6 @@ use field_base::{Stored, Unsigned};
 /// The product of two elements, by three products of the level below:
 /// (a0 + a1 X)(b0 + b1 X) = (a0 b0 + a1 b1) + ((a0 + a1)(b0 + b1) + a0 b0 + a1 b1 + t a1 b1) X.
 #[inline]
-#[tactic(auto, using(crate::proofs::Halves::product_lt))]
 pub fn multiply<R: Unsigned, E: Extension<R>>(a: R, b: R) -> R
     ensures { R.number result ≡ tower_mul (suc E.Below.LEVEL) (R.number a) (R.number b) }
 {
@@ -28,7 +27,6 @@ pub fn multiply<R: Unsigned, E: Extension<R>>(a: R, b: R) -> R
 
 /// The product of two elements by its definition, from three products of the level below that are by definition, too.
 #[inline]
-#[tactic(auto, using(crate::proofs::Halves::product_lt))]
 pub fn reference_multiply<R: Unsigned, E: Extension<R>>(a: R, b: R) -> R
     ensures { R.number result ≡ tower_mul (suc E.Below.LEVEL) (R.number a) (R.number b) }
 {
@@ -42,7 +40,6 @@ pub fn reference_multiply<R: Unsigned, E: Extension<R>>(a: R, b: R) -> R
 
 /// The square of an element: (a0 + a1 X)² = (a0² + a1²) + t a1² X.
 #[inline]
-#[tactic(auto, using(crate::proofs::Halves::product_lt, crate::proofs::Halves::sum_lt))]
 pub fn square<R: Unsigned, E: Extension<R>>(a: R) -> R
     ensures { R.number result ≡ tower_mul (suc E.Below.LEVEL) (R.number a) (R.number a) }
 {
@@ -54,7 +51,6 @@ pub fn square<R: Unsigned, E: Extension<R>>(a: R) -> R
 
 /// The product by the root: X (a0 + a1 X) = a1 + (a0 + t a1) X.
 #[inline]
-#[tactic(auto, using(crate::proofs::Halves::product_lt, crate::proofs::Halves::sum_lt))]
 pub fn multiply_by_root<R: Unsigned, E: Extension<R>>(a: R) -> R
     ensures { R.number result ≡ tower_mul (suc E.Below.LEVEL) (root (suc E.Below.LEVEL)) (R.number a) }
 {
@@ -64,7 +60,6 @@ pub fn multiply_by_root<R: Unsigned, E: Extension<R>>(a: R) -> R
 
 /// The quotient by the root: (a0 + a1 X) / X = (a1 + t a0) + a0 X.
 #[inline]
-#[tactic(auto, using(crate::proofs::Halves::product_lt, crate::proofs::Halves::sum_lt))]
 pub fn divide_by_root<R: Unsigned, E: Extension<R>>(a: R) -> R
     requires { R.number a < 2 ^ 2 ^ suc E.Below.LEVEL }
     ensures { tower_mul (suc E.Below.LEVEL) (root (suc E.Below.LEVEL)) (R.number result) ≡ R.number a }
@@ -104,7 +99,6 @@ pub fn invert<R: Unsigned, E: Extension<R>>(a: R) -> R
 
 // The low half a0 + t a1 of the conjugate of a0 + a1 X.
 #[inline]
-#[tactic(auto, using(crate::proofs::Halves::product_lt, crate::proofs::Halves::sum_lt))]
 fn conjugate_low<R: Unsigned, E: Extension<R>>(low: E::Half, high: E::Half) -> E::Half
     ensures { let k = E.Below.LEVEL in E.Half.number result ≡ bit_xor (E.Half.number low) (tower_mul k (root k) (E.Half.number high)) }
 {

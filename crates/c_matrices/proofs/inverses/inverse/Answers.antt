@@ -3,10 +3,10 @@ use Rattle.std.specs.Prelude.{slice_index}
 use Rattle.field_matrices.specs.Matrices.{entry_of}
 use Rattle.many_words.specs.Fields.{field_of}
 use Rattle.c_matrices.specs.Matrices.{entries}
-use Rattle.c_matrices.specs.Words.{low_number}
+use Rattle.c_arithmetic.specs.Low.{low_number}
 use Rattle.c_matrices.proofs.Endings.{call_solved, call_unsolved}
 use Rattle.c_matrices.proofs.Equations.{first_entry, inverse_same}
-use Rattle.c_matrices.proofs.LowNumbers.{now_elements, now_numbers}
+use Rattle.c_arithmetic.proofs.LowNumbers.{now_elements, now_numbers}
 use Rattle.c_matrices.proofs.inverses.inverse.Goals as goal
 
 pub returns-then-not-invert_beside : goal.returns-then-not-invert_beside

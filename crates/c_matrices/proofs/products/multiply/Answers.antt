@@ -1,7 +1,7 @@
 use Rattle.many_words.specs.Fields.{field_of}
 use Rattle.c_matrices.proofs.Calls.{product_is}
 use Rattle.c_matrices.proofs.Endings.{call_done}
-use Rattle.c_matrices.proofs.LowNumbers.{now_numbers}
+use Rattle.c_arithmetic.proofs.LowNumbers.{now_numbers}
 use Rattle.c_matrices.proofs.products.multiply.Goals as goal
 
 pub returns : goal.returns

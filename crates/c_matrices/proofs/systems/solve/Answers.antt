@@ -2,10 +2,10 @@ use Rattle.std.proofs.Common.{ℕ, ◌+◌, List, length, map, sym, subst}
 use Rattle.std.specs.Prelude.{slice_index}
 use Rattle.field_matrices.specs.Matrices.{IsSolution, entry_of}
 use Rattle.many_words.specs.Fields.{field_of}
-use Rattle.c_matrices.specs.Words.{low_number}
+use Rattle.c_arithmetic.specs.Low.{low_number}
 use Rattle.c_matrices.proofs.Endings.{call_solved, call_unsolved}
 use Rattle.c_matrices.proofs.Equations.{is_solution, solution_is}
-use Rattle.c_matrices.proofs.LowNumbers.{now_elements, now_numbers}
+use Rattle.c_arithmetic.proofs.LowNumbers.{now_elements, now_numbers}
 use Rattle.c_matrices.proofs.systems.solve.Goals as goal
 
 pub returns-then-not-solve_augmented : goal.returns-then-not-solve_augmented

@@ -6,7 +6,7 @@ use Rattle.field_slices.proofs.inversion.products_before.Given as goal
 -- the places before this one hold the products before them, and the product so far is that of all elements before
 abbrev pub invariant-loop-place : goal.invariant-loop-place
 invariant-loop-place g l =
-    let field = g.F.Represented in
-    let number = slice_index (map field.repr l.values) in
-    ((i : ℕ) → i < l.place → slice_index (map field.repr l.products) i ≡ nonzero_product field.product number i)
-    × (field.repr l.product ≡ nonzero_product field.product number l.place)
+    let s = g.S.Scalars in
+    let number = slice_index (map s.number l.values) in
+    ((i : ℕ) → i < l.place → slice_index (map s.number l.products) i ≡ nonzero_product s.product number i)
+    × (s.number l.product ≡ nonzero_product s.product number l.place)

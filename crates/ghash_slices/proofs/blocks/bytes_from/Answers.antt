@@ -2,7 +2,6 @@ use Rattle.std.proofs.Common.{◌+◌, ◌<◌, map, sym, ◌∙◌, ap, subst, 
 use Rattle.std.specs.Simd.Lanes.{digits_l}
 use Rattle.std.proofs.lemmas.List.{length-map}
 use Rattle.ghash_slices.proofs.BlockLemmas.{bytes_end, bytes_start, bytes_step, BytesSoFar}
-use Rattle.ghash_slices.proofs.WordValues.{values_fit}
 use Rattle.ghash_slices.proofs.blocks.bytes_from.Goals as goal
 
 pub loop-place-init : goal.loop-place-init
@@ -24,7 +23,7 @@ returns g c =
     let count = c.count_from-place-end in
     let all = count.ensures.few in
     bytes_end (map value c.args.values.now) c.args.start place c.loop-place.bytes
-    (values_fit 128 value g.W.WideWord.range_law c.args.values.now) (omega arith)
+    c.numbers_fit.ensures (omega arith)
     (λ short. let few : count.result < 16 = omega arith in
     let end = count.ensures.all few in omega (arith, end, length-map c.args.values.now value))
     c.loop-place.invariant

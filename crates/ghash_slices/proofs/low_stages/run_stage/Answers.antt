@@ -4,7 +4,6 @@ use Rattle.std.proofs.lemmas.List.{length-map}
 use Rattle.ghash_slices.specs.LowStages.{ghash_product}
 use Rattle.ghash_slices.proofs.RunPlaces.{upper_inside}
 use Rattle.ghash_slices.proofs.RunStages.{pair_added, StageSoFar, stage_ends, stage_starts}
-use Rattle.ghash_slices.proofs.WordValues.{values_fit}
 use Rattle.ghash_slices.proofs.low_stages.run_stage.Goals as goal
 
 pub overflow_add-first_upper : goal.overflow_add-first_upper
@@ -88,7 +87,7 @@ loop-turn-preserved g c =
     let old = map value c.args.values.now in
     let values = map value c.loop-turn.values in
     let whole : start + 16 ≤ length old = omega (arith, c.requires.whole, length-map c.args.values.now value) in
-    let fits = values_fit 128 value g.W.WideWord.range_law c.args.values.now in
+    let fits = c.numbers_fit.ensures in
     let few : 4 * turn + 3 < 8 = omega arith in
     let half = c.half_of-half in
     let products = c.multiply_four-products in

@@ -1,5 +1,5 @@
-use Rattle.ghash_slices.proofs.WordValues.{own_low}
+use Rattle.std.proofs.lemmas.List.{map-id}
 use Rattle.ghash_slices.proofs.words.numbers_are_values.Goals as goal
 
 pub returns : goal.returns
-returns c = own_low c.args.numbers.now (λ p. (c.type_inv.numbers p).fits)
+returns c = map-id c.args.numbers.now

@@ -1,4 +1,5 @@
 use Rattle.std.proofs.Common.{◌≡◌, ◌%◌, ◌/◌, ℕ, refl, sym, ◌∙◌, ap}
+use Rattle.bit_slices.specs.Called.{lanes_8}
 use Rattle.bit_slices.specs.Lanes.{bit_lane}
 use Rattle.bit_slices.specs.LaneLemmas.{bit_lane-lt}
 use Rattle.bit_slices.specs.Tails.{tail_product}
@@ -6,6 +7,7 @@ use Rattle.bit_slices.proofs.TailSteps.{four, poly64_added, step_carried, step_l
 use Rattle.bit_slices.proofs.tails.Poly64TailTail.step.Goals as goal
 
 pub returns-clause-lowest : goal.returns-clause-lowest
+unfolding lanes_8
 returns-clause-lowest g c l =
     let words = g.V.WordVector.words in
     let bit = bit_lane (words c.args.bit.now.words) l in
@@ -15,6 +17,7 @@ returns-clause-lowest g c l =
     ∙ ap (λ (z : ℕ). tail_product 27 bit z % 2) (sym (c.shift_down-lowest.ensures l))
 
 pub returns-clause-carried : goal.returns-clause-carried
+unfolding lanes_8
 returns-clause-carried g c l =
     let words = g.V.WordVector.words in
     let bit = bit_lane (words c.args.bit.now.words) l in
