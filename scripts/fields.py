@@ -8,7 +8,7 @@
     tests/              the definitions that every function of the library is compared with
 
 What a crate says of the fields by hand is compared with the rows by `fields.py --check`: the names on the calculator's lines, and the
-kernels of crates/c_arithmetic.
+kernels of crates/c_calls.
 """
 
 import dataclasses
@@ -39,7 +39,7 @@ class Field:
     about: str
     # The generator of the multiplicative group that the library names.
     generator: int
-    # The kernel that computes in the field, as crates/c_arithmetic names it, and the field in contracts.
+    # The kernel that computes in the field, as crates/c_calls names it, and the field in contracts.
     kernel: str
     contract: str
     # The level of the tower, or the modulus and the images of the tower's roots; the cubic extension has neither.
@@ -164,11 +164,11 @@ def wrong_names():
         found = re.findall(pattern, (files.TOP / path).read_text(encoding="utf-8"), re.MULTILINE)
         if found != names:
             yield f"{path} has the fields {', '.join(found)}, and the rows {', '.join(names)}"
-    kernels = (files.CRATES / "c_arithmetic/src/lib.rt").read_text(encoding="utf-8")
+    kernels = (files.CRATES / "c_calls/src/lib.rt").read_text(encoding="utf-8")
     for it in FIELDS:
         for name in re.findall(r"\w+", it.kernel):
             if not re.search(rf"^pub use .*?\b{name}\b.*?;", kernels, re.MULTILINE | re.DOTALL):
-                yield f"crates/c_arithmetic has no {name}, of the kernel of {it.name}"
+                yield f"crates/c_calls has no {name}, of the kernel of {it.name}"
         if it.generator >> it.bits:
             yield f"the generator of {it.name} is no element"
 

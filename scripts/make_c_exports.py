@@ -2,7 +2,7 @@
 """Writes the exported functions of crates/binary_field_c/src/, a file for each field and for each group of other functions, from the
 tables of fields.py and c_library.py. With --check it compares instead.
 
-An exported function has no type parameter, and a macro cannot write it; each passes its slices on to a function of c_arithmetic, which
+An exported function has no type parameter, and a macro cannot write it; each passes its slices on to a function of c_calls, which
 has the same contract. Only lib.rt is written by hand.
 """
 import re
@@ -46,7 +46,7 @@ generator      slices::generator          NamesGenerator
 CALLS = {row[0]: row[1:3] for row in CALL_ROWS}
 OPERATIONS = {row[0]: row[3] for row in CALL_ROWS if len(row) > 3}
 
-# The vectors that the calls work in, and the functions of c_arithmetic of no field over a type of vectors.
+# The vectors that the calls work in, and the functions of c_calls of no field over a type of vectors.
 NARROW, WIDE = "u64x2", "u64x4"
 WITH_WIDTH = {
     "butterfly_forward", "butterfly_inverse", "low_stages", "transform", "inverse_transform", "hash", "hash_update", "hash_update_padded",
@@ -59,7 +59,7 @@ IN_TURNS = {"square", "square_root"}
 # The function whose loops may, and the field of an operation that a parameter goes into.
 MAY_TAKE_TURNS, OPERANDS = "slices::write_each", {"Power": "exponent"}
 
-# The functions of no field and of the stages: the file, the function of c_arithmetic, and the contract.
+# The functions of no field and of the stages: the file, the function of c_calls, and the contract.
 OTHER_CALLS = {row.split()[0]: row.split(maxsplit=3)[1:] for row in """\
 r8_linear_map           linear      map_bytes          MapsLinearly itself 8 images.now values.now mapped.old mapped.new result
 g128_linear_map         linear      map_wide           MapsLinearly wide_number 128 images.now values.now mapped.old mapped.new result
@@ -151,18 +151,18 @@ HOMES = {
     "tags.specs.Pieces": ["ghash_from", "polyval_from"],
     "tags.specs.Polyval": ["polyval"],
     "tags.specs.Prepared": ["ghash_prepared", "polyval_prepared"],
-    "c_arithmetic.specs.Bytes": ["AddsOneShard", "Compares", "Encodes", "EncodesPrepared", "Hashes", "HashesPrepared", "Prepares", "PreparesKey", "Reconstructs", "TellsTablesLength", "Verifies", "VerifiesPrepared"],
-    "c_arithmetic.specs.Erasure": ["EncodesErasure", "ReconstructsErasure", "TellsSpace", "VerifiesErasure"],
-    "c_arithmetic.specs.Linear": ["MapsLinearly"],
-    "c_arithmetic.specs.Transforms": [
+    "c_calls.specs.Bytes": ["AddsOneShard", "Compares", "Encodes", "EncodesPrepared", "Hashes", "HashesPrepared", "Prepares", "PreparesKey", "Reconstructs", "TellsTablesLength", "Verifies", "VerifiesPrepared"],
+    "c_calls.specs.Erasure": ["EncodesErasure", "ReconstructsErasure", "TellsSpace", "VerifiesErasure"],
+    "c_calls.specs.Linear": ["MapsLinearly"],
+    "c_calls.specs.Transforms": [
         "ButterfliesForward", "ButterfliesInverse", "InvertsLevelTransform", "InvertsTransform", "RunsLowStages", "Transforms", "TransformsLevel",
     ],
-    "c_arithmetic.specs.Calls": sorted({word for _, word in CALLS.values()} | {"TakesImages", "TakesPreimages"}),
-    "c_arithmetic.specs.Fields": [
+    "c_calls.specs.Calls": sorted({word for _, word in CALLS.values()} | {"TakesImages", "TakesPreimages"}),
+    "c_calls.specs.Fields": [
         "cubic_field", "ghash_field", "level_field", "poly64_field", "wide_level_field", "wide_number",
     ],
     "many_words.specs.Fields": ["itself", "rijndael_field"],
-    "c_matrices.specs.Matrices": ["InvertsMatrix", "MultipliesMatrices", "ReducesRows", "SolvesEquations", "TakesDeterminant", "TakesRank"],
+    "c_calls.specs.Matrices": ["InvertsMatrix", "MultipliesMatrices", "ReducesRows", "SolvesEquations", "TakesDeterminant", "TakesRank"],
 }
 
 # The columns of a line of code, of those that `rt fmt` does not break, and of a contract.
@@ -252,16 +252,16 @@ def called_over_words(field, call, more):
 
 
 def of_width(call, vector):
-    """The call of a function of c_arithmetic, over vectors of that type where it has a type of vectors, which stands behind its other types."""
+    """The call of a function of c_calls, over vectors of that type where it has a type of vectors, which stands behind its other types."""
     name, _, types = call.partition("::<")
     if name not in WITH_WIDTH:
-        return f"c_arithmetic::{call}"
-    return f"c_arithmetic::{name}::<{types.replace('>', ', ')}{vector}>"
+        return f"c_calls::{call}"
+    return f"c_calls::{name}::<{types.replace('>', ', ')}{vector}>"
 
 
 def called_on_many(field, name, vector):
     """The call of a function over the fields of `Many`, in vectors of that type."""
-    return called_over(field, f"c_arithmetic::{CALLS[name][0]}", f", {vector}")
+    return called_over(field, f"c_calls::{CALLS[name][0]}", f", {vector}")
 
 
 def field_function(field, name, parameters, text):
@@ -285,7 +285,7 @@ def field_function(field, name, parameters, text):
 def matrix_function(field, name, parameters, text, vector=NARROW):
     """A function of matrices over a field, whose rows are added in vectors of that type."""
     own = name.removesuffix("_wide")
-    called = called_over(field, f"c_matrices::{own.removeprefix('matrix_')}", f", InVectors<{vector}>")
+    called = called_over(field, f"c_calls::matrices::{own.removeprefix('matrix_')}", f", {vector}")
     named = f"({field.contract})" if " " in field.contract else field.contract
     return function(f"{field.name}_{name}", parameters, text, called, MATRIX_CALLS[own].format(named))
 
@@ -344,10 +344,10 @@ def in_order(name):
 
 def import_of(names):
     """The import of several names, in lines as `rt fmt` breaks them."""
-    line = f"use c_arithmetic::{{{names}}};"
+    line = f"use c_calls::{{{names}}};"
     if len(line) <= COLUMNS:
         return line
-    return "\n".join(["use c_arithmetic::{", textwrap.fill(f"{names},", COLUMNS, initial_indent=" " * 4, subsequent_indent=" " * 4), "};"])
+    return "\n".join(["use c_calls::{", textwrap.fill(f"{names},", COLUMNS, initial_indent=" " * 4, subsequent_indent=" " * 4), "};"])
 
 
 def used(bodies):
@@ -356,12 +356,9 @@ def used(bodies):
     parameters = " ".join(re.findall(r"::<([^(]+)>\(", bodies))
     named = set(re.findall(r"(?<![:\w])[A-Z]\w+", parameters)) | set(re.findall(r"(?<![:\w])(slices|in_place)::", bodies))
     named |= {it for it in [*WORDS.values(), *STORED.values()] if re.search(rf"\b{it}\b", bodies)}
-    rows = named & {"InVectors"}
-    named -= rows
-    lines = [f"use c_arithmetic::operations::{{{', '.join(operations)}}};"] if operations else []
+    lines = [f"use c_calls::operations::{{{', '.join(operations)}}};"] if operations else []
     if named:
-        lines.append(import_of(", ".join(sorted(named, key=in_order))) if len(named) > 1 else f"use c_arithmetic::{named.pop()};")
-    lines += [f"use c_matrices::rows::{it};" for it in rows]
+        lines.append(import_of(", ".join(sorted(named, key=in_order))) if len(named) > 1 else f"use c_calls::{named.pop()};")
     lines += ["use std::simd::prelude::*;"] if re.search(rf"\b({NARROW}|{WIDE})\b", bodies) else []
     return [*lines, ""] if lines else []
 

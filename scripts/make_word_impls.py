@@ -523,7 +523,7 @@ use crate::words::{WordStream, into_word_stream};
         yield STREAMS.substitute(bits=bits, size=bits // 8)
 
 
-# ---- all integers of Rust as numbers (field_integers)
+# ---- all integers of Rust as numbers (field_base)
 
 INTEGER = Template("""\
 impl Integer for $integer {
@@ -553,7 +553,7 @@ use crate::integer::Integer;
             yield INTEGER.substitute(integer=f"{sign}{bits}", value=value)
 
 
-# ---- the unsigned integers of Rust by their bytes in vectors (tower_transforms)
+# ---- the unsigned integers of Rust by their bytes in vectors (additive_transforms)
 
 STORED_BYTES = Template("""\
 impl StoredBytes for u$bits {
@@ -594,7 +594,7 @@ def word_bytes():
     yield """\
 // The unsigned integers of Rust as words that are read into vectors of their bytes. Words of 128 bits have an impl for all that hold them.
 ghost use Rattle.std.specs.Prelude.{refl};
-ghost use Rattle.tower_transforms.specs.ChunkLemmas.{no_halves, one_half, two_halves, three_halves};
+ghost use Rattle.additive_transforms.specs.ChunkLemmas.{no_halves, one_half, two_halves, three_halves};
 
 use crate::word_bytes::{StoredBytes, WordBytes};
 use std::simd::prelude::*;
@@ -627,7 +627,7 @@ if __name__ == "__main__":
             "bits_rows/src/pairs.rt": row_pairs,
             "field_bytes/src/little_endian/impls.rt": little_endian,
             "field_bytes/src/sized_words.rt": streams,
-            "field_integers/src/integer/impls.rt": integers,
-            "tower_transforms/src/word_bytes/impls.rt": word_bytes,
+            "field_base/src/integer/impls.rt": integers,
+            "additive_transforms/src/word_bytes/impls.rt": word_bytes,
         },
     )

@@ -8,7 +8,7 @@ use lib.Bits.{xor_comm, xor_zero_r}
 use Rattle.field_base.specs.Basis.{sum_below, product_below}
 use Rattle.field_base.specs.Ring.{IsRing}
 use Rattle.field_base.proofs.RingLemmas.{mod-times, sum_times, times-mod, times-zero}
-use Rattle.field_laws.proofs.Polynomials.{IsPolynomial, polynomial-more, polynomial-same, polynomial-scale, polynomial-shift, polynomial-sum}
+use Rattle.field_base.proofs.Polynomials.{IsPolynomial, polynomial-more, polynomial-same, polynomial-scale, polynomial-shift, polynomial-sum}
 use Rattle.ghash_slices.specs.Cantor.{polynomial_value, subspace_value}
 use Rattle.ghash_slices.specs.Stages.{factors_at, sum_of_factors}
 use Rattle.additive_transforms.proofs.CantorSums.{value-halves}

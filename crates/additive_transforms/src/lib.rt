@@ -7,27 +7,73 @@
 //! `inverse_with` takes those values back to the coefficients (S. Gao and T. Mateer, Additive fast Fourier transforms over finite
 //! fields, IEEE Transactions on Information Theory 56, 2010; S.-J. Lin, W.-H. Chung and Y. S. Han, Novel polynomial basis and
 //! its application to Reed-Solomon erasure codes, 2014).
+//!
+//! Over the levels of the tower of 16 to 128 bits it transforms words that hold elements where they lie, with products by the scalars that the
+//! twiddles are. The Cantor vectors of a level span the levels below it, so that the twiddles of the upper stages have 8 bits, those of the
+//! next 16, and so on (D. G. Cantor, On arithmetical algorithms over finite fields, Journal of Combinatorial Theory A 50, 1989). Such a
+//! scalar multiplies an element chunk by chunk, so a row of wide elements is a row of chunks. The product of a byte by a byte takes two
+//! look-ups in registers, that of a wider chunk three products of its halves (A. Karatsuba and Y. Ofman, Multiplication of multidigit
+//! numbers on automata, Soviet Physics Doklady 7, 1963), and no address depends on an element.
+//!
+//! Slices of words of 8 to 128 bits are multiplied by one scalar of as many bits in vectors of the bytes of sixteen words or thirty-two.
 #![tactic(auto)]
 
+mod arithmetic;
+mod blocks;
+mod chunks;
+mod columns;
 mod elements;
+mod ghash;
+mod images;
 mod kernel;
 mod laws;
+mod level_pairs;
+mod level_transforms;
+mod multiples;
 pub mod over;
+mod pair;
 mod pairs;
+mod plane_scalars;
+mod planes;
 mod points;
 mod prepared;
+mod product_laws;
+mod products;
+mod row_butterflies;
+mod scaled_words;
 mod stages;
 mod twiddles;
+mod vectors;
 mod whole;
+mod word_bytes;
+mod word_planes;
+mod word_rows;
+mod words;
 
+pub use crate::blocks::{ByteBlock, SliceVector};
+pub use crate::chunks::{Paired, Scales, times_number};
+pub use crate::columns::{forward_level_columns, inverse_level_columns};
 pub use crate::elements::arithmetic::StageArithmetic;
 pub use crate::elements::columns::{forward_columns_by, inverse_columns_by};
 pub use crate::elements::points::element_point;
 pub use crate::elements::whole::{forward_by, forward_elements, inverse_by, inverse_elements};
+pub use crate::ghash::{forward, forward_numbers, inverse, inverse_numbers, transform_ghash};
 pub use crate::kernel::{Kernel, PolyKernel, WordKernel};
 pub use crate::laws::{twiddles_lie_in_subfield, values_commute_with_images};
+pub use crate::level_transforms::{forward_level, inverse_level};
+pub use crate::multiples::{ByteMultiples, HalfMultiples, multiples_8, multiples_16, multiples_32};
+pub use crate::pair::Pair;
 pub use crate::pairs::{PairByPair, PairKernel, low_stages};
+pub use crate::plane_scalars::PlaneScalars;
+pub use crate::planes::Planes;
 pub use crate::points::point;
 pub use crate::prepared::Transform;
+pub use crate::product_laws::three_products_multiply;
+pub use crate::row_butterflies::{butterflies_8, butterflies_16, butterflies_32};
+pub use crate::scaled_words::{add_multiples, multiply_words};
 pub use crate::stages::{half_of, start_of};
+pub use crate::vectors::ChunkVector;
 pub use crate::whole::{forward_with, forward_words, inverse_with, inverse_words, stages_of};
+pub use crate::word_bytes::{StoredBytes, WordBytes};
+pub use crate::word_planes::WordPlanes;
+pub use crate::words::{GhashWord, Holds};

@@ -1,7 +1,7 @@
 //! Laws of the definitions, as contracts of functions that compute nothing.
 
 // rings, fields and polynomials
-pub use field_laws::{
+pub use field_base::laws::{
     carryless_counts_pairs, carryless_is_product, codeword_exists, codeword_is_unique,
     fields_have_laws, frobenius_returns, lagrange_interpolates, levels_lie_inside,
     many_roots_mean_zero, mul_mod_is_ring, norms_and_conjugates, remainder_is_unique,
@@ -20,7 +20,7 @@ pub use word_tables::{
 };
 
 // the cubic extension
-pub use word_cubic::cubic_is_field;
+pub use word_polynomial::cubic_is_field;
 
 // matrices over the bits of a byte
 pub use field_aes::{columns_are_transposed, zero_and_identity};
@@ -47,8 +47,8 @@ pub use tags::{few_keys_collide, hashes_go_on, parts_are_encoded, products_are_r
 pub use reed_solomon::{added_shards_encode, changes_are_seen, erasure_field, lost_shards_return};
 
 // transcripts
-pub use transcript_bytes::runs_join;
 pub use transcript_elements::elements_join;
+pub use transcripts::runs_join;
 
 // lines of text and their answers
 pub use calculator::{

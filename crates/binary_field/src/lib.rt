@@ -17,7 +17,7 @@ pub use field_base::traits::{
 };
 
 // integers as elements of GF(2)
-pub use field_integers::{PrimeField, PrimeField32, PrimeField64, QuotientMap};
+pub use field_base::{PrimeField, PrimeField32, PrimeField64, QuotientMap};
 
 // changes of basis of slices, and tabled linear maps
 pub use word_tables::{LinearMap, to_polynomial_slice_64, to_tower_slice_64};
@@ -74,7 +74,7 @@ pub use field_slices as polynomials;
 pub use tags;
 
 // byte challengers
-pub use transcript_bytes::{
+pub use transcripts::{
     ByteChallenger, ByteHasher32, ChallengerError, HashChallenger, Sha256Hasher,
 };
 

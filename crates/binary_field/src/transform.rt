@@ -2,7 +2,7 @@
 //! places or without one, and by any kernel; and over elements of any field with Cantor vectors.
 
 pub use additive_transforms::{
-    Kernel, PairByPair, PairKernel, PolyKernel, Transform, element_point, forward_elements,
-    forward_with, inverse_elements, inverse_with, point,
+    Kernel, PairByPair, PairKernel, PolyKernel, Transform, element_point, forward,
+    forward_elements, forward_numbers, forward_with, inverse, inverse_elements, inverse_numbers,
+    inverse_with, point,
 };
-pub use tower_transforms::{forward, forward_numbers, inverse, inverse_numbers};

@@ -2,11 +2,11 @@
 // Written by scripts/make_c_exports.py; do not edit.
 ghost use Rattle.field_base.specs.Basis.{aes_images, basis_image, ghash_images, poly64_images};
 ghost use Rattle.field_base.specs.Remainder.{aes_modulus, ghash_modulus, poly64_modulus};
-ghost use Rattle.c_arithmetic.specs.Calls.{TakesImages, TakesPreimages};
-ghost use Rattle.c_arithmetic.specs.Fields.{wide_number};
+ghost use Rattle.c_calls.specs.Calls.{TakesImages, TakesPreimages};
+ghost use Rattle.c_calls.specs.Fields.{wide_number};
 ghost use Rattle.many_words.specs.Fields.{itself};
 
-use c_arithmetic::{FromTower, GhashKernel, Poly64Kernel, RijndaelKernel, ToTower, Wide, slices};
+use c_calls::{FromTower, GhashKernel, Poly64Kernel, RijndaelKernel, ToTower, Wide, slices};
 
 /// The image in r8 of each element of t8, by the isomorphism of the two fields.
 #[unsafe(no_mangle)]

@@ -1,14 +1,13 @@
 // Calls over slices of elements of GF(2)[x] modulo x^128 + x^7 + x^2 + x + 1, the field of GHASH (NIST SP 800-38D), bit i for x^i.
 // Written by scripts/make_c_exports.py; do not edit.
 ghost use Rattle.std.specs.Prelude.{length};
-ghost use Rattle.c_arithmetic.specs.Calls.{Adds, AddsScaled, Evaluates, Inverts, Multiplies, MultipliesBy, NamesGenerator, RaisesTo};
-ghost use Rattle.c_arithmetic.specs.Calls.{Squares, TakesDotProduct, TakesProduct, TakesRoots};
-ghost use Rattle.c_arithmetic.specs.Fields.{ghash_field};
-ghost use Rattle.c_matrices.specs.Matrices.{InvertsMatrix, MultipliesMatrices, ReducesRows, SolvesEquations, TakesDeterminant};
-ghost use Rattle.c_matrices.specs.Matrices.{TakesRank};
+ghost use Rattle.c_calls.specs.Calls.{Adds, AddsScaled, Evaluates, Inverts, Multiplies, MultipliesBy, NamesGenerator, RaisesTo};
+ghost use Rattle.c_calls.specs.Calls.{Squares, TakesDotProduct, TakesProduct, TakesRoots};
+ghost use Rattle.c_calls.specs.Fields.{ghash_field};
+ghost use Rattle.c_calls.specs.Matrices.{InvertsMatrix, MultipliesMatrices, ReducesRows, SolvesEquations, TakesDeterminant, TakesRank};
 
-use c_arithmetic::operations::{Power, Square, SquareRoot, Sum};
-use c_arithmetic::{GhashKernel, Wide, in_place, slices};
+use c_calls::operations::{Power, Square, SquareRoot, Sum};
+use c_calls::{GhashKernel, Wide, in_place, slices};
 use std::simd::prelude::*;
 
 /// The sum of the elements at each place.
@@ -24,7 +23,7 @@ pub extern "C" fn bf_g128_add(left: &[Wide], right: &[Wide], sums: &mut [Wide]) 
 pub extern "C" fn bf_g128_multiply(left: &[Wide], right: &[Wide], products: &mut [Wide]) -> u32
     ensures { Multiplies ghash_field left.now right.now products.old products.new result }
 {
-    c_arithmetic::multiply::<u128, Wide, GhashKernel, u64x2>(left, right, products)
+    c_calls::multiply::<u128, Wide, GhashKernel, u64x2>(left, right, products)
 }
 
 /// The product of each element and the scalar.
@@ -32,7 +31,7 @@ pub extern "C" fn bf_g128_multiply(left: &[Wide], right: &[Wide], products: &mut
 pub extern "C" fn bf_g128_multiply_by(values: &[Wide], scalar: &Wide, products: &mut [Wide]) -> u32
     ensures { MultipliesBy ghash_field scalar.now values.now products.old products.new result }
 {
-    c_arithmetic::multiply_by::<u128, Wide, GhashKernel, u64x2>(values, *scalar, products)
+    c_calls::multiply_by::<u128, Wide, GhashKernel, u64x2>(values, *scalar, products)
 }
 
 /// Adds to each element of sums the scalar times the value at its place.
@@ -40,7 +39,7 @@ pub extern "C" fn bf_g128_multiply_by(values: &[Wide], scalar: &Wide, products: 
 pub extern "C" fn bf_g128_add_scaled(sums: &mut [Wide], scalar: &Wide, values: &[Wide]) -> u32
     ensures { AddsScaled ghash_field scalar.now values.now sums.old sums.new result }
 {
-    c_arithmetic::add_scaled::<u128, Wide, GhashKernel, u64x2>(sums, *scalar, values)
+    c_calls::add_scaled::<u128, Wide, GhashKernel, u64x2>(sums, *scalar, values)
 }
 
 /// The square of each element.
@@ -56,7 +55,7 @@ pub extern "C" fn bf_g128_square(values: &[Wide], squares: &mut [Wide]) -> u32
 pub extern "C" fn bf_g128_inverse(values: &[Wide], inverses: &mut [Wide]) -> u32
     ensures { Inverts ghash_field values.now inverses.old inverses.new result }
 {
-    c_arithmetic::invert::<u128, Wide, GhashKernel, u64x2>(values, inverses)
+    c_calls::invert::<u128, Wide, GhashKernel, u64x2>(values, inverses)
 }
 
 /// The same as inverse; of few elements of p64 and g128 by one inverse and three products an element.
@@ -64,7 +63,7 @@ pub extern "C" fn bf_g128_inverse(values: &[Wide], inverses: &mut [Wide]) -> u32
 pub extern "C" fn bf_g128_batch_inverse(values: &[Wide], inverses: &mut [Wide]) -> u32
     ensures { Inverts ghash_field values.now inverses.old inverses.new result }
 {
-    c_arithmetic::batch_invert::<u128, Wide, GhashKernel, u64x2>(values, inverses)
+    c_calls::batch_invert::<u128, Wide, GhashKernel, u64x2>(values, inverses)
 }
 
 /// The square root of each element.
@@ -96,7 +95,7 @@ pub extern "C" fn bf_g128_product(values: &[Wide], product: &mut Wide) -> u32
 pub extern "C" fn bf_g128_dot_product(left: &[Wide], right: &[Wide], sum: &mut Wide) -> u32
     ensures { TakesDotProduct ghash_field left.now right.now sum.old sum.new result }
 {
-    c_arithmetic::dot_product::<u128, Wide, GhashKernel, u64x2>(left, right, sum)
+    c_calls::dot_product::<u128, Wide, GhashKernel, u64x2>(left, right, sum)
 }
 
 /// The value at each point of the polynomial with these coefficients, the constant one first; any number of coefficients.
@@ -108,7 +107,7 @@ pub extern "C" fn bf_g128_evaluate(
 ) -> u32
     ensures { Evaluates ghash_field coefficients.now points.now values.old values.new result }
 {
-    c_arithmetic::evaluate::<u128, Wide, GhashKernel, u64x2>(coefficients, points, values)
+    c_calls::evaluate::<u128, Wide, GhashKernel, u64x2>(coefficients, points, values)
 }
 
 /// Adds to each element of sums the value at its place.
@@ -124,7 +123,7 @@ pub extern "C" fn bf_g128_add_in_place(sums: &mut [Wide], values: &[Wide]) -> u3
 pub extern "C" fn bf_g128_multiply_in_place(products: &mut [Wide], values: &[Wide]) -> u32
     ensures { Multiplies ghash_field products.old values.now products.old products.new result }
 {
-    c_arithmetic::multiply_in_place::<u128, Wide, GhashKernel, u64x2>(products, values)
+    c_calls::multiply_in_place::<u128, Wide, GhashKernel, u64x2>(products, values)
 }
 
 /// Multiplies each element by the scalar.
@@ -132,7 +131,7 @@ pub extern "C" fn bf_g128_multiply_in_place(products: &mut [Wide], values: &[Wid
 pub extern "C" fn bf_g128_multiply_by_in_place(values: &mut [Wide], scalar: &Wide) -> u32
     ensures { MultipliesBy ghash_field scalar.now values.old values.old values.new result }
 {
-    c_arithmetic::multiply_by_in_place::<u128, Wide, GhashKernel, u64x2>(values, *scalar)
+    c_calls::multiply_by_in_place::<u128, Wide, GhashKernel, u64x2>(values, *scalar)
 }
 
 /// Squares each element.
@@ -148,7 +147,7 @@ pub extern "C" fn bf_g128_square_in_place(values: &mut [Wide]) -> u32
 pub extern "C" fn bf_g128_inverse_in_place(values: &mut [Wide]) -> u32
     ensures { Inverts ghash_field values.old values.old values.new result }
 {
-    c_arithmetic::invert_in_place::<u128, Wide, GhashKernel, u64x2>(values)
+    c_calls::invert_in_place::<u128, Wide, GhashKernel, u64x2>(values)
 }
 
 /// Leaves the square root of each element.
@@ -187,7 +186,7 @@ pub extern "C" fn bf_g128_matrix_multiply(
 ) -> u32
     ensures { MultipliesMatrices ghash_field rows inner columns left.now right.now product.old product.new result }
 {
-    c_matrices::multiply::<u128, Wide, GhashKernel, u64x2>(
+    c_calls::matrices::multiply::<u128, Wide, GhashKernel, u64x2>(
         left, right, product, rows, inner, columns,
     )
 }
@@ -204,7 +203,7 @@ pub extern "C" fn bf_g128_matrix_row_reduce(
 ) -> u32
     ensures { ReducesRows ghash_field rows columns matrix.old pivots.old rank.old matrix.new pivots.new rank.new result }
 {
-    c_matrices::row_reduce::<u128, Wide, GhashKernel, u64x2>(
+    c_calls::matrices::row_reduce::<u128, Wide, GhashKernel, u64x2>(
         matrix, rows, columns, pivots, rank,
     )
 }
@@ -221,7 +220,7 @@ pub extern "C" fn bf_g128_matrix_rank(
 ) -> u32
     ensures { TakesRank ghash_field rows columns matrix.now (length space.old) (length places.old) rank.old rank.new result }
 {
-    c_matrices::rank::<u128, Wide, GhashKernel, u64x2>(
+    c_calls::matrices::rank::<u128, Wide, GhashKernel, u64x2>(
         matrix, rows, columns, space, places, rank,
     )
 }
@@ -236,7 +235,7 @@ pub extern "C" fn bf_g128_matrix_determinant(
 ) -> u32
     ensures { TakesDeterminant ghash_field size matrix.now (length space.old) determinant.old determinant.new result }
 {
-    c_matrices::determinant::<u128, Wide, GhashKernel, u64x2>(
+    c_calls::matrices::determinant::<u128, Wide, GhashKernel, u64x2>(
         matrix,
         size,
         space,
@@ -255,7 +254,7 @@ pub extern "C" fn bf_g128_matrix_inverse(
 ) -> u32
     ensures { InvertsMatrix ghash_field size matrix.now (length space.old) (length places.old) inverse.old inverse.new result }
 {
-    c_matrices::inverse::<u128, Wide, GhashKernel, u64x2>(
+    c_calls::matrices::inverse::<u128, Wide, GhashKernel, u64x2>(
         matrix, size, inverse, space, places,
     )
 }
@@ -275,7 +274,7 @@ pub extern "C" fn bf_g128_matrix_solve(
     ensures { SolvesEquations ghash_field rows columns matrix.now right.now (length space.old)
         (length places.old) solution.old solution.new result }
 {
-    c_matrices::solve::<u128, Wide, GhashKernel, u64x2>(
+    c_calls::matrices::solve::<u128, Wide, GhashKernel, u64x2>(
         matrix, rows, columns, right, solution, space, places,
     )
 }

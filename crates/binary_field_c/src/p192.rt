@@ -1,14 +1,13 @@
 // Calls over slices of elements of GF(2^64)[y] modulo y^3 + y + 1 over p64, the coefficient of 1 first.
 // Written by scripts/make_c_exports.py; do not edit.
 ghost use Rattle.std.specs.Prelude.{length};
-ghost use Rattle.c_arithmetic.specs.Calls.{Adds, AddsScaled, Evaluates, Inverts, Multiplies, MultipliesBy, NamesGenerator, RaisesTo};
-ghost use Rattle.c_arithmetic.specs.Calls.{Squares, TakesDotProduct, TakesProduct, TakesRoots};
-ghost use Rattle.c_arithmetic.specs.Fields.{cubic_field};
-ghost use Rattle.c_matrices.specs.Matrices.{InvertsMatrix, MultipliesMatrices, ReducesRows, SolvesEquations, TakesDeterminant};
-ghost use Rattle.c_matrices.specs.Matrices.{TakesRank};
+ghost use Rattle.c_calls.specs.Calls.{Adds, AddsScaled, Evaluates, Inverts, Multiplies, MultipliesBy, NamesGenerator, RaisesTo};
+ghost use Rattle.c_calls.specs.Calls.{Squares, TakesDotProduct, TakesProduct, TakesRoots};
+ghost use Rattle.c_calls.specs.Fields.{cubic_field};
+ghost use Rattle.c_calls.specs.Matrices.{InvertsMatrix, MultipliesMatrices, ReducesRows, SolvesEquations, TakesDeterminant, TakesRank};
 
-use c_arithmetic::operations::{Power, Square, SquareRoot, Sum};
-use c_arithmetic::{Cubic, CubicKernel, Triple, in_place, slices};
+use c_calls::operations::{Power, Square, SquareRoot, Sum};
+use c_calls::{Cubic, CubicKernel, Triple, in_place, slices};
 use std::simd::prelude::*;
 
 /// The sum of the elements at each place.
@@ -24,7 +23,7 @@ pub extern "C" fn bf_p192_add(left: &[Cubic], right: &[Cubic], sums: &mut [Cubic
 pub extern "C" fn bf_p192_multiply(left: &[Cubic], right: &[Cubic], products: &mut [Cubic]) -> u32
     ensures { Multiplies cubic_field left.now right.now products.old products.new result }
 {
-    c_arithmetic::multiply::<Triple, Cubic, CubicKernel, u64x2>(left, right, products)
+    c_calls::multiply::<Triple, Cubic, CubicKernel, u64x2>(left, right, products)
 }
 
 /// The product of each element and the scalar.
@@ -36,7 +35,7 @@ pub extern "C" fn bf_p192_multiply_by(
 ) -> u32
     ensures { MultipliesBy cubic_field scalar.now values.now products.old products.new result }
 {
-    c_arithmetic::multiply_by::<Triple, Cubic, CubicKernel, u64x2>(values, *scalar, products)
+    c_calls::multiply_by::<Triple, Cubic, CubicKernel, u64x2>(values, *scalar, products)
 }
 
 /// Adds to each element of sums the scalar times the value at its place.
@@ -44,7 +43,7 @@ pub extern "C" fn bf_p192_multiply_by(
 pub extern "C" fn bf_p192_add_scaled(sums: &mut [Cubic], scalar: &Cubic, values: &[Cubic]) -> u32
     ensures { AddsScaled cubic_field scalar.now values.now sums.old sums.new result }
 {
-    c_arithmetic::add_scaled::<Triple, Cubic, CubicKernel, u64x2>(sums, *scalar, values)
+    c_calls::add_scaled::<Triple, Cubic, CubicKernel, u64x2>(sums, *scalar, values)
 }
 
 /// The square of each element.
@@ -60,7 +59,7 @@ pub extern "C" fn bf_p192_square(values: &[Cubic], squares: &mut [Cubic]) -> u32
 pub extern "C" fn bf_p192_inverse(values: &[Cubic], inverses: &mut [Cubic]) -> u32
     ensures { Inverts cubic_field values.now inverses.old inverses.new result }
 {
-    c_arithmetic::invert::<Triple, Cubic, CubicKernel, u64x2>(values, inverses)
+    c_calls::invert::<Triple, Cubic, CubicKernel, u64x2>(values, inverses)
 }
 
 /// The same as inverse; of few elements of p64 and g128 by one inverse and three products an element.
@@ -68,7 +67,7 @@ pub extern "C" fn bf_p192_inverse(values: &[Cubic], inverses: &mut [Cubic]) -> u
 pub extern "C" fn bf_p192_batch_inverse(values: &[Cubic], inverses: &mut [Cubic]) -> u32
     ensures { Inverts cubic_field values.now inverses.old inverses.new result }
 {
-    c_arithmetic::batch_invert::<Triple, Cubic, CubicKernel, u64x2>(values, inverses)
+    c_calls::batch_invert::<Triple, Cubic, CubicKernel, u64x2>(values, inverses)
 }
 
 /// The square root of each element.
@@ -100,7 +99,7 @@ pub extern "C" fn bf_p192_product(values: &[Cubic], product: &mut Cubic) -> u32
 pub extern "C" fn bf_p192_dot_product(left: &[Cubic], right: &[Cubic], sum: &mut Cubic) -> u32
     ensures { TakesDotProduct cubic_field left.now right.now sum.old sum.new result }
 {
-    c_arithmetic::dot_product::<Triple, Cubic, CubicKernel, u64x2>(left, right, sum)
+    c_calls::dot_product::<Triple, Cubic, CubicKernel, u64x2>(left, right, sum)
 }
 
 /// The value at each point of the polynomial with these coefficients, the constant one first; any number of coefficients.
@@ -112,7 +111,7 @@ pub extern "C" fn bf_p192_evaluate(
 ) -> u32
     ensures { Evaluates cubic_field coefficients.now points.now values.old values.new result }
 {
-    c_arithmetic::evaluate::<Triple, Cubic, CubicKernel, u64x2>(coefficients, points, values)
+    c_calls::evaluate::<Triple, Cubic, CubicKernel, u64x2>(coefficients, points, values)
 }
 
 /// Adds to each element of sums the value at its place.
@@ -128,7 +127,7 @@ pub extern "C" fn bf_p192_add_in_place(sums: &mut [Cubic], values: &[Cubic]) -> 
 pub extern "C" fn bf_p192_multiply_in_place(products: &mut [Cubic], values: &[Cubic]) -> u32
     ensures { Multiplies cubic_field products.old values.now products.old products.new result }
 {
-    c_arithmetic::multiply_in_place::<Triple, Cubic, CubicKernel, u64x2>(products, values)
+    c_calls::multiply_in_place::<Triple, Cubic, CubicKernel, u64x2>(products, values)
 }
 
 /// Multiplies each element by the scalar.
@@ -136,7 +135,7 @@ pub extern "C" fn bf_p192_multiply_in_place(products: &mut [Cubic], values: &[Cu
 pub extern "C" fn bf_p192_multiply_by_in_place(values: &mut [Cubic], scalar: &Cubic) -> u32
     ensures { MultipliesBy cubic_field scalar.now values.old values.old values.new result }
 {
-    c_arithmetic::multiply_by_in_place::<Triple, Cubic, CubicKernel, u64x2>(values, *scalar)
+    c_calls::multiply_by_in_place::<Triple, Cubic, CubicKernel, u64x2>(values, *scalar)
 }
 
 /// Squares each element.
@@ -152,7 +151,7 @@ pub extern "C" fn bf_p192_square_in_place(values: &mut [Cubic]) -> u32
 pub extern "C" fn bf_p192_inverse_in_place(values: &mut [Cubic]) -> u32
     ensures { Inverts cubic_field values.old values.old values.new result }
 {
-    c_arithmetic::invert_in_place::<Triple, Cubic, CubicKernel, u64x2>(values)
+    c_calls::invert_in_place::<Triple, Cubic, CubicKernel, u64x2>(values)
 }
 
 /// Leaves the square root of each element.
@@ -191,7 +190,7 @@ pub extern "C" fn bf_p192_matrix_multiply(
 ) -> u32
     ensures { MultipliesMatrices cubic_field rows inner columns left.now right.now product.old product.new result }
 {
-    c_matrices::multiply::<Triple, Cubic, CubicKernel, u64x2>(
+    c_calls::matrices::multiply::<Triple, Cubic, CubicKernel, u64x2>(
         left, right, product, rows, inner, columns,
     )
 }
@@ -208,7 +207,7 @@ pub extern "C" fn bf_p192_matrix_row_reduce(
 ) -> u32
     ensures { ReducesRows cubic_field rows columns matrix.old pivots.old rank.old matrix.new pivots.new rank.new result }
 {
-    c_matrices::row_reduce::<Triple, Cubic, CubicKernel, u64x2>(
+    c_calls::matrices::row_reduce::<Triple, Cubic, CubicKernel, u64x2>(
         matrix, rows, columns, pivots, rank,
     )
 }
@@ -225,7 +224,7 @@ pub extern "C" fn bf_p192_matrix_rank(
 ) -> u32
     ensures { TakesRank cubic_field rows columns matrix.now (length space.old) (length places.old) rank.old rank.new result }
 {
-    c_matrices::rank::<Triple, Cubic, CubicKernel, u64x2>(
+    c_calls::matrices::rank::<Triple, Cubic, CubicKernel, u64x2>(
         matrix, rows, columns, space, places, rank,
     )
 }
@@ -240,7 +239,7 @@ pub extern "C" fn bf_p192_matrix_determinant(
 ) -> u32
     ensures { TakesDeterminant cubic_field size matrix.now (length space.old) determinant.old determinant.new result }
 {
-    c_matrices::determinant::<Triple, Cubic, CubicKernel, u64x2>(
+    c_calls::matrices::determinant::<Triple, Cubic, CubicKernel, u64x2>(
         matrix,
         size,
         space,
@@ -259,7 +258,7 @@ pub extern "C" fn bf_p192_matrix_inverse(
 ) -> u32
     ensures { InvertsMatrix cubic_field size matrix.now (length space.old) (length places.old) inverse.old inverse.new result }
 {
-    c_matrices::inverse::<Triple, Cubic, CubicKernel, u64x2>(
+    c_calls::matrices::inverse::<Triple, Cubic, CubicKernel, u64x2>(
         matrix, size, inverse, space, places,
     )
 }
@@ -279,7 +278,7 @@ pub extern "C" fn bf_p192_matrix_solve(
     ensures { SolvesEquations cubic_field rows columns matrix.now right.now (length space.old)
         (length places.old) solution.old solution.new result }
 {
-    c_matrices::solve::<Triple, Cubic, CubicKernel, u64x2>(
+    c_calls::matrices::solve::<Triple, Cubic, CubicKernel, u64x2>(
         matrix, rows, columns, right, solution, space, places,
     )
 }

@@ -1,14 +1,13 @@
 // Calls over slices of elements of GF(2)[x] modulo x^64 + x^4 + x^3 + x + 1.
 // Written by scripts/make_c_exports.py; do not edit.
 ghost use Rattle.std.specs.Prelude.{length};
-ghost use Rattle.c_arithmetic.specs.Calls.{Adds, AddsScaled, Evaluates, Inverts, Multiplies, MultipliesBy, NamesGenerator, RaisesTo};
-ghost use Rattle.c_arithmetic.specs.Calls.{Squares, TakesDotProduct, TakesProduct, TakesRoots};
-ghost use Rattle.c_arithmetic.specs.Fields.{poly64_field};
-ghost use Rattle.c_matrices.specs.Matrices.{InvertsMatrix, MultipliesMatrices, ReducesRows, SolvesEquations, TakesDeterminant};
-ghost use Rattle.c_matrices.specs.Matrices.{TakesRank};
+ghost use Rattle.c_calls.specs.Calls.{Adds, AddsScaled, Evaluates, Inverts, Multiplies, MultipliesBy, NamesGenerator, RaisesTo};
+ghost use Rattle.c_calls.specs.Calls.{Squares, TakesDotProduct, TakesProduct, TakesRoots};
+ghost use Rattle.c_calls.specs.Fields.{poly64_field};
+ghost use Rattle.c_calls.specs.Matrices.{InvertsMatrix, MultipliesMatrices, ReducesRows, SolvesEquations, TakesDeterminant, TakesRank};
 
-use c_arithmetic::operations::{Power, Square, SquareRoot, Sum};
-use c_arithmetic::{Poly64Kernel, in_place, slices};
+use c_calls::operations::{Power, Square, SquareRoot, Sum};
+use c_calls::{Poly64Kernel, in_place, slices};
 use std::simd::prelude::*;
 
 /// The sum of the elements at each place.
@@ -24,7 +23,7 @@ pub extern "C" fn bf_p64_add(left: &[u64], right: &[u64], sums: &mut [u64]) -> u
 pub extern "C" fn bf_p64_multiply(left: &[u64], right: &[u64], products: &mut [u64]) -> u32
     ensures { Multiplies poly64_field left.now right.now products.old products.new result }
 {
-    c_arithmetic::multiply::<u64, u64, Poly64Kernel, u64x2>(left, right, products)
+    c_calls::multiply::<u64, u64, Poly64Kernel, u64x2>(left, right, products)
 }
 
 /// The product of each element and the scalar.
@@ -32,7 +31,7 @@ pub extern "C" fn bf_p64_multiply(left: &[u64], right: &[u64], products: &mut [u
 pub extern "C" fn bf_p64_multiply_by(values: &[u64], scalar: u64, products: &mut [u64]) -> u32
     ensures { MultipliesBy poly64_field scalar values.now products.old products.new result }
 {
-    c_arithmetic::multiply_by::<u64, u64, Poly64Kernel, u64x2>(values, scalar, products)
+    c_calls::multiply_by::<u64, u64, Poly64Kernel, u64x2>(values, scalar, products)
 }
 
 /// Adds to each element of sums the scalar times the value at its place.
@@ -40,7 +39,7 @@ pub extern "C" fn bf_p64_multiply_by(values: &[u64], scalar: u64, products: &mut
 pub extern "C" fn bf_p64_add_scaled(sums: &mut [u64], scalar: u64, values: &[u64]) -> u32
     ensures { AddsScaled poly64_field scalar values.now sums.old sums.new result }
 {
-    c_arithmetic::add_scaled::<u64, u64, Poly64Kernel, u64x2>(sums, scalar, values)
+    c_calls::add_scaled::<u64, u64, Poly64Kernel, u64x2>(sums, scalar, values)
 }
 
 /// The square of each element.
@@ -56,7 +55,7 @@ pub extern "C" fn bf_p64_square(values: &[u64], squares: &mut [u64]) -> u32
 pub extern "C" fn bf_p64_inverse(values: &[u64], inverses: &mut [u64]) -> u32
     ensures { Inverts poly64_field values.now inverses.old inverses.new result }
 {
-    c_arithmetic::invert::<u64, u64, Poly64Kernel, u64x2>(values, inverses)
+    c_calls::invert::<u64, u64, Poly64Kernel, u64x2>(values, inverses)
 }
 
 /// The same as inverse; of few elements of p64 and g128 by one inverse and three products an element.
@@ -64,7 +63,7 @@ pub extern "C" fn bf_p64_inverse(values: &[u64], inverses: &mut [u64]) -> u32
 pub extern "C" fn bf_p64_batch_inverse(values: &[u64], inverses: &mut [u64]) -> u32
     ensures { Inverts poly64_field values.now inverses.old inverses.new result }
 {
-    c_arithmetic::batch_invert::<u64, u64, Poly64Kernel, u64x2>(values, inverses)
+    c_calls::batch_invert::<u64, u64, Poly64Kernel, u64x2>(values, inverses)
 }
 
 /// The square root of each element.
@@ -96,7 +95,7 @@ pub extern "C" fn bf_p64_product(values: &[u64], product: &mut u64) -> u32
 pub extern "C" fn bf_p64_dot_product(left: &[u64], right: &[u64], sum: &mut u64) -> u32
     ensures { TakesDotProduct poly64_field left.now right.now sum.old sum.new result }
 {
-    c_arithmetic::dot_product::<u64, u64, Poly64Kernel, u64x2>(left, right, sum)
+    c_calls::dot_product::<u64, u64, Poly64Kernel, u64x2>(left, right, sum)
 }
 
 /// The value at each point of the polynomial with these coefficients, the constant one first; any number of coefficients.
@@ -104,7 +103,7 @@ pub extern "C" fn bf_p64_dot_product(left: &[u64], right: &[u64], sum: &mut u64)
 pub extern "C" fn bf_p64_evaluate(coefficients: &[u64], points: &[u64], values: &mut [u64]) -> u32
     ensures { Evaluates poly64_field coefficients.now points.now values.old values.new result }
 {
-    c_arithmetic::evaluate::<u64, u64, Poly64Kernel, u64x2>(coefficients, points, values)
+    c_calls::evaluate::<u64, u64, Poly64Kernel, u64x2>(coefficients, points, values)
 }
 
 /// Adds to each element of sums the value at its place.
@@ -120,7 +119,7 @@ pub extern "C" fn bf_p64_add_in_place(sums: &mut [u64], values: &[u64]) -> u32
 pub extern "C" fn bf_p64_multiply_in_place(products: &mut [u64], values: &[u64]) -> u32
     ensures { Multiplies poly64_field products.old values.now products.old products.new result }
 {
-    c_arithmetic::multiply_in_place::<u64, u64, Poly64Kernel, u64x2>(products, values)
+    c_calls::multiply_in_place::<u64, u64, Poly64Kernel, u64x2>(products, values)
 }
 
 /// Multiplies each element by the scalar.
@@ -128,7 +127,7 @@ pub extern "C" fn bf_p64_multiply_in_place(products: &mut [u64], values: &[u64])
 pub extern "C" fn bf_p64_multiply_by_in_place(values: &mut [u64], scalar: u64) -> u32
     ensures { MultipliesBy poly64_field scalar values.old values.old values.new result }
 {
-    c_arithmetic::multiply_by_in_place::<u64, u64, Poly64Kernel, u64x2>(values, scalar)
+    c_calls::multiply_by_in_place::<u64, u64, Poly64Kernel, u64x2>(values, scalar)
 }
 
 /// Squares each element.
@@ -144,7 +143,7 @@ pub extern "C" fn bf_p64_square_in_place(values: &mut [u64]) -> u32
 pub extern "C" fn bf_p64_inverse_in_place(values: &mut [u64]) -> u32
     ensures { Inverts poly64_field values.old values.old values.new result }
 {
-    c_arithmetic::invert_in_place::<u64, u64, Poly64Kernel, u64x2>(values)
+    c_calls::invert_in_place::<u64, u64, Poly64Kernel, u64x2>(values)
 }
 
 /// Leaves the square root of each element.
@@ -183,7 +182,7 @@ pub extern "C" fn bf_p64_matrix_multiply(
 ) -> u32
     ensures { MultipliesMatrices poly64_field rows inner columns left.now right.now product.old product.new result }
 {
-    c_matrices::multiply::<u64, u64, Poly64Kernel, u64x2>(
+    c_calls::matrices::multiply::<u64, u64, Poly64Kernel, u64x2>(
         left, right, product, rows, inner, columns,
     )
 }
@@ -200,7 +199,7 @@ pub extern "C" fn bf_p64_matrix_row_reduce(
 ) -> u32
     ensures { ReducesRows poly64_field rows columns matrix.old pivots.old rank.old matrix.new pivots.new rank.new result }
 {
-    c_matrices::row_reduce::<u64, u64, Poly64Kernel, u64x2>(
+    c_calls::matrices::row_reduce::<u64, u64, Poly64Kernel, u64x2>(
         matrix, rows, columns, pivots, rank,
     )
 }
@@ -217,7 +216,7 @@ pub extern "C" fn bf_p64_matrix_rank(
 ) -> u32
     ensures { TakesRank poly64_field rows columns matrix.now (length space.old) (length places.old) rank.old rank.new result }
 {
-    c_matrices::rank::<u64, u64, Poly64Kernel, u64x2>(
+    c_calls::matrices::rank::<u64, u64, Poly64Kernel, u64x2>(
         matrix, rows, columns, space, places, rank,
     )
 }
@@ -232,7 +231,7 @@ pub extern "C" fn bf_p64_matrix_determinant(
 ) -> u32
     ensures { TakesDeterminant poly64_field size matrix.now (length space.old) determinant.old determinant.new result }
 {
-    c_matrices::determinant::<u64, u64, Poly64Kernel, u64x2>(
+    c_calls::matrices::determinant::<u64, u64, Poly64Kernel, u64x2>(
         matrix,
         size,
         space,
@@ -251,7 +250,7 @@ pub extern "C" fn bf_p64_matrix_inverse(
 ) -> u32
     ensures { InvertsMatrix poly64_field size matrix.now (length space.old) (length places.old) inverse.old inverse.new result }
 {
-    c_matrices::inverse::<u64, u64, Poly64Kernel, u64x2>(
+    c_calls::matrices::inverse::<u64, u64, Poly64Kernel, u64x2>(
         matrix, size, inverse, space, places,
     )
 }
@@ -271,7 +270,7 @@ pub extern "C" fn bf_p64_matrix_solve(
     ensures { SolvesEquations poly64_field rows columns matrix.now right.now (length space.old)
         (length places.old) solution.old solution.new result }
 {
-    c_matrices::solve::<u64, u64, Poly64Kernel, u64x2>(
+    c_calls::matrices::solve::<u64, u64, Poly64Kernel, u64x2>(
         matrix, rows, columns, right, solution, space, places,
     )
 }

@@ -1,15 +1,15 @@
 // Calls over shards, which stand one after the other and have one size: those of data, and then those of parity.
 // Written by scripts/make_c_exports.py; do not edit.
 ghost use Rattle.std.specs.Prelude.{◌+◌, length};
-ghost use Rattle.c_arithmetic.specs.Bytes.{AddsOneShard, Encodes, EncodesPrepared, Prepares, Reconstructs, TellsTablesLength};
-ghost use Rattle.c_arithmetic.specs.Bytes.{Verifies, VerifiesPrepared};
+ghost use Rattle.c_calls.specs.Bytes.{AddsOneShard, Encodes, EncodesPrepared, Prepares, Reconstructs, TellsTablesLength, Verifies};
+ghost use Rattle.c_calls.specs.Bytes.{VerifiesPrepared};
 
 /// Writes the shards of parity, which stand behind those of data; all shards stand one after the other and have one size.
 #[unsafe(no_mangle)]
 pub extern "C" fn bf_rs_encode(data: u64, parity: u64, shards: &mut [u8]) -> u32
     ensures { Encodes «data» parity shards.old shards.new result }
 {
-    c_arithmetic::encode(data, parity, shards)
+    c_calls::encode(data, parity, shards)
 }
 
 /// 1 where the shards of parity are those of the data, else 0.
@@ -17,7 +17,7 @@ pub extern "C" fn bf_rs_encode(data: u64, parity: u64, shards: &mut [u8]) -> u32
 pub extern "C" fn bf_rs_verify(data: u64, parity: u64, shards: &[u8], whole: &mut u8) -> u32
     ensures { Verifies «data» parity shards.now whole.old whole.new result }
 {
-    c_arithmetic::verify(data, parity, shards, whole)
+    c_calls::verify(data, parity, shards, whole)
 }
 
 /// How many bytes the tables of the code take: 32 for each pair of a shard of data and one of parity, parity counted up to a multiple of
@@ -26,7 +26,7 @@ pub extern "C" fn bf_rs_verify(data: u64, parity: u64, shards: &[u8], whole: &mu
 pub extern "C" fn bf_rs_tables_length(data: u64, parity: u64, length: &mut u64) -> u32
     ensures { TellsTablesLength «data» parity length.old length.new result }
 {
-    c_arithmetic::tables_length(data, parity, length)
+    c_calls::tables_length(data, parity, length)
 }
 
 /// The tables of the code, by which rs_encode_prepared and rs_verify_prepared work; they are read faster from a multiple of 16 on.
@@ -34,7 +34,7 @@ pub extern "C" fn bf_rs_tables_length(data: u64, parity: u64, length: &mut u64) 
 pub extern "C" fn bf_rs_prepare(data: u64, parity: u64, tables: &mut [u8]) -> u32
     ensures { Prepares «data» parity tables.old tables.new result }
 {
-    c_arithmetic::prepare(data, parity, tables)
+    c_calls::prepare(data, parity, tables)
 }
 
 /// Writes the shards of parity, as rs_encode does, by the tables that rs_prepare wrote for this code; by other bytes it writes parity of
@@ -48,7 +48,7 @@ pub extern "C" fn bf_rs_encode_prepared(
 ) -> u32
     ensures { EncodesPrepared «data» parity tables.now shards.old shards.new result }
 {
-    c_arithmetic::encode_prepared(data, parity, tables, shards)
+    c_calls::encode_prepared(data, parity, tables, shards)
 }
 
 /// 1 where the shards of parity are those of the data, else 0, by the tables that rs_prepare wrote for this code; by other bytes it is 0
@@ -63,7 +63,7 @@ pub extern "C" fn bf_rs_verify_prepared(
 ) -> u32
     ensures { VerifiesPrepared «data» parity tables.now shards.now whole.old whole.new result }
 {
-    c_arithmetic::verify_prepared(data, parity, tables, shards, whole)
+    c_calls::verify_prepared(data, parity, tables, shards, whole)
 }
 
 /// Adds to sums what a shard of data is in a shard of parity, by the tables that rs_prepare wrote for this code; once each shard of data
@@ -80,7 +80,7 @@ pub extern "C" fn bf_rs_add_shard(
 ) -> u32
     ensures { AddsOneShard «data» parity tables.now data_shard parity_shard shard.now sums.old sums.new result }
 {
-    c_arithmetic::add_shard(data, parity, tables, data_shard, parity_shard, shard, sums)
+    c_calls::add_shard(data, parity, tables, data_shard, parity_shard, shard, sums)
 }
 
 /// Writes the missing shards: shard i is missing where present[i] is 0.
@@ -93,7 +93,7 @@ pub extern "C" fn bf_rs_reconstruct(
 ) -> u32
     ensures { Reconstructs «data» parity («data» + parity) present.now shards.old shards.new result }
 {
-    c_arithmetic::reconstruct(data, parity, shards, present)
+    c_calls::reconstruct(data, parity, shards, present)
 }
 
 /// Writes the missing shards of data alone.
@@ -106,5 +106,5 @@ pub extern "C" fn bf_rs_reconstruct_data(
 ) -> u32
     ensures { Reconstructs «data» parity «data» present.now shards.old shards.new result }
 {
-    c_arithmetic::reconstruct_data(data, parity, shards, present)
+    c_calls::reconstruct_data(data, parity, shards, present)
 }

@@ -1,14 +1,13 @@
 // Calls over slices of elements of GF(2^8), a level of the tower.
 // Written by scripts/make_c_exports.py; do not edit.
 ghost use Rattle.std.specs.Prelude.{length};
-ghost use Rattle.c_arithmetic.specs.Calls.{Adds, AddsScaled, Evaluates, Inverts, Multiplies, MultipliesBy, NamesGenerator, RaisesTo};
-ghost use Rattle.c_arithmetic.specs.Calls.{Squares, TakesDotProduct, TakesProduct, TakesRoots};
-ghost use Rattle.c_arithmetic.specs.Fields.{level_field};
-ghost use Rattle.c_matrices.specs.Matrices.{InvertsMatrix, MultipliesMatrices, ReducesRows, SolvesEquations, TakesDeterminant};
-ghost use Rattle.c_matrices.specs.Matrices.{TakesRank};
+ghost use Rattle.c_calls.specs.Calls.{Adds, AddsScaled, Evaluates, Inverts, Multiplies, MultipliesBy, NamesGenerator, RaisesTo};
+ghost use Rattle.c_calls.specs.Calls.{Squares, TakesDotProduct, TakesProduct, TakesRoots};
+ghost use Rattle.c_calls.specs.Fields.{level_field};
+ghost use Rattle.c_calls.specs.Matrices.{InvertsMatrix, MultipliesMatrices, ReducesRows, SolvesEquations, TakesDeterminant, TakesRank};
 
-use c_arithmetic::operations::{Power, Square, SquareRoot, Sum};
-use c_arithmetic::{Bits8, Tower, in_place, slices};
+use c_calls::operations::{Power, Square, SquareRoot, Sum};
+use c_calls::{Bits8, Tower, in_place, slices};
 use std::simd::prelude::*;
 
 /// The sum of the elements at each place.
@@ -24,7 +23,7 @@ pub extern "C" fn bf_t8_add(left: &[u8], right: &[u8], sums: &mut [u8]) -> u32
 pub extern "C" fn bf_t8_multiply(left: &[u8], right: &[u8], products: &mut [u8]) -> u32
     ensures { Multiplies (level_field 3) left.now right.now products.old products.new result }
 {
-    c_arithmetic::multiply::<u8, u8, Tower<Bits8>, u64x2>(left, right, products)
+    c_calls::multiply::<u8, u8, Tower<Bits8>, u64x2>(left, right, products)
 }
 
 /// The product of each element and the scalar.
@@ -32,7 +31,7 @@ pub extern "C" fn bf_t8_multiply(left: &[u8], right: &[u8], products: &mut [u8])
 pub extern "C" fn bf_t8_multiply_by(values: &[u8], scalar: u8, products: &mut [u8]) -> u32
     ensures { MultipliesBy (level_field 3) scalar values.now products.old products.new result }
 {
-    c_arithmetic::multiply_by::<u8, u8, Tower<Bits8>, u64x2>(values, scalar, products)
+    c_calls::multiply_by::<u8, u8, Tower<Bits8>, u64x2>(values, scalar, products)
 }
 
 /// Adds to each element of sums the scalar times the value at its place.
@@ -40,7 +39,7 @@ pub extern "C" fn bf_t8_multiply_by(values: &[u8], scalar: u8, products: &mut [u
 pub extern "C" fn bf_t8_add_scaled(sums: &mut [u8], scalar: u8, values: &[u8]) -> u32
     ensures { AddsScaled (level_field 3) scalar values.now sums.old sums.new result }
 {
-    c_arithmetic::add_scaled::<u8, u8, Tower<Bits8>, u64x2>(sums, scalar, values)
+    c_calls::add_scaled::<u8, u8, Tower<Bits8>, u64x2>(sums, scalar, values)
 }
 
 /// The square of each element.
@@ -56,7 +55,7 @@ pub extern "C" fn bf_t8_square(values: &[u8], squares: &mut [u8]) -> u32
 pub extern "C" fn bf_t8_inverse(values: &[u8], inverses: &mut [u8]) -> u32
     ensures { Inverts (level_field 3) values.now inverses.old inverses.new result }
 {
-    c_arithmetic::invert::<u8, u8, Tower<Bits8>, u64x2>(values, inverses)
+    c_calls::invert::<u8, u8, Tower<Bits8>, u64x2>(values, inverses)
 }
 
 /// The same as inverse; of few elements of p64 and g128 by one inverse and three products an element.
@@ -64,7 +63,7 @@ pub extern "C" fn bf_t8_inverse(values: &[u8], inverses: &mut [u8]) -> u32
 pub extern "C" fn bf_t8_batch_inverse(values: &[u8], inverses: &mut [u8]) -> u32
     ensures { Inverts (level_field 3) values.now inverses.old inverses.new result }
 {
-    c_arithmetic::batch_invert::<u8, u8, Tower<Bits8>, u64x2>(values, inverses)
+    c_calls::batch_invert::<u8, u8, Tower<Bits8>, u64x2>(values, inverses)
 }
 
 /// The square root of each element.
@@ -96,7 +95,7 @@ pub extern "C" fn bf_t8_product(values: &[u8], product: &mut u8) -> u32
 pub extern "C" fn bf_t8_dot_product(left: &[u8], right: &[u8], sum: &mut u8) -> u32
     ensures { TakesDotProduct (level_field 3) left.now right.now sum.old sum.new result }
 {
-    c_arithmetic::dot_product::<u8, u8, Tower<Bits8>, u64x2>(left, right, sum)
+    c_calls::dot_product::<u8, u8, Tower<Bits8>, u64x2>(left, right, sum)
 }
 
 /// The value at each point of the polynomial with these coefficients, the constant one first; any number of coefficients.
@@ -104,7 +103,7 @@ pub extern "C" fn bf_t8_dot_product(left: &[u8], right: &[u8], sum: &mut u8) -> 
 pub extern "C" fn bf_t8_evaluate(coefficients: &[u8], points: &[u8], values: &mut [u8]) -> u32
     ensures { Evaluates (level_field 3) coefficients.now points.now values.old values.new result }
 {
-    c_arithmetic::evaluate::<u8, u8, Tower<Bits8>, u64x2>(coefficients, points, values)
+    c_calls::evaluate::<u8, u8, Tower<Bits8>, u64x2>(coefficients, points, values)
 }
 
 /// Adds to each element of sums the value at its place.
@@ -120,7 +119,7 @@ pub extern "C" fn bf_t8_add_in_place(sums: &mut [u8], values: &[u8]) -> u32
 pub extern "C" fn bf_t8_multiply_in_place(products: &mut [u8], values: &[u8]) -> u32
     ensures { Multiplies (level_field 3) products.old values.now products.old products.new result }
 {
-    c_arithmetic::multiply_in_place::<u8, u8, Tower<Bits8>, u64x2>(products, values)
+    c_calls::multiply_in_place::<u8, u8, Tower<Bits8>, u64x2>(products, values)
 }
 
 /// Multiplies each element by the scalar.
@@ -128,7 +127,7 @@ pub extern "C" fn bf_t8_multiply_in_place(products: &mut [u8], values: &[u8]) ->
 pub extern "C" fn bf_t8_multiply_by_in_place(values: &mut [u8], scalar: u8) -> u32
     ensures { MultipliesBy (level_field 3) scalar values.old values.old values.new result }
 {
-    c_arithmetic::multiply_by_in_place::<u8, u8, Tower<Bits8>, u64x2>(values, scalar)
+    c_calls::multiply_by_in_place::<u8, u8, Tower<Bits8>, u64x2>(values, scalar)
 }
 
 /// Squares each element.
@@ -144,7 +143,7 @@ pub extern "C" fn bf_t8_square_in_place(values: &mut [u8]) -> u32
 pub extern "C" fn bf_t8_inverse_in_place(values: &mut [u8]) -> u32
     ensures { Inverts (level_field 3) values.old values.old values.new result }
 {
-    c_arithmetic::invert_in_place::<u8, u8, Tower<Bits8>, u64x2>(values)
+    c_calls::invert_in_place::<u8, u8, Tower<Bits8>, u64x2>(values)
 }
 
 /// Leaves the square root of each element.
@@ -183,7 +182,7 @@ pub extern "C" fn bf_t8_matrix_multiply(
 ) -> u32
     ensures { MultipliesMatrices (level_field 3) rows inner columns left.now right.now product.old product.new result }
 {
-    c_matrices::multiply::<u8, u8, Tower<Bits8>, u64x2>(
+    c_calls::matrices::multiply::<u8, u8, Tower<Bits8>, u64x2>(
         left, right, product, rows, inner, columns,
     )
 }
@@ -200,7 +199,7 @@ pub extern "C" fn bf_t8_matrix_row_reduce(
 ) -> u32
     ensures { ReducesRows (level_field 3) rows columns matrix.old pivots.old rank.old matrix.new pivots.new rank.new result }
 {
-    c_matrices::row_reduce::<u8, u8, Tower<Bits8>, u64x2>(
+    c_calls::matrices::row_reduce::<u8, u8, Tower<Bits8>, u64x2>(
         matrix, rows, columns, pivots, rank,
     )
 }
@@ -217,7 +216,7 @@ pub extern "C" fn bf_t8_matrix_rank(
 ) -> u32
     ensures { TakesRank (level_field 3) rows columns matrix.now (length space.old) (length places.old) rank.old rank.new result }
 {
-    c_matrices::rank::<u8, u8, Tower<Bits8>, u64x2>(
+    c_calls::matrices::rank::<u8, u8, Tower<Bits8>, u64x2>(
         matrix, rows, columns, space, places, rank,
     )
 }
@@ -232,12 +231,7 @@ pub extern "C" fn bf_t8_matrix_determinant(
 ) -> u32
     ensures { TakesDeterminant (level_field 3) size matrix.now (length space.old) determinant.old determinant.new result }
 {
-    c_matrices::determinant::<u8, u8, Tower<Bits8>, u64x2>(
-        matrix,
-        size,
-        space,
-        determinant,
-    )
+    c_calls::matrices::determinant::<u8, u8, Tower<Bits8>, u64x2>(matrix, size, space, determinant)
 }
 
 /// The inverse of a matrix of size rows of size elements, in space for two of these and size places.
@@ -251,9 +245,7 @@ pub extern "C" fn bf_t8_matrix_inverse(
 ) -> u32
     ensures { InvertsMatrix (level_field 3) size matrix.now (length space.old) (length places.old) inverse.old inverse.new result }
 {
-    c_matrices::inverse::<u8, u8, Tower<Bits8>, u64x2>(
-        matrix, size, inverse, space, places,
-    )
+    c_calls::matrices::inverse::<u8, u8, Tower<Bits8>, u64x2>(matrix, size, inverse, space, places)
 }
 
 /// A solution x of matrix * x = right, of rows equations in columns unknowns, in space for rows times columns + 1 elements and rows
@@ -271,7 +263,7 @@ pub extern "C" fn bf_t8_matrix_solve(
     ensures { SolvesEquations (level_field 3) rows columns matrix.now right.now (length space.old)
         (length places.old) solution.old solution.new result }
 {
-    c_matrices::solve::<u8, u8, Tower<Bits8>, u64x2>(
+    c_calls::matrices::solve::<u8, u8, Tower<Bits8>, u64x2>(
         matrix, rows, columns, right, solution, space, places,
     )
 }

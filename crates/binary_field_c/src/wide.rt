@@ -6,14 +6,13 @@ ghost use Rattle.tags.specs.Gcm.{ghash};
 ghost use Rattle.tags.specs.Pieces.{ghash_from, polyval_from};
 ghost use Rattle.tags.specs.Polyval.{polyval};
 ghost use Rattle.tags.specs.Prepared.{ghash_prepared, polyval_prepared};
-ghost use Rattle.c_arithmetic.specs.Bytes.{Hashes, HashesPrepared};
-ghost use Rattle.c_arithmetic.specs.Transforms.{ButterfliesForward, ButterfliesInverse, InvertsTransform, RunsLowStages, Transforms};
-ghost use Rattle.c_arithmetic.specs.Calls.{AddsScaled, Inverts, Multiplies, MultipliesBy, TakesDotProduct};
-ghost use Rattle.c_arithmetic.specs.Fields.{ghash_field, level_field, poly64_field, wide_level_field, wide_number};
-ghost use Rattle.c_matrices.specs.Matrices.{InvertsMatrix, MultipliesMatrices, ReducesRows, SolvesEquations, TakesDeterminant};
-ghost use Rattle.c_matrices.specs.Matrices.{TakesRank};
+ghost use Rattle.c_calls.specs.Bytes.{Hashes, HashesPrepared};
+ghost use Rattle.c_calls.specs.Transforms.{ButterfliesForward, ButterfliesInverse, InvertsTransform, RunsLowStages, Transforms};
+ghost use Rattle.c_calls.specs.Calls.{AddsScaled, Inverts, Multiplies, MultipliesBy, TakesDotProduct};
+ghost use Rattle.c_calls.specs.Fields.{ghash_field, level_field, poly64_field, wide_level_field, wide_number};
+ghost use Rattle.c_calls.specs.Matrices.{InvertsMatrix, MultipliesMatrices, ReducesRows, SolvesEquations, TakesDeterminant, TakesRank};
 
-use c_arithmetic::{Bits16, Bits32, Bits64, Bits128, GhashKernel, Poly64Kernel, Tower, Wide};
+use c_calls::{Bits16, Bits32, Bits64, Bits128, GhashKernel, Poly64Kernel, Tower, Wide};
 use std::simd::prelude::*;
 
 /// The same as `bf_g128_multiply`.
@@ -21,7 +20,7 @@ use std::simd::prelude::*;
 pub extern "C" fn bf_g128_multiply_wide(left: &[Wide], right: &[Wide], products: &mut [Wide]) -> u32
     ensures { Multiplies ghash_field left.now right.now products.old products.new result }
 {
-    c_arithmetic::multiply::<u128, Wide, GhashKernel, u64x4>(left, right, products)
+    c_calls::multiply::<u128, Wide, GhashKernel, u64x4>(left, right, products)
 }
 
 /// The same as `bf_g128_multiply_in_place`.
@@ -29,7 +28,7 @@ pub extern "C" fn bf_g128_multiply_wide(left: &[Wide], right: &[Wide], products:
 pub extern "C" fn bf_g128_multiply_in_place_wide(products: &mut [Wide], values: &[Wide]) -> u32
     ensures { Multiplies ghash_field products.old values.now products.old products.new result }
 {
-    c_arithmetic::multiply_in_place::<u128, Wide, GhashKernel, u64x4>(products, values)
+    c_calls::multiply_in_place::<u128, Wide, GhashKernel, u64x4>(products, values)
 }
 
 /// The same as `bf_g128_multiply_by`.
@@ -41,7 +40,7 @@ pub extern "C" fn bf_g128_multiply_by_wide(
 ) -> u32
     ensures { MultipliesBy ghash_field scalar.now values.now products.old products.new result }
 {
-    c_arithmetic::multiply_by::<u128, Wide, GhashKernel, u64x4>(values, *scalar, products)
+    c_calls::multiply_by::<u128, Wide, GhashKernel, u64x4>(values, *scalar, products)
 }
 
 /// The same as `bf_g128_multiply_by_in_place`.
@@ -49,7 +48,7 @@ pub extern "C" fn bf_g128_multiply_by_wide(
 pub extern "C" fn bf_g128_multiply_by_in_place_wide(values: &mut [Wide], scalar: &Wide) -> u32
     ensures { MultipliesBy ghash_field scalar.now values.old values.old values.new result }
 {
-    c_arithmetic::multiply_by_in_place::<u128, Wide, GhashKernel, u64x4>(values, *scalar)
+    c_calls::multiply_by_in_place::<u128, Wide, GhashKernel, u64x4>(values, *scalar)
 }
 
 /// The same as `bf_g128_add_scaled`.
@@ -57,7 +56,7 @@ pub extern "C" fn bf_g128_multiply_by_in_place_wide(values: &mut [Wide], scalar:
 pub extern "C" fn bf_g128_add_scaled_wide(sums: &mut [Wide], scalar: &Wide, values: &[Wide]) -> u32
     ensures { AddsScaled ghash_field scalar.now values.now sums.old sums.new result }
 {
-    c_arithmetic::add_scaled::<u128, Wide, GhashKernel, u64x4>(sums, *scalar, values)
+    c_calls::add_scaled::<u128, Wide, GhashKernel, u64x4>(sums, *scalar, values)
 }
 
 /// The same as `bf_g128_dot_product`.
@@ -65,7 +64,7 @@ pub extern "C" fn bf_g128_add_scaled_wide(sums: &mut [Wide], scalar: &Wide, valu
 pub extern "C" fn bf_g128_dot_product_wide(left: &[Wide], right: &[Wide], sum: &mut Wide) -> u32
     ensures { TakesDotProduct ghash_field left.now right.now sum.old sum.new result }
 {
-    c_arithmetic::dot_product::<u128, Wide, GhashKernel, u64x4>(left, right, sum)
+    c_calls::dot_product::<u128, Wide, GhashKernel, u64x4>(left, right, sum)
 }
 
 /// The same as `bf_g128_butterfly_forward`.
@@ -77,7 +76,7 @@ pub extern "C" fn bf_g128_butterfly_forward_wide(
 ) -> u32
     ensures { ButterfliesForward (wide_number scalar.now) low.old high.old low.new high.new result }
 {
-    c_arithmetic::butterfly_forward::<u64x4>(low, high, *scalar)
+    c_calls::butterfly_forward::<u64x4>(low, high, *scalar)
 }
 
 /// The same as `bf_g128_butterfly_inverse`.
@@ -89,7 +88,7 @@ pub extern "C" fn bf_g128_butterfly_inverse_wide(
 ) -> u32
     ensures { ButterfliesInverse (wide_number scalar.now) low.old high.old low.new high.new result }
 {
-    c_arithmetic::butterfly_inverse::<u64x4>(low, high, *scalar)
+    c_calls::butterfly_inverse::<u64x4>(low, high, *scalar)
 }
 
 /// The same as `bf_g128_low_stages`.
@@ -102,7 +101,7 @@ pub extern "C" fn bf_g128_low_stages_wide(
 ) -> u32
     ensures { RunsLowStages shifts.now basis.now first_run values.old values.new result }
 {
-    c_arithmetic::low_stages::<u64x4>(values, shifts, basis, first_run)
+    c_calls::low_stages::<u64x4>(values, shifts, basis, first_run)
 }
 
 /// The same as `bf_g128_transform`.
@@ -110,7 +109,7 @@ pub extern "C" fn bf_g128_low_stages_wide(
 pub extern "C" fn bf_g128_transform_wide(values: &mut [Wide], shift: &Wide) -> u32
     ensures { Transforms (wide_number shift.now) values.old values.new result }
 {
-    c_arithmetic::transform::<u64x4>(values, *shift)
+    c_calls::transform::<u64x4>(values, *shift)
 }
 
 /// The same as `bf_g128_inverse_transform`.
@@ -118,7 +117,7 @@ pub extern "C" fn bf_g128_transform_wide(values: &mut [Wide], shift: &Wide) -> u
 pub extern "C" fn bf_g128_inverse_transform_wide(values: &mut [Wide], shift: &Wide) -> u32
     ensures { InvertsTransform (wide_number shift.now) values.old values.new result }
 {
-    c_arithmetic::inverse_transform::<u64x4>(values, *shift)
+    c_calls::inverse_transform::<u64x4>(values, *shift)
 }
 
 /// The same as `bf_t16_multiply`.
@@ -126,7 +125,7 @@ pub extern "C" fn bf_g128_inverse_transform_wide(values: &mut [Wide], shift: &Wi
 pub extern "C" fn bf_t16_multiply_wide(left: &[u16], right: &[u16], products: &mut [u16]) -> u32
     ensures { Multiplies (level_field 4) left.now right.now products.old products.new result }
 {
-    c_arithmetic::multiply::<u16, u16, Tower<Bits16>, u64x4>(left, right, products)
+    c_calls::multiply::<u16, u16, Tower<Bits16>, u64x4>(left, right, products)
 }
 
 /// The same as `bf_t16_multiply_in_place`.
@@ -134,7 +133,7 @@ pub extern "C" fn bf_t16_multiply_wide(left: &[u16], right: &[u16], products: &m
 pub extern "C" fn bf_t16_multiply_in_place_wide(products: &mut [u16], values: &[u16]) -> u32
     ensures { Multiplies (level_field 4) products.old values.now products.old products.new result }
 {
-    c_arithmetic::multiply_in_place::<u16, u16, Tower<Bits16>, u64x4>(products, values)
+    c_calls::multiply_in_place::<u16, u16, Tower<Bits16>, u64x4>(products, values)
 }
 
 /// The same as `bf_t16_inverse`.
@@ -142,7 +141,7 @@ pub extern "C" fn bf_t16_multiply_in_place_wide(products: &mut [u16], values: &[
 pub extern "C" fn bf_t16_inverse_wide(values: &[u16], inverses: &mut [u16]) -> u32
     ensures { Inverts (level_field 4) values.now inverses.old inverses.new result }
 {
-    c_arithmetic::invert::<u16, u16, Tower<Bits16>, u64x4>(values, inverses)
+    c_calls::invert::<u16, u16, Tower<Bits16>, u64x4>(values, inverses)
 }
 
 /// The same as `bf_t16_inverse_in_place`.
@@ -150,7 +149,7 @@ pub extern "C" fn bf_t16_inverse_wide(values: &[u16], inverses: &mut [u16]) -> u
 pub extern "C" fn bf_t16_inverse_in_place_wide(values: &mut [u16]) -> u32
     ensures { Inverts (level_field 4) values.old values.old values.new result }
 {
-    c_arithmetic::invert_in_place::<u16, u16, Tower<Bits16>, u64x4>(values)
+    c_calls::invert_in_place::<u16, u16, Tower<Bits16>, u64x4>(values)
 }
 
 /// The same as `bf_t16_batch_inverse`.
@@ -158,7 +157,7 @@ pub extern "C" fn bf_t16_inverse_in_place_wide(values: &mut [u16]) -> u32
 pub extern "C" fn bf_t16_batch_inverse_wide(values: &[u16], inverses: &mut [u16]) -> u32
     ensures { Inverts (level_field 4) values.now inverses.old inverses.new result }
 {
-    c_arithmetic::batch_invert::<u16, u16, Tower<Bits16>, u64x4>(values, inverses)
+    c_calls::batch_invert::<u16, u16, Tower<Bits16>, u64x4>(values, inverses)
 }
 
 /// The same as `bf_t32_multiply`.
@@ -166,7 +165,7 @@ pub extern "C" fn bf_t16_batch_inverse_wide(values: &[u16], inverses: &mut [u16]
 pub extern "C" fn bf_t32_multiply_wide(left: &[u32], right: &[u32], products: &mut [u32]) -> u32
     ensures { Multiplies (level_field 5) left.now right.now products.old products.new result }
 {
-    c_arithmetic::multiply::<u32, u32, Tower<Bits32>, u64x4>(left, right, products)
+    c_calls::multiply::<u32, u32, Tower<Bits32>, u64x4>(left, right, products)
 }
 
 /// The same as `bf_t32_multiply_in_place`.
@@ -174,7 +173,7 @@ pub extern "C" fn bf_t32_multiply_wide(left: &[u32], right: &[u32], products: &m
 pub extern "C" fn bf_t32_multiply_in_place_wide(products: &mut [u32], values: &[u32]) -> u32
     ensures { Multiplies (level_field 5) products.old values.now products.old products.new result }
 {
-    c_arithmetic::multiply_in_place::<u32, u32, Tower<Bits32>, u64x4>(products, values)
+    c_calls::multiply_in_place::<u32, u32, Tower<Bits32>, u64x4>(products, values)
 }
 
 /// The same as `bf_t32_inverse`.
@@ -182,7 +181,7 @@ pub extern "C" fn bf_t32_multiply_in_place_wide(products: &mut [u32], values: &[
 pub extern "C" fn bf_t32_inverse_wide(values: &[u32], inverses: &mut [u32]) -> u32
     ensures { Inverts (level_field 5) values.now inverses.old inverses.new result }
 {
-    c_arithmetic::invert::<u32, u32, Tower<Bits32>, u64x4>(values, inverses)
+    c_calls::invert::<u32, u32, Tower<Bits32>, u64x4>(values, inverses)
 }
 
 /// The same as `bf_t32_inverse_in_place`.
@@ -190,7 +189,7 @@ pub extern "C" fn bf_t32_inverse_wide(values: &[u32], inverses: &mut [u32]) -> u
 pub extern "C" fn bf_t32_inverse_in_place_wide(values: &mut [u32]) -> u32
     ensures { Inverts (level_field 5) values.old values.old values.new result }
 {
-    c_arithmetic::invert_in_place::<u32, u32, Tower<Bits32>, u64x4>(values)
+    c_calls::invert_in_place::<u32, u32, Tower<Bits32>, u64x4>(values)
 }
 
 /// The same as `bf_t32_batch_inverse`.
@@ -198,7 +197,7 @@ pub extern "C" fn bf_t32_inverse_in_place_wide(values: &mut [u32]) -> u32
 pub extern "C" fn bf_t32_batch_inverse_wide(values: &[u32], inverses: &mut [u32]) -> u32
     ensures { Inverts (level_field 5) values.now inverses.old inverses.new result }
 {
-    c_arithmetic::batch_invert::<u32, u32, Tower<Bits32>, u64x4>(values, inverses)
+    c_calls::batch_invert::<u32, u32, Tower<Bits32>, u64x4>(values, inverses)
 }
 
 /// The same as `bf_t64_multiply`.
@@ -206,7 +205,7 @@ pub extern "C" fn bf_t32_batch_inverse_wide(values: &[u32], inverses: &mut [u32]
 pub extern "C" fn bf_t64_multiply_wide(left: &[u64], right: &[u64], products: &mut [u64]) -> u32
     ensures { Multiplies (level_field 6) left.now right.now products.old products.new result }
 {
-    c_arithmetic::multiply::<u64, u64, Tower<Bits64>, u64x4>(left, right, products)
+    c_calls::multiply::<u64, u64, Tower<Bits64>, u64x4>(left, right, products)
 }
 
 /// The same as `bf_t64_multiply_in_place`.
@@ -214,7 +213,7 @@ pub extern "C" fn bf_t64_multiply_wide(left: &[u64], right: &[u64], products: &m
 pub extern "C" fn bf_t64_multiply_in_place_wide(products: &mut [u64], values: &[u64]) -> u32
     ensures { Multiplies (level_field 6) products.old values.now products.old products.new result }
 {
-    c_arithmetic::multiply_in_place::<u64, u64, Tower<Bits64>, u64x4>(products, values)
+    c_calls::multiply_in_place::<u64, u64, Tower<Bits64>, u64x4>(products, values)
 }
 
 /// The same as `bf_t64_inverse`.
@@ -222,7 +221,7 @@ pub extern "C" fn bf_t64_multiply_in_place_wide(products: &mut [u64], values: &[
 pub extern "C" fn bf_t64_inverse_wide(values: &[u64], inverses: &mut [u64]) -> u32
     ensures { Inverts (level_field 6) values.now inverses.old inverses.new result }
 {
-    c_arithmetic::invert::<u64, u64, Tower<Bits64>, u64x4>(values, inverses)
+    c_calls::invert::<u64, u64, Tower<Bits64>, u64x4>(values, inverses)
 }
 
 /// The same as `bf_t64_inverse_in_place`.
@@ -230,7 +229,7 @@ pub extern "C" fn bf_t64_inverse_wide(values: &[u64], inverses: &mut [u64]) -> u
 pub extern "C" fn bf_t64_inverse_in_place_wide(values: &mut [u64]) -> u32
     ensures { Inverts (level_field 6) values.old values.old values.new result }
 {
-    c_arithmetic::invert_in_place::<u64, u64, Tower<Bits64>, u64x4>(values)
+    c_calls::invert_in_place::<u64, u64, Tower<Bits64>, u64x4>(values)
 }
 
 /// The same as `bf_t64_batch_inverse`.
@@ -238,7 +237,7 @@ pub extern "C" fn bf_t64_inverse_in_place_wide(values: &mut [u64]) -> u32
 pub extern "C" fn bf_t64_batch_inverse_wide(values: &[u64], inverses: &mut [u64]) -> u32
     ensures { Inverts (level_field 6) values.now inverses.old inverses.new result }
 {
-    c_arithmetic::batch_invert::<u64, u64, Tower<Bits64>, u64x4>(values, inverses)
+    c_calls::batch_invert::<u64, u64, Tower<Bits64>, u64x4>(values, inverses)
 }
 
 /// The same as `bf_t128_multiply`.
@@ -246,7 +245,7 @@ pub extern "C" fn bf_t64_batch_inverse_wide(values: &[u64], inverses: &mut [u64]
 pub extern "C" fn bf_t128_multiply_wide(left: &[Wide], right: &[Wide], products: &mut [Wide]) -> u32
     ensures { Multiplies wide_level_field left.now right.now products.old products.new result }
 {
-    c_arithmetic::multiply::<u128, Wide, Tower<Bits128>, u64x4>(left, right, products)
+    c_calls::multiply::<u128, Wide, Tower<Bits128>, u64x4>(left, right, products)
 }
 
 /// The same as `bf_t128_multiply_in_place`.
@@ -254,7 +253,7 @@ pub extern "C" fn bf_t128_multiply_wide(left: &[Wide], right: &[Wide], products:
 pub extern "C" fn bf_t128_multiply_in_place_wide(products: &mut [Wide], values: &[Wide]) -> u32
     ensures { Multiplies wide_level_field products.old values.now products.old products.new result }
 {
-    c_arithmetic::multiply_in_place::<u128, Wide, Tower<Bits128>, u64x4>(products, values)
+    c_calls::multiply_in_place::<u128, Wide, Tower<Bits128>, u64x4>(products, values)
 }
 
 /// The same as `bf_t128_inverse`.
@@ -262,7 +261,7 @@ pub extern "C" fn bf_t128_multiply_in_place_wide(products: &mut [Wide], values: 
 pub extern "C" fn bf_t128_inverse_wide(values: &[Wide], inverses: &mut [Wide]) -> u32
     ensures { Inverts wide_level_field values.now inverses.old inverses.new result }
 {
-    c_arithmetic::invert::<u128, Wide, Tower<Bits128>, u64x4>(values, inverses)
+    c_calls::invert::<u128, Wide, Tower<Bits128>, u64x4>(values, inverses)
 }
 
 /// The same as `bf_t128_inverse_in_place`.
@@ -270,7 +269,7 @@ pub extern "C" fn bf_t128_inverse_wide(values: &[Wide], inverses: &mut [Wide]) -
 pub extern "C" fn bf_t128_inverse_in_place_wide(values: &mut [Wide]) -> u32
     ensures { Inverts wide_level_field values.old values.old values.new result }
 {
-    c_arithmetic::invert_in_place::<u128, Wide, Tower<Bits128>, u64x4>(values)
+    c_calls::invert_in_place::<u128, Wide, Tower<Bits128>, u64x4>(values)
 }
 
 /// The same as `bf_t128_batch_inverse`.
@@ -278,7 +277,7 @@ pub extern "C" fn bf_t128_inverse_in_place_wide(values: &mut [Wide]) -> u32
 pub extern "C" fn bf_t128_batch_inverse_wide(values: &[Wide], inverses: &mut [Wide]) -> u32
     ensures { Inverts wide_level_field values.now inverses.old inverses.new result }
 {
-    c_arithmetic::batch_invert::<u128, Wide, Tower<Bits128>, u64x4>(values, inverses)
+    c_calls::batch_invert::<u128, Wide, Tower<Bits128>, u64x4>(values, inverses)
 }
 
 /// The same as `bf_p64_multiply`.
@@ -286,7 +285,7 @@ pub extern "C" fn bf_t128_batch_inverse_wide(values: &[Wide], inverses: &mut [Wi
 pub extern "C" fn bf_p64_multiply_wide(left: &[u64], right: &[u64], products: &mut [u64]) -> u32
     ensures { Multiplies poly64_field left.now right.now products.old products.new result }
 {
-    c_arithmetic::multiply::<u64, u64, Poly64Kernel, u64x4>(left, right, products)
+    c_calls::multiply::<u64, u64, Poly64Kernel, u64x4>(left, right, products)
 }
 
 /// The same as `bf_p64_multiply_in_place`.
@@ -294,7 +293,7 @@ pub extern "C" fn bf_p64_multiply_wide(left: &[u64], right: &[u64], products: &m
 pub extern "C" fn bf_p64_multiply_in_place_wide(products: &mut [u64], values: &[u64]) -> u32
     ensures { Multiplies poly64_field products.old values.now products.old products.new result }
 {
-    c_arithmetic::multiply_in_place::<u64, u64, Poly64Kernel, u64x4>(products, values)
+    c_calls::multiply_in_place::<u64, u64, Poly64Kernel, u64x4>(products, values)
 }
 
 /// The same as `bf_p64_inverse`.
@@ -302,7 +301,7 @@ pub extern "C" fn bf_p64_multiply_in_place_wide(products: &mut [u64], values: &[
 pub extern "C" fn bf_p64_inverse_wide(values: &[u64], inverses: &mut [u64]) -> u32
     ensures { Inverts poly64_field values.now inverses.old inverses.new result }
 {
-    c_arithmetic::invert::<u64, u64, Poly64Kernel, u64x4>(values, inverses)
+    c_calls::invert::<u64, u64, Poly64Kernel, u64x4>(values, inverses)
 }
 
 /// The same as `bf_p64_inverse_in_place`.
@@ -310,7 +309,7 @@ pub extern "C" fn bf_p64_inverse_wide(values: &[u64], inverses: &mut [u64]) -> u
 pub extern "C" fn bf_p64_inverse_in_place_wide(values: &mut [u64]) -> u32
     ensures { Inverts poly64_field values.old values.old values.new result }
 {
-    c_arithmetic::invert_in_place::<u64, u64, Poly64Kernel, u64x4>(values)
+    c_calls::invert_in_place::<u64, u64, Poly64Kernel, u64x4>(values)
 }
 
 /// The same as `bf_p64_batch_inverse`.
@@ -318,7 +317,7 @@ pub extern "C" fn bf_p64_inverse_in_place_wide(values: &mut [u64]) -> u32
 pub extern "C" fn bf_p64_batch_inverse_wide(values: &[u64], inverses: &mut [u64]) -> u32
     ensures { Inverts poly64_field values.now inverses.old inverses.new result }
 {
-    c_arithmetic::batch_invert::<u64, u64, Poly64Kernel, u64x4>(values, inverses)
+    c_calls::batch_invert::<u64, u64, Poly64Kernel, u64x4>(values, inverses)
 }
 
 /// The same as `bf_g128_inverse`.
@@ -326,7 +325,7 @@ pub extern "C" fn bf_p64_batch_inverse_wide(values: &[u64], inverses: &mut [u64]
 pub extern "C" fn bf_g128_inverse_wide(values: &[Wide], inverses: &mut [Wide]) -> u32
     ensures { Inverts ghash_field values.now inverses.old inverses.new result }
 {
-    c_arithmetic::invert::<u128, Wide, GhashKernel, u64x4>(values, inverses)
+    c_calls::invert::<u128, Wide, GhashKernel, u64x4>(values, inverses)
 }
 
 /// The same as `bf_g128_inverse_in_place`.
@@ -334,7 +333,7 @@ pub extern "C" fn bf_g128_inverse_wide(values: &[Wide], inverses: &mut [Wide]) -
 pub extern "C" fn bf_g128_inverse_in_place_wide(values: &mut [Wide]) -> u32
     ensures { Inverts ghash_field values.old values.old values.new result }
 {
-    c_arithmetic::invert_in_place::<u128, Wide, GhashKernel, u64x4>(values)
+    c_calls::invert_in_place::<u128, Wide, GhashKernel, u64x4>(values)
 }
 
 /// The same as `bf_g128_batch_inverse`.
@@ -342,7 +341,7 @@ pub extern "C" fn bf_g128_inverse_in_place_wide(values: &mut [Wide]) -> u32
 pub extern "C" fn bf_g128_batch_inverse_wide(values: &[Wide], inverses: &mut [Wide]) -> u32
     ensures { Inverts ghash_field values.now inverses.old inverses.new result }
 {
-    c_arithmetic::batch_invert::<u128, Wide, GhashKernel, u64x4>(values, inverses)
+    c_calls::batch_invert::<u128, Wide, GhashKernel, u64x4>(values, inverses)
 }
 
 /// The same as `bf_g128_matrix_multiply`.
@@ -357,7 +356,7 @@ pub extern "C" fn bf_g128_matrix_multiply_wide(
 ) -> u32
     ensures { MultipliesMatrices ghash_field rows inner columns left.now right.now product.old product.new result }
 {
-    c_matrices::multiply::<u128, Wide, GhashKernel, u64x4>(
+    c_calls::matrices::multiply::<u128, Wide, GhashKernel, u64x4>(
         left, right, product, rows, inner, columns,
     )
 }
@@ -373,7 +372,7 @@ pub extern "C" fn bf_g128_matrix_row_reduce_wide(
 ) -> u32
     ensures { ReducesRows ghash_field rows columns matrix.old pivots.old rank.old matrix.new pivots.new rank.new result }
 {
-    c_matrices::row_reduce::<u128, Wide, GhashKernel, u64x4>(
+    c_calls::matrices::row_reduce::<u128, Wide, GhashKernel, u64x4>(
         matrix, rows, columns, pivots, rank,
     )
 }
@@ -390,7 +389,7 @@ pub extern "C" fn bf_g128_matrix_rank_wide(
 ) -> u32
     ensures { TakesRank ghash_field rows columns matrix.now (length space.old) (length places.old) rank.old rank.new result }
 {
-    c_matrices::rank::<u128, Wide, GhashKernel, u64x4>(
+    c_calls::matrices::rank::<u128, Wide, GhashKernel, u64x4>(
         matrix, rows, columns, space, places, rank,
     )
 }
@@ -405,7 +404,7 @@ pub extern "C" fn bf_g128_matrix_determinant_wide(
 ) -> u32
     ensures { TakesDeterminant ghash_field size matrix.now (length space.old) determinant.old determinant.new result }
 {
-    c_matrices::determinant::<u128, Wide, GhashKernel, u64x4>(
+    c_calls::matrices::determinant::<u128, Wide, GhashKernel, u64x4>(
         matrix,
         size,
         space,
@@ -424,7 +423,7 @@ pub extern "C" fn bf_g128_matrix_inverse_wide(
 ) -> u32
     ensures { InvertsMatrix ghash_field size matrix.now (length space.old) (length places.old) inverse.old inverse.new result }
 {
-    c_matrices::inverse::<u128, Wide, GhashKernel, u64x4>(
+    c_calls::matrices::inverse::<u128, Wide, GhashKernel, u64x4>(
         matrix, size, inverse, space, places,
     )
 }
@@ -443,7 +442,7 @@ pub extern "C" fn bf_g128_matrix_solve_wide(
     ensures { SolvesEquations ghash_field rows columns matrix.now right.now (length space.old)
         (length places.old) solution.old solution.new result }
 {
-    c_matrices::solve::<u128, Wide, GhashKernel, u64x4>(
+    c_calls::matrices::solve::<u128, Wide, GhashKernel, u64x4>(
         matrix, rows, columns, right, solution, space, places,
     )
 }
@@ -453,7 +452,7 @@ pub extern "C" fn bf_g128_matrix_solve_wide(
 pub extern "C" fn bf_tag_ghash_wide(key: &[u8], message: &[u8], hash: &mut [u8]) -> u32
     ensures { Hashes (Unit {0}) key.now (ghash key.now (blocks_of message.now)) hash.old hash.new result }
 {
-    c_arithmetic::hash::<tags::HighestFirst, u64x4>(key, message, hash)
+    c_calls::hash::<tags::HighestFirst, u64x4>(key, message, hash)
 }
 
 /// The same as `bf_tag_polyval`.
@@ -461,7 +460,7 @@ pub extern "C" fn bf_tag_ghash_wide(key: &[u8], message: &[u8], hash: &mut [u8])
 pub extern "C" fn bf_tag_polyval_wide(key: &[u8], message: &[u8], hash: &mut [u8]) -> u32
     ensures { Hashes (Unit {0}) key.now (polyval key.now (blocks_of message.now)) hash.old hash.new result }
 {
-    c_arithmetic::hash::<tags::LowestFirst, u64x4>(key, message, hash)
+    c_calls::hash::<tags::LowestFirst, u64x4>(key, message, hash)
 }
 
 /// The same as `bf_tag_gcm_ghash`.
@@ -475,7 +474,7 @@ pub extern "C" fn bf_tag_gcm_ghash_wide(
     ensures { Hashes ((length associated.now < 2 ^ 61) × (length ciphertext.now < 2 ^ 61)) key.now
         (ghash key.now (gcm_blocks associated.now ciphertext.now)) hash.old hash.new result }
 {
-    c_arithmetic::gcm_ghash::<u64x4>(key, associated, ciphertext, hash)
+    c_calls::gcm_ghash::<u64x4>(key, associated, ciphertext, hash)
 }
 
 /// The same as `bf_tag_ghash_update`.
@@ -483,7 +482,7 @@ pub extern "C" fn bf_tag_gcm_ghash_wide(
 pub extern "C" fn bf_tag_ghash_update_wide(key: &[u8], blocks: &[u8], hash: &mut [u8]) -> u32
     ensures { Hashes (length blocks.now % 16 ≡ 0) key.now (ghash_from key.now hash.old (blocks_of blocks.now)) hash.old hash.new result }
 {
-    c_arithmetic::hash_update::<tags::HighestFirst, u64x4>(key, blocks, hash)
+    c_calls::hash_update::<tags::HighestFirst, u64x4>(key, blocks, hash)
 }
 
 /// The same as `bf_tag_ghash_update_padded`.
@@ -495,7 +494,7 @@ pub extern "C" fn bf_tag_ghash_update_padded_wide(
 ) -> u32
     ensures { Hashes (Unit {0}) key.now (ghash_from key.now hash.old (blocks_of message.now)) hash.old hash.new result }
 {
-    c_arithmetic::hash_update_padded::<tags::HighestFirst, u64x4>(key, message, hash)
+    c_calls::hash_update_padded::<tags::HighestFirst, u64x4>(key, message, hash)
 }
 
 /// The same as `bf_tag_ghash_update_prepared`.
@@ -507,7 +506,7 @@ pub extern "C" fn bf_tag_ghash_update_prepared_wide(
 ) -> u32
     ensures { HashesPrepared ghash_prepared prepared.now (λ key. ghash_from key hash.old (blocks_of message.now)) hash.old hash.new result }
 {
-    c_arithmetic::hash_update_prepared::<tags::HighestFirst, u64x4>(prepared, message, hash)
+    c_calls::hash_update_prepared::<tags::HighestFirst, u64x4>(prepared, message, hash)
 }
 
 /// The same as `bf_tag_polyval_update`.
@@ -515,7 +514,7 @@ pub extern "C" fn bf_tag_ghash_update_prepared_wide(
 pub extern "C" fn bf_tag_polyval_update_wide(key: &[u8], blocks: &[u8], hash: &mut [u8]) -> u32
     ensures { Hashes (length blocks.now % 16 ≡ 0) key.now (polyval_from key.now hash.old (blocks_of blocks.now)) hash.old hash.new result }
 {
-    c_arithmetic::hash_update::<tags::LowestFirst, u64x4>(key, blocks, hash)
+    c_calls::hash_update::<tags::LowestFirst, u64x4>(key, blocks, hash)
 }
 
 /// The same as `bf_tag_polyval_update_padded`.
@@ -527,7 +526,7 @@ pub extern "C" fn bf_tag_polyval_update_padded_wide(
 ) -> u32
     ensures { Hashes (Unit {0}) key.now (polyval_from key.now hash.old (blocks_of message.now)) hash.old hash.new result }
 {
-    c_arithmetic::hash_update_padded::<tags::LowestFirst, u64x4>(key, message, hash)
+    c_calls::hash_update_padded::<tags::LowestFirst, u64x4>(key, message, hash)
 }
 
 /// The same as `bf_tag_polyval_update_prepared`.
@@ -540,5 +539,5 @@ pub extern "C" fn bf_tag_polyval_update_prepared_wide(
     ensures { HashesPrepared polyval_prepared prepared.now (λ key. polyval_from key hash.old
         (blocks_of message.now)) hash.old hash.new result }
 {
-    c_arithmetic::hash_update_prepared::<tags::LowestFirst, u64x4>(prepared, message, hash)
+    c_calls::hash_update_prepared::<tags::LowestFirst, u64x4>(prepared, message, hash)
 }

@@ -1,3 +1,4 @@
+pub mod BitMatrices
 pub mod BitsRingLemmas
 pub mod EveryLaneLemmas
 pub mod Lanes

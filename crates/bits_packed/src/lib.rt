@@ -1,8 +1,21 @@
-//! Packed bits: 8 to 512 lanes of GF(2) in one value, which is a ring, and square matrices of them, transposed.
+//! Packed bits: 8 to 512 lanes of GF(2) in one value, which is a ring, and square matrices of them, transposed; and in the module `matrices`,
+//! matrices over GF(2) of any shape, in memory of the caller.
 #![tactic(auto)]
 
+mod draws;
+mod identities;
+mod inverses;
 mod laws;
+pub mod matrices;
+mod null_spaces;
 mod packed;
+mod pending;
+mod products;
+mod reduction;
+mod rows;
+mod systems;
+mod tables;
+mod transposes;
 
 pub use crate::laws::transposing_twice_returns;
 pub use crate::packed::{

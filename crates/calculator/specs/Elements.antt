@@ -1,7 +1,7 @@
 -- Elements of a field as text.
 use Rattle.std.specs.Prelude.{◌≡◌, ℕ, ◌^◌, ◌<◌, List, ◌++◌, Some}
 use Rattle.std.specs.Option.{option_map}
-use Rattle.word_cubic.specs.Cubic.{triple}
+use Rattle.word_polynomial.specs.Cubic.{triple}
 use Rattle.calculator.specs.Digits.{hex_text, operand_value}
 use Rattle.calculator.specs.Fields.{WrittenField, bytes_of, cubic_extension, field_named}
 

@@ -4,7 +4,7 @@ use Rattle.std.specs.Str.{bytes_eq}
 use Rattle.field_base.specs.Chunks.{chunk}
 use Rattle.field_base.specs.Remainder.{mul_mod, aes_modulus, poly64_modulus, ghash_modulus}
 use Rattle.field_base.specs.Tower.{tower_mul}
-use Rattle.word_cubic.specs.Cubic.{cubic, triple}
+use Rattle.word_polynomial.specs.Cubic.{cubic, triple}
 
 -- a field: how many bits an element has, the product of elements, and the change of order that takes the number which a text
 -- writes to the number of the element, and back

@@ -11,9 +11,8 @@ use crate::names::Fault;
 use crate::text::Answer;
 use crate::words::next_word;
 use field_base::Unsigned;
-use word_cubic::Triple;
 use word_polynomial::{
-    CubicKernel, GhashModulus, Modulus, Poly64Modulus, Polynomials, RijndaelModulus,
+    CubicKernel, GhashModulus, Modulus, Poly64Modulus, Polynomials, RijndaelModulus, Triple,
 };
 use word_tower::{Bits1, Bits2, Bits4, Bits8, Bits16, Bits32, Bits64, Bits128, Level, Tower};
 

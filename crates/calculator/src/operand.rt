@@ -8,8 +8,7 @@ ghost use Rattle.calculator.specs.Number.{wide_value};
 
 use crate::number::Number;
 use field_base::{FieldKernel, Stored, Unsigned};
-use word_cubic::Triple;
-use word_polynomial::{CubicKernel, Modulus, Polynomials};
+use word_polynomial::{CubicKernel, Modulus, Polynomials, Triple};
 use word_tower::{Level, Tower};
 
 /// A field whose elements lines may write.

@@ -11,14 +11,22 @@ pub mod CarrylessFacts
 pub mod CarrylessPairs
 pub mod CarrylessProduct
 pub mod ChunkLists
+pub mod Codewords
 pub mod Coefficients
 pub mod DotLemmas
 pub mod EightCases
 pub mod FieldLemmas
+mod Groups
+pub mod Horner
+pub mod Interpolation
+pub mod LevelFacts
 pub mod LinearMapLemmas
 pub mod LogTables
 pub mod Norms
+mod Pigeonhole
 pub mod Places
+pub mod PolynomialCoefficients
+pub mod Polynomials
 pub mod PowerLemmas
 pub mod QuadraticProducts
 pub mod QuadraticRing
@@ -40,4 +48,3 @@ pub mod TowerSqrt
 pub mod TowerTraces
 pub mod ValueLemmas
 pub mod Written
-pub mod Horner

@@ -4,12 +4,15 @@ pub mod BitRingLemmas
 pub mod ByteTables
 pub mod Carryless
 pub mod Chunks
+pub mod Codewords
 pub mod Field
+pub mod Interpolation
 pub mod LinearMaps
 pub mod LogTables
 pub mod Norm
 pub mod Operators
 pub mod Orders
+pub mod PolynomialRoots
 pub mod Powers
 pub mod Quadratic
 pub mod Remainder

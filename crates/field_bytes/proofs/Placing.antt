@@ -6,7 +6,7 @@ use Rattle.std.proofs.lemmas.Nat.{field_of, pow-add, pow_pos, shr-shr, shr_high}
 use native.Mathlib.Nat.{mod-eq_of_lt, mul-add-mod_self_left, mul_assoc}
 use Rattle.field_base.specs.Chunks.{chunk}
 use Rattle.field_base.specs.Quadratic.{pair}
-use Rattle.word_cubic.specs.Cubic.{triple}
+use Rattle.word_polynomial.specs.Cubic.{triple}
 use Rattle.field_base.proofs.ChunkLists.{more-lt}
 
 -- one byte more fits a number of 16 bytes, and is put there whole

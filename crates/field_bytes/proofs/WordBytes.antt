@@ -10,7 +10,7 @@ use Rattle.field_bytes.specs.Bytes.{low_bytes, number_of_bytes}
 use Rattle.field_base.specs.Chunks.{chunk, chunks, joined}
 use Rattle.field_base.specs.Quadratic.{pair}
 use Rattle.field_bytes.proofs.Taking.{next_place, number-append, number-more}
-use Rattle.word_cubic.specs.Cubic.{triple}
+use Rattle.word_polynomial.specs.Cubic.{triple}
 use Rattle.field_base.proofs.ChunkLists.{chunks-whole}
 
 -- a number below 2 ^ 8 is its only byte

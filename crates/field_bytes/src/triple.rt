@@ -3,11 +3,11 @@ ghost use Rattle.std.specs.Prelude.{◌≡◌, ◌<◌, ◌*◌, ◌^◌, ◌+�
 ghost use Rattle.std.proofs.Common.{lit<};
 ghost use Rattle.field_base.specs.Chunks.{chunk};
 ghost use Rattle.field_bytes.specs.Bytes.{low_bytes, number_of_bytes};
-ghost use Rattle.word_cubic.specs.Triple.{triple_number};
+ghost use Rattle.word_polynomial.specs.Triple.{triple_number};
 
 use crate::little_endian::{LittleEndian, put_byte, read_byte};
 use field_element::Coefficients;
-use word_cubic::Triple;
+use word_polynomial::Triple;
 
 // Byte `i` of the 24 bytes of three words.
 #[tactic(auto, using(crate::proofs::Placing::first_byte, crate::proofs::Placing::second_byte, crate::proofs::Placing::third_byte))]

@@ -3,7 +3,7 @@ ghost use Rattle.std.specs.Prelude.{◌≡◌, ◌≢◌, ◌<◌, ◌^◌, ℕ,
 ghost use Rattle.field_base.specs.Chunks.{chunks};
 ghost use Rattle.field_base.specs.Operators.{given};
 ghost use Rattle.field_base.specs.Remainder.{mul_mod, poly64_modulus};
-ghost use Rattle.word_cubic.specs.Cubic.{cubic};
+ghost use Rattle.word_polynomial.specs.Cubic.{cubic};
 ghost use Rattle.field_element.specs.Element.{repr_of};
 
 use crate::element::{Coefficients, Element};
@@ -88,7 +88,7 @@ impl DivAssign<Poly64> for Poly192 {
 
 impl Algebra<Poly64> for Poly192 {
     ghost use Rattle.field_base.proofs.RemainderRing.{poly64_ring};
-    ghost use Rattle.word_cubic.proofs.CubicRing.{cubic-low};
+    ghost use Rattle.word_polynomial.proofs.CubicRing.{cubic-low};
 
     ghost image = { λ a. a };
 

@@ -5,8 +5,8 @@ use native.Mathlib.Numerals.{add-one}
 use Rattle.field_base.specs.Basis.{product_below}
 use Rattle.field_base.specs.Field.{IsField}
 use Rattle.field_base.proofs.FieldLemmas.{inverse-power}
-use Rattle.field_laws.specs.Interpolation.{lagrange, other_factors}
-use Rattle.field_laws.proofs.Interpolation.{factors-lt, factors-nonzero, factors_more, factors_skip}
+use Rattle.field_base.specs.Interpolation.{lagrange, other_factors}
+use Rattle.field_base.proofs.Interpolation.{factors-lt, factors-nonzero, factors_more, factors_skip}
 
 module _ (width : ℕ) (times : ℕ → ℕ → ℕ) (field : IsField width times) (wide : 0 < width) where
   pub differences-none : (own x : ℕ) → 1 ≡ other_factors times (λ i. i) own x 0

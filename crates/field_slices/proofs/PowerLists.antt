@@ -6,7 +6,7 @@ use Rattle.std.proofs.lemmas.List.FromFn.{map-range_with_len_more}
 use Rattle.field_base.specs.Powers.{power}
 use Rattle.field_base.specs.Ring.{IsRing}
 use Rattle.field_base.proofs.PowerLemmas.{times-one}
-use Rattle.field_matrices.proofs.NextTerms.{power-next}
+use Rattle.field_slices.proofs.NextTerms.{power-next}
 
 -- one element more at the end of a list of numbers that a function gives
 pub pushed : {A : Type 0} (repr : A → ℕ) (f : ℕ → ℕ) (xs : List A) (n : ℕ) (x : A) → map repr xs ≡ map f (range_with_len 0 n)

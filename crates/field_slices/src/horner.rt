@@ -2,8 +2,8 @@
 ghost use Rattle.std.specs.Prelude.{◌≡◌, ◌%◌, ◌≤◌, ◌++◌, length};
 ghost use Rattle.field_base.specs.Powers.{repeated_square, value_of};
 
+use crate::{Elements, Scalars};
 use field_base::traits::Field;
-use field_matrices::{Elements, Scalars};
 
 /// The value at `x` of the polynomial with these coefficients, lowest first: the sum of `coefficients[k]` times x^k; of no
 /// coefficients it is 0. It is `value_at` of elements.

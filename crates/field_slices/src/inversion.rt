@@ -4,8 +4,8 @@ ghost use Rattle.std.specs.Prelude.{◌≡◌, ◌≢◌, ◌<◌, ℕ, length, 
 ghost use Rattle.field_base.specs.Field.{AreInverses};
 ghost use Rattle.field_slices.specs.Inverses.{nonzero_product};
 
+use crate::{Elements, Scalars};
 use field_base::traits::Field;
-use field_matrices::{Elements, Scalars};
 use std::alloc::{AllocError, Allocator};
 
 /// The inverses of the elements, place by place, with 0 for 0. Fewer than `F::LEAST_INVERTED` take one inverse, and three products for

@@ -1,6 +1,6 @@
 // Values of a polynomial that is given by its values at the first elements of its field, by Lagrange's formula.
 ghost use Rattle.std.specs.Prelude.{◌≡◌, ◌^◌, ◌<◌, ◌≤◌, length, map, slice_index};
-ghost use Rattle.field_laws.specs.Interpolation.{interpolated, lagrange, other_factors};
+ghost use Rattle.field_base.specs.Interpolation.{interpolated, lagrange, other_factors};
 
 use field_base::traits::{Field, PrimeCharacteristicRing};
 

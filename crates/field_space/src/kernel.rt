@@ -5,14 +5,13 @@ ghost use native.Mathlib.Nat.{mul-one};
 ghost use Rattle.field_base.specs.Chunks.{chunk};
 ghost use Rattle.field_base.specs.Remainder.{mul_mod, poly64_modulus};
 ghost use Rattle.field_base.proofs.RemainderRing.{poly64_ring};
-ghost use Rattle.word_cubic.proofs.CubicRing.{chunk-cubic};
-ghost use Rattle.word_cubic.specs.Triple.{triple_number};
+ghost use Rattle.word_polynomial.proofs.CubicRing.{chunk-cubic};
+ghost use Rattle.word_polynomial.specs.Triple.{triple_number};
 ghost use Rattle.field_base.proofs.Coefficients.{scales_one_coefficient};
 
 use field_base::{FieldKernel, Stored};
 use field_element::Coefficients;
-use word_cubic::Triple;
-use word_polynomial::{CubicKernel, Poly64Kernel};
+use word_polynomial::{CubicKernel, Poly64Kernel, Triple};
 
 /// A field `Self`, stored in `R`, whose elements are vectors over the field `J`, stored in `S`: coefficient i of an element is
 /// chunk i of its number, of as many bits as an element of `J` has, the lowest first. Every field is a space of dimension 1 over

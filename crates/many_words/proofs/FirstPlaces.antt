@@ -6,7 +6,7 @@ use Rattle.std.proofs.lemmas.Bool.{cases_lt}
 use Rattle.std.proofs.lemmas.List.{get_or-map, get_or_default, get_or-set_other, get_or-set_same, get_or_past, length-map, length-set}
 use Rattle.field_base.specs.Tower.{tower_mul}
 use Rattle.field_base.proofs.TowerRing.{tower_ring}
-use Rattle.tower_transforms.specs.Units.{FirstAre}
+use Rattle.additive_transforms.specs.Units.{FirstAre}
 use Rattle.many_words.specs.Places.{FirstHold}
 
 module _ {W : Type 0} (number : W → ℕ) (value : ℕ → W → ℕ) where

@@ -6,9 +6,9 @@ use Rattle.std.proofs.lemmas.List.{get_or-set_other, get_or-set_same, map-id}
 use native.Mathlib.Nat.{mod-eq_of_lt, mul-one}
 use lib.Bits.{xor_comm, xor_zero_r}
 use Rattle.field_base.specs.LinearMaps.{linear_image}
-use Rattle.tower_transforms.specs.Rows.{level_of}
-use Rattle.tower_transforms.specs.Units.{ArePut, AreUnits, FirstAre}
-use Rattle.tower_transforms.proofs.WordSteps.{block_put, numbers_read}
+use Rattle.additive_transforms.specs.Rows.{level_of}
+use Rattle.additive_transforms.specs.Units.{ArePut, AreUnits, FirstAre}
+use Rattle.additive_transforms.proofs.WordSteps.{block_put, numbers_read}
 use Rattle.many_words.proofs.FourImages.{four_images}
 
 module _ (d size lanes block : ℕ) (f : ℕ → ℕ) (same : size ≡ d) (sixteen : lanes ≡ 16) where

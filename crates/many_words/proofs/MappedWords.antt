@@ -6,7 +6,7 @@ use native.Mathlib.Nat.{mod-eq_of_lt, mod-lt}
 use Rattle.field_base.specs.LinearMaps.{linear_image}
 use Rattle.field_base.specs.Ring.{IsRing}
 use Rattle.field_base.proofs.RingLemmas.{times-mod}
-use Rattle.tower_transforms.specs.Units.{FirstAre}
+use Rattle.additive_transforms.specs.Units.{FirstAre}
 use Rattle.many_words.specs.Places.{FirstHold}
 use Rattle.many_words.proofs.FirstPlaces.{first_of_numbers, multiplied, summed}
 

@@ -6,7 +6,7 @@ use Rattle.std.proofs.lemmas.List.{get_or-drop, get_or-take}
 use Rattle.std.proofs.lemmas.Nat.{pow-add}
 use native.Mathlib.Nat.{mod-lt}
 use lib.Bits.{xor_assoc}
-use Rattle.tower_transforms.specs.Rows.{level_of}
+use Rattle.additive_transforms.specs.Rows.{level_of}
 use Rattle.many_words.specs.Maps.{AreTables}
 use Rattle.many_words.proofs.NumberParts.{two_parts_at}
 

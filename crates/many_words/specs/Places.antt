@@ -1,7 +1,7 @@
 -- Slices of words whose first words are changed, and fields whose words are changed in planes and in slices of bits.
 use Rattle.std.specs.Prelude.{◌≡◌, ℕ, ◌^◌, ◌<◌, ◌≤◌, List, length, get_or, refl}
 use Rattle.field_base.specs.Tower.{tower_mul}
-use Rattle.tower_transforms.specs.Rows.{level_of}
+use Rattle.additive_transforms.specs.Rows.{level_of}
 
 -- a field of so many bits and such a product, in words of 2 ^ size bytes, is the level of the tower of elements of 2 ^ d bytes, which words are
 pub record IsInPlanes (d size width : ℕ) (product : ℕ → ℕ → ℕ) : Type 0 where

@@ -3,8 +3,8 @@
 ghost use Rattle.std.specs.Prelude.{◌≡◌, ℕ, ◌*◌, ◌/◌, ◌%◌, ◌^◌, ◌<◌, bit_xor, length, refl, slice_index};
 ghost use Rattle.many_words.specs.Maps.{AreTables};
 
+use additive_transforms::{ByteMultiples, HalfMultiples, Pair, Planes};
 use std::simd::prelude::*;
-use tower_transforms::{ByteMultiples, HalfMultiples, Pair, Planes};
 use word_tables::ByteVector;
 
 /// Sixteen numbers in planes.

@@ -3,8 +3,8 @@ ghost use Rattle.std.specs.Prelude.{◌≡◌, ◌<◌, ◌^◌, ◌↔◌, IsTr
 ghost use Rattle.field_base.specs.Field.{IsInverseOrZero};
 ghost use Rattle.field_base.specs.Powers.{dot_of};
 
+use additive_transforms::Holds;
 use field_base::{FieldKernel, Stored};
-use tower_transforms::Holds;
 
 /// The word 0.
 #[inline]

@@ -8,8 +8,10 @@ ghost use Rattle.many_words.specs.Places.{IsInPlanes};
 mod impls;
 
 use crate::fields;
+use additive_transforms::{
+    Holds, PlaneScalars, WordBytes, WordPlanes, add_multiples, multiply_words,
+};
 use field_base::{FieldKernel, Unsigned};
-use tower_transforms::{Holds, PlaneScalars, WordBytes, WordPlanes, add_multiples, multiply_words};
 
 /// A field that is a level of the tower, and the planes that it multiplies them in.
 pub(crate) trait FieldInPlanes<R: Unsigned, W: WordBytes<R>>: FieldKernel<R> {

@@ -14,11 +14,11 @@ mod levels;
 use crate::fields;
 use crate::one_by_one::{change_all, change_all_by};
 use crate::operations::{Inverse, Product, Scaled, ScaledSum};
+use additive_transforms::Holds;
 use bit_slices::Vector;
 use field_base::{FieldKernel, Stored};
 use ghash_slices::Width;
 use std::simd::prelude::*;
-use tower_transforms::Holds;
 
 /// A field, and what it computes on many of its words `W` at once: its stored words, or those in which others hold them. A call at a field names
 /// these methods, and not the planes or slices of bits behind them: naming those takes seconds in each function, and more with each level.

@@ -9,9 +9,9 @@ ghost use Rattle.many_words.specs.Fields.{field_of};
 use crate::entries::Entries;
 use crate::fields;
 use crate::word_maps::{add_images, map_words, set_tables};
+use additive_transforms::{ByteMultiples, HalfMultiples, Pair, WordBytes};
 use field_base::FieldKernel;
 use std::simd::prelude::*;
-use tower_transforms::{ByteMultiples, HalfMultiples, Pair, WordBytes};
 use word_carryless::{reduce_64, split_128};
 
 // Sixteen words in planes, and what names them as such.

@@ -3,8 +3,8 @@ ghost use Rattle.std.specs.Prelude.{◌≡◌, ◌<◌, ◌^◌, ℕ, bit_xor};
 ghost use Rattle.field_base.specs.Field.{IsInverseOrZero};
 
 use crate::fields;
+use additive_transforms::Holds;
 use field_base::{FieldKernel, Stored};
-use tower_transforms::Holds;
 
 /// An operation on one element of the field of a kernel.
 pub trait OnOne<R: Stored, W: Holds<R>, K: FieldKernel<R>> {

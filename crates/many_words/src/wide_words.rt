@@ -10,8 +10,8 @@ ghost use Rattle.many_words.specs.Room.{few_fit};
 ghost use Rattle.many_words.specs.Words.{EachOfTwo, HoldInverses};
 
 use crate::in_slices::{invert_images, invert_words, multiply_words};
+use additive_transforms::GhashWord;
 use bit_slices::Vector;
-use tower_transforms::GhashWord;
 use word_polynomial::GhashModulus;
 use word_tower::{Bits128, Tower};
 

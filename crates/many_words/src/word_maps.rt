@@ -3,13 +3,13 @@
 ghost use Rattle.std.specs.Prelude.{◌≡◌, ℕ, ◌+◌, ◌*◌, ◌%◌, ◌^◌, ◌<◌, ◌≤◌, [], ◌∷◌};
 ghost use Rattle.std.specs.Prelude.{bit_xor, length, map, slice_index};
 ghost use Rattle.field_base.specs.LinearMaps.{linear_image};
-ghost use Rattle.tower_transforms.specs.Rows.{level_of};
-ghost use Rattle.tower_transforms.specs.Units.{FirstAre};
+ghost use Rattle.additive_transforms.specs.Rows.{level_of};
+ghost use Rattle.additive_transforms.specs.Units.{FirstAre};
 ghost use Rattle.many_words.specs.Maps.{AreTables};
 
 use crate::entries::{Digits, Entries};
+use additive_transforms::{WordBytes, WordPlanes};
 use field_base::Stored;
-use tower_transforms::{WordBytes, WordPlanes};
 
 /// Writes over each word its image, sixteen words at once, and returns how many: those that fill no vector at the end stay.
 #[inline]

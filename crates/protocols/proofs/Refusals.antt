@@ -3,8 +3,8 @@ use Rattle.std.proofs.Common.{◌≡◌, ◌≢◌, ◌↔◌, ◌⊎◌, inl, i
 use Rattle.std.specs.Prelude.{IsErrAnd, IsTrue, OnErr}
 use Rattle.std.proofs.lemmas.Bool.{true≢false}
 use Rattle.std.proofs.lemmas.Result.{err_from_is_err_and}
-use Rattle.transcript_bytes.specs.declared.error.ChallengerError.{ChallengerError}
-use Rattle.transcript_bytes.specs.declared.error.ChallengerError.TheVariants as challenger_error
+use Rattle.transcripts.specs.declared.error.ChallengerError.{ChallengerError}
+use Rattle.transcripts.specs.declared.error.ChallengerError.TheVariants as challenger_error
 use Rattle.transcript_elements.specs.Grinding.{FailsSearch, NonePasses, candidate_count}
 use Rattle.transcript_elements.specs.declared.error.GrindError.{GrindError}
 use Rattle.protocols.specs.Refusals.{CanBeStated, error_of_call, error_of_search, IsAnswer, IsOutcome, VerifierRefuses}

@@ -12,7 +12,7 @@ use Rattle.field_base.specs.Ring.{IsRing}
 use Rattle.field_base.proofs.BasisSums.{product_below-same, sum_below-add, sum_below-same}
 use Rattle.field_base.proofs.PowerLemmas.{one-times}
 use Rattle.field_base.proofs.RingLemmas.{times-zero}
-use Rattle.field_laws.proofs.Polynomials.{IsPolynomial, polynomial-same, polynomial-scale, polynomial-sum, polynomial-zero, nil_xor}
+use Rattle.field_base.proofs.Polynomials.{IsPolynomial, polynomial-same, polynomial-scale, polynomial-sum, polynomial-zero, nil_xor}
 use Rattle.field_slices.specs.Multilinear.{eq_corner, folded, folded_all, on_line}
 use Rattle.field_slices.proofs.CornerSums.{corners-line, weighted-line}
 use Rattle.field_slices.proofs.CubeLaws.{line-one, line-zero}

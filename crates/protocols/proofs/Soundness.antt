@@ -7,9 +7,9 @@ use Rattle.std.proofs.lemmas.List.FromFn.{get_or-map-range_with_len, length-map-
 use Rattle.std.proofs.lemmas.Nat.{xor_lt, xor_comm}
 use Rattle.field_base.specs.Field.{IsField}
 use Rattle.field_base.proofs.RingLemmas.{xor_cancel}
-use Rattle.field_laws.specs.Interpolation.{interpolated}
-use Rattle.field_laws.proofs.Interpolation.{interpolated-at, interpolated-is, interpolated-polynomial}
-use Rattle.field_laws.proofs.Polynomials.{IsPolynomial, polynomial-lt, polynomial-unique}
+use Rattle.field_base.specs.Interpolation.{interpolated}
+use Rattle.field_base.proofs.Interpolation.{interpolated-at, interpolated-is, interpolated-polynomial}
+use Rattle.field_base.proofs.Polynomials.{IsPolynomial, polynomial-lt, polynomial-unique}
 use Rattle.field_slices.specs.Multilinear.{folded, folded_all}
 use Rattle.protocols.proofs.Rows.{cube_sum-halves, cube_sum-none, even-length, folded-fit, folded-values, honest-polynomial, rows-twice, terms_value-same}
 use Rattle.protocols.specs.SumcheckClaims.{AreHonestMessages, AreMessages, FalseClaimsNeedLuck, FewChallengesSave, HonestReduces, IsClaimShape, IsSaved, honest_message, message_at, node_values, reduced_claim}

@@ -9,7 +9,7 @@ use Rattle.std.proofs.lemmas.Nat.{div-add-mod'}
 use Rattle.std.proofs.lemmas.List.{append-nil, length-append, length-drop, length-map, length-take-le, map-append, take-map}
 use Rattle.std.specs.List.{flat_map, range_with_len}
 use Rattle.std.proofs.lemmas.List.FromFn.{length-map-range_with_len, map-range_with_len_more}
-use Rattle.field_laws.specs.Interpolation.{interpolated}
+use Rattle.field_base.specs.Interpolation.{interpolated}
 use Rattle.field_base.specs.Ring.{IsRing}
 use Rattle.field_slices.specs.Multilinear.{folded, folded_all, on_line}
 use Rattle.field_slices.proofs.CubeLaws.{line-zero}

@@ -8,7 +8,7 @@ use Rattle.std.proofs.lemmas.Grind.{same_number_lists}
 use Rattle.std.proofs.lemmas.List.{get_or_append_left, get_or-append_right, length-append, take_at}
 use Rattle.std.proofs.lemmas.Nat.{pow-add}
 use native.Mathlib.Nat.{one-mul}
-use Rattle.field_laws.proofs.Polynomials.{polynomial-unique}
+use Rattle.field_base.proofs.Polynomials.{polynomial-unique}
 use Rattle.ghash_slices.specs.Cantor.{point, polynomial_value}
 use Rattle.ghash_slices.proofs.CantorValues.{points_are_distinct}
 use Rattle.additive_transforms.specs.Elements.{FitsField}

@@ -3,7 +3,7 @@
 use Rattle.std.specs.Prelude.{◌≡◌, ℕ, ◌+◌, ◌*◌, ◌^◌, ◌<◌, ◌≤◌, List, length, slice_index}
 use Rattle.field_base.specs.Field.{IsField}
 use Rattle.field_base.specs.Orders.{AreCantorVectors}
-use Rattle.field_laws.specs.PolynomialRoots.{AreDistinctBelow}
+use Rattle.field_base.specs.PolynomialRoots.{AreDistinctBelow}
 use Rattle.ghash_slices.specs.Cantor.{point, polynomial_value}
 use Rattle.ghash_slices.specs.LowStages.{ghash_cantor_vector, ghash_product}
 

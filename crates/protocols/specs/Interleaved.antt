@@ -7,7 +7,7 @@ use Rattle.field_base.specs.Basis.{sum_below}
 use Rattle.field_base.specs.Field.{IsField}
 use Rattle.field_base.specs.Orders.{AreCantorVectors}
 use Rattle.field_base.specs.Ring.{IsRing}
-use Rattle.field_laws.specs.PolynomialRoots.{AreDistinctBelow}
+use Rattle.field_base.specs.PolynomialRoots.{AreDistinctBelow}
 use Rattle.protocols.specs.CodeWords.{IsCodeWordOf}
 
 -- each of so many rows is a code word of 2 ^ r * 2 ^ k symbols for 2 ^ k coefficients

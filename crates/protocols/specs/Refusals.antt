@@ -4,8 +4,8 @@ use Rattle.std.specs.Prelude.{◌≡◌, ◌≢◌, ◌⊎◌, ◌*◌, ◌^◌,
 use Rattle.protocols.specs.Terms.{AreWithin, Product, degree_of}
 use Rattle.protocols.specs.declared.error.ProtocolError.{ProtocolError}
 use Rattle.protocols.specs.declared.error.ProtocolError.TheVariants.{Challenger, Length, Memory, NoWitness, Shape}
-use Rattle.transcript_bytes.specs.declared.error.ChallengerError.{ChallengerError}
-use Rattle.transcript_bytes.specs.declared.error.ChallengerError.TheVariants as challenger_error
+use Rattle.transcripts.specs.declared.error.ChallengerError.{ChallengerError}
+use Rattle.transcripts.specs.declared.error.ChallengerError.TheVariants as challenger_error
 use Rattle.transcript_elements.specs.declared.error.GrindError.{GrindError}
 use Rattle.transcript_elements.specs.declared.error.GrindError.TheVariants as grind_error
 

@@ -5,8 +5,8 @@
 use Rattle.std.specs.Prelude.{◌≡◌, ◌≢◌, ◌-◌, ◌*◌, ◌^◌, ◌<◌, ◌≤◌, ℕ, suc, List, [], ◌∷◌, length, map, take, get_or, slice_index, bit_xor}
 use Rattle.std.specs.List.{range_with_len}
 use Rattle.field_base.specs.Field.{IsField}
-use Rattle.field_laws.specs.Interpolation.{interpolated}
-use Rattle.field_laws.specs.PolynomialRoots.{AreDistinctBelow}
+use Rattle.field_base.specs.Interpolation.{interpolated}
+use Rattle.field_base.specs.PolynomialRoots.{AreDistinctBelow}
 use Rattle.field_slices.specs.Multilinear.{folded, folded_all}
 use Rattle.protocols.specs.Terms.{AreWithin, HaveFactors, Product, cube_sum, honest_at, table_value, terms_value}
 

@@ -9,7 +9,7 @@ use Rattle.field_base.specs.Field.{IsField}
 use Rattle.field_base.specs.Orders.{AreCantorVectors}
 use Rattle.field_base.specs.Ring.{IsRing}
 use Rattle.field_bytes.specs.Streams.{joined_bytes}
-use Rattle.field_laws.specs.PolynomialRoots.{AreDistinctBelow}
+use Rattle.field_base.specs.PolynomialRoots.{AreDistinctBelow}
 use Rattle.field_slices.specs.Multilinear.{AreCornerValues, multilinear_value}
 use Rattle.protocols.specs.CodeWords.{IsCodeWordOf}
 use Rattle.protocols.specs.declared.merkle_tree.MerkleTree.{MerkleTree}

@@ -8,8 +8,8 @@ use crate::digests::{leaf_digest, row_digest};
 use crate::merkle_paths::{end_of, sibling_of};
 use crate::merkle_tree::MerkleTree;
 use std::alloc::{AllocError, Allocator};
-use transcript_bytes::ByteHasher32;
 use transcript_elements::MerkleCap;
+use transcripts::ByteHasher32;
 
 impl<A: Allocator> MerkleTree<A> {
     /// The cap of 2^height roots, height at most the depth, which a challenger observes as it is; of height 0 it is the root alone. It

@@ -14,8 +14,8 @@ use crate::merkle_paths::{Commitment, verify};
 use crate::merkle_tree::MerkleTree;
 use crate::verdicts::both;
 use std::alloc::Allocator;
-use transcript_bytes::ByteHasher32;
 use transcript_elements::{CanObserve, GrindingChallenger, Hash};
+use transcripts::ByteHasher32;
 
 /// Names, in the type of what is observed, the statement of an opening: 48 bytes, which are the depth and the bits of the work, each as
 /// eight bytes from the lowest, and the root.

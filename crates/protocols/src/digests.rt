@@ -4,7 +4,7 @@ ghost use Rattle.protocols.specs.Filling.{AreNodes};
 ghost use Rattle.protocols.specs.MerkleTrees.{leaf_input, node_input, pair_input, row_input};
 
 use std::alloc::{AllocError, Allocator};
-use transcript_bytes::ByteHasher32;
+use transcripts::ByteHasher32;
 
 /// The digest of a leaf that is a word.
 pub(crate) fn leaf_digest<H: ByteHasher32>(hasher: &H, word: u64) -> [u8; 32]

@@ -5,8 +5,8 @@ ghost use Rattle.protocols.specs.declared.error.ProtocolError.TheVariants.{Memor
 
 use std::alloc::{AllocError, AllocFailed};
 use thiserror::Error;
-use transcript_bytes::ChallengerError;
 use transcript_elements::GrindError;
+use transcripts::ChallengerError;
 
 /// Why a protocol stopped.
 #[derive(Clone, Copy, Debug, Error)]

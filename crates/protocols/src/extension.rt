@@ -5,10 +5,11 @@ ghost use Rattle.ghash_slices.specs.LowStages.{ghash_cantor_vector};
 ghost use Rattle.additive_transforms.specs.Transform.{AreOnlyCoefficients, HoldPolynomialValues, HoldValuesAtPoints};
 ghost use Rattle.protocols.specs.CodeWords.{IsCodeWord, IsCodeWordOf, PartsDetermine};
 
-use additive_transforms::{element_point, forward_elements, inverse_elements, point};
+use additive_transforms::{
+    element_point, forward, forward_elements, inverse, inverse_elements, point,
+};
 use field_base::traits::TowerLevel;
 use std::alloc::{AllocError, Allocator};
-use tower_transforms::{forward, inverse};
 
 /// The code word of a message of 2^levels symbols, levels from 0 to 39: the message, and 2^levels symbols of parity. Symbol p is
 /// the value at point p of one polynomial of 2^levels coefficients. It fails if memory was refused.

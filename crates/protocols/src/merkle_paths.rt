@@ -7,7 +7,7 @@ use crate::caps::{verify_row_to_cap, verify_to_cap};
 use crate::digests::{join_leaves, leaf_digest, pair_digest, row_digest};
 use crate::merkle_tree::MerkleTree;
 use std::alloc::{AllocError, Allocator};
-use transcript_bytes::ByteHasher32;
+use transcripts::ByteHasher32;
 
 /// A commitment to 2^depth words, or rows of bytes: the root of their tree.
 #[derive(Clone, Copy)]

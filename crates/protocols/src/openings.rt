@@ -10,7 +10,7 @@ use crate::merkle_paths::{Commitment, power_of_two, row_of};
 use crate::merkle_tree::MerkleTree;
 use crate::verdicts::both;
 use std::alloc::{AllocError, Allocator};
-use transcript_bytes::ByteHasher32;
+use transcripts::ByteHasher32;
 
 impl<A: Allocator> MerkleTree<A> {
     /// The nodes that open the leaves at these places, which are in ascending order, none twice, and below 2^depth. It fails if memory was

@@ -19,8 +19,8 @@ use field_base::traits::Field;
 use field_slices::evaluate_multilinear;
 use field_slices::matrices::{Elements, transpose_into};
 use std::alloc::{AllocError, Allocator};
-use transcript_bytes::ByteHasher32;
 use transcript_elements::ByteLevel;
+use transcripts::ByteHasher32;
 
 /// A table with what commits to it: the columns of its rows' code words, one after the other, and the tree over their bytes.
 #[derive(Drop)]

@@ -5,8 +5,8 @@ use Rattle.std.specs.List.{range_with_len}
 use Rattle.std.specs.declared.alloc.Global.{Global}
 use Rattle.std.specs.declared.option.Option.{Option}
 use Rattle.std.specs.declared.option.Option.TheVariants.{None, Some}
-use Rattle.transcript_bytes.specs.ByteCalls.{after, observing}
-use Rattle.transcript_bytes.specs.HashBuffers.{HashState, hash_transitions}
+use Rattle.transcripts.specs.ByteCalls.{after, observing}
+use Rattle.transcripts.specs.HashBuffers.{HashState, hash_transitions}
 use Rattle.field_bytes.specs.Bytes.{low_bytes}
 use Rattle.field_bytes.specs.Streams.{joined_bytes}
 use Rattle.transcript_elements.specs.Sampled.{SamplesBits, SamplesCoefficients, check_calls, passes}

@@ -8,7 +8,7 @@ use crate::refusal::Refusal;
 use crate::word_sums::verify;
 use protocols::ProtocolError;
 use std::alloc::Global;
-use transcript_bytes::ByteHasher32;
+use transcripts::ByteHasher32;
 
 /// Why a file of a proof for the tables with these roots is refused, if it is. It fails if memory was refused.
 pub fn answer_to<H: ByteHasher32>(

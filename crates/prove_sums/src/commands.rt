@@ -16,7 +16,7 @@ use field_element::Ghash128;
 use hex::FromHex;
 use std::alloc::Global;
 use std::{env, fs};
-use transcript_bytes::{ByteHasher32, Sha256Hasher};
+use transcripts::{ByteHasher32, Sha256Hasher};
 
 const VERSION: &str = "prove_sums 0.1.0";
 

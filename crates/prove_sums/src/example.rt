@@ -2,7 +2,7 @@
 use crate::answers::answer_to;
 use crate::commands::{commit_bytes, prove_tables};
 use anyhow::Result;
-use transcript_bytes::Sha256Hasher;
+use transcripts::Sha256Hasher;
 
 // What the example changes, and at which byte of the proof.
 static CHANGES: [(&str, usize); 12] = [

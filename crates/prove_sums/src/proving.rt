@@ -14,8 +14,8 @@ use protocols::ProtocolError;
 use protocols::queries::draw_queries;
 use protocols::tables::{TableColumns, column_values, commit_table, open_columns};
 use std::alloc::{AllocError, Global};
-use transcript_bytes::ByteHasher32;
 use transcript_elements::{ByteLevel, CanSampleUniformBits, FieldChallenger, GrindingChallenger};
+use transcripts::ByteHasher32;
 
 /// A table and what commits to it.
 #[derive(Drop)]

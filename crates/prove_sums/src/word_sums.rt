@@ -2,7 +2,7 @@
 ghost use Rattle.std.specs.Prelude.{◌≡◌, ◌^◌, ◌≤◌, ℕ, List, [], length, map, IfOk};
 ghost use Rattle.field_bytes.specs.Streams.{joined_bytes};
 ghost use Rattle.field_element.specs.Element.{repr_of};
-ghost use Rattle.transcript_bytes.specs.HashChallengers.{hash_state};
+ghost use Rattle.transcripts.specs.HashChallengers.{hash_state};
 ghost use Rattle.transcript_elements.specs.Challengers.{inner_of};
 ghost use Rattle.protocols.specs.{Commitments.{IsTreeOver, digest_at, row_at}, MerkleTrees.{rows_root}};
 ghost use Rattle.prove_sums.specs.{ProofFiles.{file_bytes}, Shapes.{rows_of}};
@@ -16,8 +16,8 @@ use crate::{proving, verifying};
 use field_element::Ghash128;
 use protocols::ProtocolError;
 use std::alloc::{AllocError, Global};
-use transcript_bytes::{ByteHasher32, HashChallenger};
 use transcript_elements::BinaryChallenger;
+use transcripts::{ByteHasher32, HashChallenger};
 
 // The transcript of a proof, which begins with what names the format and the field, with the number of rounds and with both roots.
 fn transcript<H: ByteHasher32>(

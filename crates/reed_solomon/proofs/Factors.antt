@@ -7,9 +7,9 @@ use Rattle.field_base.specs.Basis.{sum_below, product_below}
 use Rattle.field_base.proofs.FieldLemmas.{inverse-power}
 use Rattle.field_base.proofs.PowerLemmas.{times-one}
 use Rattle.field_base.proofs.RingLemmas.{xor_nothing}
-use Rattle.field_laws.specs.Interpolation.{other_factors, lagrange}
-use Rattle.field_laws.specs.PolynomialRoots.{AreDistinctBelow}
-use Rattle.field_laws.proofs.Interpolation.{factors-lt, factors_more, factors_skip, factors-nonzero}
+use Rattle.field_base.specs.Interpolation.{other_factors, lagrange}
+use Rattle.field_base.specs.PolynomialRoots.{AreDistinctBelow}
+use Rattle.field_base.proofs.Interpolation.{factors-lt, factors_more, factors_skip, factors-nonzero}
 use Rattle.reed_solomon.specs.ErasureField.{erasure_product}
 use Rattle.reed_solomon.proofs.ByteTables.{erasure_field}
 

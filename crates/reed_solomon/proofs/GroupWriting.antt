@@ -4,7 +4,7 @@ use Rattle.std.proofs.Math.Nat.{mul-le-mul_right}
 use Rattle.std.proofs.lemmas.Bool.{cases_lt, true≢false}
 use Rattle.std.proofs.lemmas.List.{get_or-set_same, get_or-set_other, length-set}
 use Rattle.field_base.specs.Basis.{sum_below}
-use Rattle.field_laws.specs.Interpolation.{lagrange}
+use Rattle.field_base.specs.Interpolation.{lagrange}
 use Rattle.reed_solomon.specs.ErasureField.{erasure_product}
 use Rattle.reed_solomon.specs.Missing.{AreMissing}
 use Rattle.reed_solomon.specs.Samples.{symbol_at}

@@ -7,10 +7,10 @@ use Rattle.std.proofs.lemmas.Nat.{mul-add-lt}
 use Rattle.std.proofs.Math.Nat.{mul_comm}
 use Rattle.field_base.specs.Basis.{product_below}
 use Rattle.field_base.specs.Powers.{power}
-use Rattle.field_laws.specs.Codewords.{IsCodeword}
-use Rattle.field_laws.specs.Interpolation.{lagrange, other_factors}
-use Rattle.field_laws.specs.PolynomialRoots.{AreDistinctBelow}
-use Rattle.field_laws.proofs.Codewords.{codeword_exists, codeword_is_unique}
+use Rattle.field_base.specs.Codewords.{IsCodeword}
+use Rattle.field_base.specs.Interpolation.{lagrange, other_factors}
+use Rattle.field_base.specs.PolynomialRoots.{AreDistinctBelow}
+use Rattle.field_base.proofs.Codewords.{codeword_exists, codeword_is_unique}
 use Rattle.reed_solomon.specs.ErasureField.{erasure_product}
 use Rattle.reed_solomon.specs.Parity.{MatchesParity, parity_factor, parity_symbol}
 use Rattle.reed_solomon.specs.Samples.{symbol_at}

@@ -1,8 +1,8 @@
 -- The missing shards that are written, and what they are in the end.
 use Rattle.std.proofs.Common.{◌≡◌, ◌⊎◌, ℕ, ◌+◌, ◌*◌, ◌<◌, ◌≤◌, Bool, List, length, get_or, take, sym, ap, subst, arith, lit<}
-use Rattle.field_laws.specs.Codewords.{IsCodeword}
-use Rattle.field_laws.specs.Interpolation.{lagrange}
-use Rattle.field_laws.proofs.Codewords.{codeword_exists}
+use Rattle.field_base.specs.Codewords.{IsCodeword}
+use Rattle.field_base.specs.Interpolation.{lagrange}
+use Rattle.field_base.proofs.Codewords.{codeword_exists}
 use Rattle.reed_solomon.specs.ErasureField.{erasure_product}
 use Rattle.reed_solomon.specs.Samples.{IsSample, symbol_at}
 use Rattle.reed_solomon.specs.Shards.{IsPresent, IsAmongFirst, IsReconstructed, present_count, shard_byte}

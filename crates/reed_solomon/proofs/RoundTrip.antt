@@ -5,7 +5,7 @@ use Rattle.std.proofs.lemmas.List.{ext_get_or, length-set, length-replicate}
 use Rattle.std.proofs.lemmas.Nat.{div-add-mod', div_below}
 use Rattle.std.proofs.Math.Seq.{take-length}
 use native.Mathlib.Nat.{mod-lt}
-use Rattle.field_laws.proofs.Codewords.{codeword_is_unique}
+use Rattle.field_base.proofs.Codewords.{codeword_is_unique}
 use Rattle.reed_solomon.specs.ErasureField.{erasure_product}
 use Rattle.reed_solomon.specs.RoundTrip.{ChangesAreSeen, LostShardsReturn}
 use Rattle.reed_solomon.specs.Samples.{IsSample}

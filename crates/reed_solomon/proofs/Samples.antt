@@ -4,7 +4,7 @@ use Rattle.std.proofs.lemmas.Bool.{true≢false}
 use Rattle.std.proofs.lemmas.Bool.Decides.{eqb_tells}
 use Rattle.std.proofs.lemmas.List.{get_or-set_same, get_or-set_other}
 use Rattle.std.proofs.lemmas.List.Sums.{count_by_more_yes, count_by_more_no}
-use Rattle.field_laws.specs.PolynomialRoots.{AreDistinctBelow}
+use Rattle.field_base.specs.PolynomialRoots.{AreDistinctBelow}
 use Rattle.reed_solomon.specs.Shards.{IsAmongFirst, IsPresent, present_count}
 use Rattle.reed_solomon.specs.Samples.{IsSample}
 

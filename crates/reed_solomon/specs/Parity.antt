@@ -1,6 +1,6 @@
 -- Parity by the shards of data alone, the sample whose places are 0, 1, .., k - 1, and the tables of its factors that are kept.
 use Rattle.std.specs.Prelude.{◌≡◌, ℕ, ◌+◌, ◌*◌, ◌/◌, ◌%◌, ◌<◌, List, length, drop}
-use Rattle.field_laws.specs.Interpolation.{lagrange}
+use Rattle.field_base.specs.Interpolation.{lagrange}
 use Rattle.reed_solomon.specs.ErasureField.{erasure_product}
 use Rattle.reed_solomon.specs.Samples.{symbol_at}
 use Rattle.reed_solomon.specs.Shards.{shard_byte}

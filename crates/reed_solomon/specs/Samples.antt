@@ -1,6 +1,6 @@
 -- The sample of shards that the missing ones are computed from: the first k that are at hand.
 use Rattle.std.specs.Prelude.{◌≡◌, ℕ, ◌<◌, ◌≤◌, Bool, List, slice_index, take}
-use Rattle.field_laws.specs.Interpolation.{interpolated, other_factors}
+use Rattle.field_base.specs.Interpolation.{interpolated, other_factors}
 use Rattle.reed_solomon.specs.ErasureField.{erasure_product}
 use Rattle.reed_solomon.specs.Shards.{IsPresent, IsAmongFirst, present_count, shard_byte}
 

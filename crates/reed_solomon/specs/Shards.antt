@@ -3,7 +3,7 @@
 -- `column` has byte `column` of each shard, and is a codeword of its own.
 use Rattle.std.specs.Prelude.{◌≡◌, ◌⊎◌, ℕ, ◌+◌, ◌*◌, ◌/◌, ◌<◌, ◌≤◌, Bool, true, false, List, length, slice_index, slice_index_or, take}
 use Rattle.std.specs.List.{count_by}
-use Rattle.field_laws.specs.Codewords.{IsCodeword}
+use Rattle.field_base.specs.Codewords.{IsCodeword}
 use Rattle.reed_solomon.specs.ErasureField.{erasure_product}
 
 -- byte `column` of shard i

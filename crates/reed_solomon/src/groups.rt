@@ -1,6 +1,6 @@
 // Shards that are computed from a sample of others, up to four at once. Shards of one size stand one after the other in a slice.
 ghost use Rattle.std.specs.Prelude.{◌≡◌, ◌≢◌, ◌+◌, ◌*◌, ◌^◌, ◌<◌, ◌≤◌, ℕ, length, min, slice_index};
-ghost use Rattle.field_laws.specs.Interpolation.{lagrange};
+ghost use Rattle.field_base.specs.Interpolation.{lagrange};
 ghost use Rattle.reed_solomon.specs.ErasureField.{erasure_product};
 ghost use Rattle.reed_solomon.specs.Samples.{symbol_at};
 ghost use Rattle.reed_solomon.specs.Tables.{AreApart, AreWritten, HasRow, row_sum};

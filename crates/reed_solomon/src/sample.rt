@@ -1,8 +1,8 @@
 // The shards that the missing ones are computed from, and the factors of their symbols.
 ghost use Rattle.std.specs.Prelude.{◌≡◌, ◌≢◌, ◌+◌, ◌<◌, ◌≤◌, ◌^◌, ℕ, length, slice_index, bit_xor};
 ghost use Rattle.field_base.specs.Basis.{product_below};
-ghost use Rattle.field_laws.specs.Interpolation.{lagrange, other_factors};
-ghost use Rattle.field_laws.specs.PolynomialRoots.{AreDistinctBelow};
+ghost use Rattle.field_base.specs.Interpolation.{lagrange, other_factors};
+ghost use Rattle.field_base.specs.PolynomialRoots.{AreDistinctBelow};
 ghost use Rattle.reed_solomon.specs.ErasureField.{erasure_product};
 ghost use Rattle.reed_solomon.specs.Samples.{AreWeights, IsSample};
 

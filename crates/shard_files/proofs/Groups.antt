@@ -7,8 +7,8 @@ use Rattle.std.proofs.lemmas.List.{drop-take, drop_at, get_or-set_other, get_or-
 use Rattle.std.proofs.lemmas.Slice.{drop-put_mid, take-put_mid_below}
 use borrow.Rule.Slice.PartMut.{put_mid}
 use Rattle.reed_solomon.specs.Shards.{IsPresent, present_count}
-use Rattle.stripe_codes.proofs.PresentCounts.{with_one, without}
-use Rattle.stripe_codes.proofs.ShardPlaces.{shard_room}
+use Rattle.shard_files.proofs.PresentCounts.{with_one, without}
+use Rattle.shard_files.proofs.ShardPlaces.{shard_room}
 use Rattle.shard_files.specs.Groups.{AreOf, GivesEnough, GivesPiece, GivesStripe, HasEnough, HaveSameShards, Holdings, IsGathered, numbered, Puts, shard_at, Takes}
 use Rattle.shard_files.specs.Heads.{head_digest, head_file, IsHead, IsOrigin}
 use Rattle.shard_files.specs.Pieces.{piece_bytes}

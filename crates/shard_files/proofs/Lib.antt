@@ -3,12 +3,19 @@ mod Faults
 mod Groups
 mod Heads
 mod Joined
+mod KnownCodes
 mod Lost
+mod MatrixWords
 mod Pieces
 mod Positions
+pub mod PresentCounts
 mod Repaired
 mod Restores
 mod Returns
+pub mod ShardPlaces
 mod Sizes
 mod Splits
+mod TransformCalls
+mod TransformWords
+mod WordLoops
 mod Written

@@ -2,8 +2,8 @@
 use Rattle.std.proofs.Common.{◌≡◌, ◌↔◌, ℕ, ◌+◌, ◌*◌, ◌<◌, Bool, List, length, get_or, drop, sym, ◌∙◌, ap, ap₂, subst}
 use Rattle.std.proofs.lemmas.List.{ext_get_or, get_or-drop, get_or-take}
 use Rattle.reed_solomon.specs.RoundTrip.{AgreeWherePresent}
-use Rattle.stripe_codes.specs.Codes.{IsStripeWord}
-use Rattle.stripe_codes.specs.declared.code.StripeCode.{StripeCode}
+use Rattle.shard_files.specs.Codes.{IsStripeWord}
+use Rattle.shard_files.specs.declared.code.StripeCode.{StripeCode}
 use Rattle.shard_files.specs.Groups.{HasEnough, HaveSameShards, shard_at}
 use Rattle.shard_files.specs.Stripes.{shard_total}
 use Rattle.shard_files.specs.declared.head.Origin.{Origin}

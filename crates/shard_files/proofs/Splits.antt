@@ -3,8 +3,8 @@ use Rattle.std.proofs.Common.{◌≡◌, ℕ, ◌+◌, ◌*◌, ◌<◌, ◌≤�
 use Rattle.std.proofs.Math.Nat.{mul-le-mul_right}
 use Rattle.std.proofs.lemmas.List.{ext_get_or, get_or-take, length-take-le}
 use Rattle.shard_files.specs.Splits.{IsSplit}
-use Rattle.stripe_codes.specs.Codes.{IsStripeWord}
-use Rattle.stripe_codes.specs.declared.code.StripeCode.{StripeCode}
+use Rattle.shard_files.specs.Codes.{IsStripeWord}
+use Rattle.shard_files.specs.declared.code.StripeCode.{StripeCode}
 use Rattle.shard_files.specs.Stripes.{shard_total, stripe_width}
 use Rattle.shard_files.specs.declared.head.Origin.{Origin}
 

@@ -1,3 +1,4 @@
+pub mod Codes
 pub mod Faults
 pub mod Files
 pub mod Groups

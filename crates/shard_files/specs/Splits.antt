@@ -1,6 +1,6 @@
 -- A file in shards: the bytes of a stripe stand at the start of the shards of data, zeros behind them, and the parity is theirs.
 use Rattle.std.specs.Prelude.{◌≡◌, List, ℕ, length, take}
-use Rattle.stripe_codes.specs.Codes.{IsStripeWord}
+use Rattle.shard_files.specs.Codes.{IsStripeWord}
 use Rattle.shard_files.specs.declared.head.Origin.{Origin}
 
 -- all shards of a stripe begin with these bytes

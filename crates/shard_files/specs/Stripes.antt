@@ -1,6 +1,6 @@
 -- The stripes of a file: as many bytes of it as the shards of data have bytes in one stripe, and in the last what is left.
 use Rattle.std.specs.Prelude.{ℕ, ◌+◌, ◌-◌, ◌*◌, ◌/◌, ◌^◌, ◌<◌, ◌≤◌, max, min, List, take, drop}
-use Rattle.stripe_codes.specs.Codes.{HasCode}
+use Rattle.shard_files.specs.Codes.{HasCode}
 use Rattle.shard_files.specs.declared.head.Origin.{Origin}
 
 -- how many shards a file has

@@ -6,7 +6,7 @@ ghost use Rattle.shard_files.specs.declared.error.JoinError.TheVariants.{Counts,
 ghost use Rattle.shard_files.specs.Groups.{AreOf, HasEnough, HaveSameShards, Puts, shard_at, Takes};
 ghost use Rattle.shard_files.specs.Pieces.{piece_bytes};
 ghost use Rattle.shard_files.specs.Heads.{head_digest, IsOrigin};
-ghost use Rattle.stripe_codes.specs.Codes.{IsStripeWord};
+ghost use Rattle.shard_files.specs.Codes.{IsStripeWord};
 ghost use Rattle.shard_files.specs.Stripes.{IsPossible, shard_total};
 
 use crate::error::JoinError;

@@ -18,7 +18,7 @@ pub const HEAD: usize = 104;
 /// What the heads of all shards of a file say.
 #[derive(Clone, Copy, PartialEq, Eq)]
 pub struct Origin {
-    /// The number of the code: `MATRIX` or `TRANSFORM` of the crate `stripe_codes`.
+    /// The number of the code: `MATRIX` or `TRANSFORM` of this crate.
     pub code: u32,
     /// How many shards there are of data.
     pub data_shards: u32,

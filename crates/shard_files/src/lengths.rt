@@ -1,12 +1,12 @@
 // The stripes of a file: where their bytes begin, and how many they are.
 ghost use Rattle.std.specs.Prelude.{◌≡◌, ◌≢◌, ◌+◌, ◌-◌, ◌*◌, ◌/◌, ◌<◌, ◌%◌, ◌≤◌, ◌↔◌, ◌^◌, IfSome, IsSome, IsTrue};
-ghost use Rattle.stripe_codes.specs.Codes.{HasCode};
+ghost use Rattle.shard_files.specs.Codes.{HasCode};
 ghost use Rattle.shard_files.specs.Stripes.{even_size, IsPossible, part_count, piece_start, shard_total};
 ghost use Rattle.shard_files.specs.Stripes.{stripe_length, stripe_total, stripe_width};
 
 use crate::head::{HEAD, Origin};
 use crate::piece::DIGEST;
-use stripe_codes::{StripeCode, TRANSFORM};
+use crate::{StripeCode, TRANSFORM};
 
 /// About how many bytes of all shards of a file a stripe has at most.
 const STRIPE: u64 = 1 << 24;

@@ -1,18 +1,24 @@
-//! The shards of a file: what the files that hold them are, stripe by stripe, and how they are written, read and restored.
+//! The shards of a file: the codes by which its stripes are written, what the files that hold them are, stripe by stripe, and how they are
+//! written, read and restored.
 #![tactic(auto)]
 
+mod code;
 mod error;
 mod group;
 mod head;
 mod laws;
 mod lengths;
+mod matrix;
 mod piece;
 mod reading;
 mod repairing;
 mod split;
 mod survey;
+mod transform;
+mod words;
 mod writing;
 
+pub use crate::code::{MATRIX, MOST_SHARDS, StripeCode, TRANSFORM, default_code, limit_of};
 pub use crate::error::{JoinError, RepairError, SplitError};
 pub use crate::group::Group;
 pub use crate::head::{HEAD, Head, Origin, older_format};

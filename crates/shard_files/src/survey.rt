@@ -1,9 +1,9 @@
 // What shards there are: the files that were looked at, by the file that their shards are of.
 ghost use Rattle.std.specs.Prelude.{◌≤◌, ◌↔◌, IsTrue};
 
+use crate::TRANSFORM;
 use crate::head::{Head, Origin, older_format};
 use std::alloc::{AllocError, Global};
-use stripe_codes::TRANSFORM;
 
 /// What a file that was looked at is.
 #[derive(Clone, Copy, PartialEq, Eq)]

@@ -6,13 +6,12 @@ use crate::progress::{Progress, clear};
 use crate::words::Words;
 use anyhow::{Context, Result, bail};
 use sha2::{Digest, Sha256};
-use shard_files::{JoinError, Origin, write_content, write_shards};
+use shard_files::{JoinError, Origin, default_code, limit_of, write_content, write_shards};
 use std::fs::{File, Files};
 use std::io;
 use std::io::{Read, Write};
 use std::path::Path;
 use std::rt::Clock;
-use stripe_codes::{default_code, limit_of};
 
 /// How many bytes are read at once to compute an identity.
 const CHUNK: usize = 1 << 20;

@@ -2,13 +2,12 @@
 use crate::progress::{Progress, note};
 use crate::words::Words;
 use anyhow::{Result, bail};
-use shard_files::{Choice, Finding, HEAD, Origin, Seen, ShardSource, Survey};
+use shard_files::{Choice, Finding, HEAD, MOST_SHARDS, Origin, Seen, ShardSource, Survey};
 use std::fs;
 use std::fs::{File, Files};
 use std::io::{Read, Seek, SeekFrom};
 use std::os::unix::fs::PermissionsExt;
 use std::rt::Clock;
-use stripe_codes::MOST_SHARDS;
 
 /// Files that are read in turn, of which one is open at a time.
 #[derive(Drop)]

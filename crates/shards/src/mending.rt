@@ -6,12 +6,11 @@ use crate::progress::{Progress, clear};
 use crate::words::Words;
 use anyhow::{Result, bail};
 use sha2::{Digest, Sha256};
-use shard_files::{Finding, Origin, Seen, Survey, gather, repair_shards};
+use shard_files::{Finding, MATRIX, Origin, Seen, Survey, gather, repair_shards};
 use std::fs;
 use std::fs::Files;
 use std::process::ExitCode;
 use std::rt::Clock;
-use stripe_codes::MATRIX;
 
 /// Says of each shard whether it is whole, and in which stripes it is not. The status is 1 where shards are missing or damaged and enough
 /// are left, and 2 where too few are, or where they are not those of the file.

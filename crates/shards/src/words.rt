@@ -1,8 +1,8 @@
 // The words of the command line, as `clap` reads them.
 use clap::error::ErrorKind;
 use clap::{Arg, ArgAction, ArgMatches, Command, Error, value_parser};
+use shard_files::{MATRIX, TRANSFORM};
 use std::alloc::{AllocError, Global};
-use stripe_codes::{MATRIX, TRANSFORM};
 
 /// The version, and that of the files of shards.
 const VERSION: &str = "0.1.0, format 3";

@@ -13,10 +13,10 @@ use Rattle.field_base.specs.Ring.{IsRing}
 use Rattle.field_base.specs.Powers.{terms_from, value_of}
 use Rattle.field_base.proofs.CarrylessProduct.{xor_exchange}
 use Rattle.field_base.proofs.RingLemmas.{times-mod, times-zero, xor_nothing}
-use Rattle.field_laws.specs.PolynomialRoots.{AreDistinctBelow}
-use Rattle.field_laws.proofs.Codewords.{many_roots_mean_zero}
-use Rattle.field_laws.proofs.Coefficients.{value_of-cons}
-use Rattle.field_laws.proofs.Polynomials.{nil_xor}
+use Rattle.field_base.specs.PolynomialRoots.{AreDistinctBelow}
+use Rattle.field_base.proofs.Codewords.{many_roots_mean_zero}
+use Rattle.field_base.proofs.PolynomialCoefficients.{value_of-cons}
+use Rattle.field_base.proofs.Polynomials.{nil_xor}
 use Rattle.tags.specs.Collisions.{AtMostCollide, IsMessage, LastBlockDiffers, PolynomialHashCollides, SameLengthIsSame}
 use Rattle.tags.specs.Hash.{polynomial_hash}
 

@@ -4,7 +4,7 @@
 use Rattle.std.specs.Prelude.{◌≡◌, ◌≢◌, ℕ, ◌^◌, ◌<◌, ◌≤◌, List, [], ◌∷◌, ◌++◌, length, reverse, slice_index, bit_xor}
 use Rattle.std.specs.List.{All}
 use Rattle.field_base.specs.Field.{IsField}
-use Rattle.field_laws.specs.PolynomialRoots.{AreDistinctBelow}
+use Rattle.field_base.specs.PolynomialRoots.{AreDistinctBelow}
 use Rattle.tags.specs.Gcm.{gcm_hash}
 use Rattle.tags.specs.Hash.{polynomial_hash}
 use Rattle.tags.specs.Polyval.{polyval_hash}

@@ -5,7 +5,7 @@ ghost use Rattle.std.specs.Prelude.{◌≡◌, ℕ, IsTrue, false, true};
 
 use std::alloc::AllocError;
 use std::cell::Cell;
-use transcript_bytes::ByteChallenger;
+use transcripts::ByteChallenger;
 
 /// What a double and its copies have seen.
 #[derive(Clone, Copy, Default, PartialEq)]

@@ -3,8 +3,8 @@ use Rattle.std.proofs.Common.{◌≡◌, ◌<◌, ◌≤◌, ◌+◌, ◌-◌, �
 use Rattle.std.proofs.Math.Seq.{take-suc}
 use Rattle.std.proofs.lemmas.Grind.{flat_map-append}
 use Rattle.std.proofs.lemmas.List.{append-nil, append_assoc, map-append, take-append-drop}
-use Rattle.transcript_bytes.specs.ByteCalls.{after, squeezed, Transitions}
-use Rattle.transcript_bytes.proofs.Runs.{after-append, after_none, state_joined}
+use Rattle.transcripts.specs.ByteCalls.{after, squeezed, Transitions}
+use Rattle.transcripts.proofs.Runs.{after-append, after_none, state_joined}
 use Rattle.transcript_elements.specs.Calls.{saying_from, call_sayings, AppendsSayings, byte_calls, joined_calls, said}
 use Rattle.transcript_elements.specs.declared.calls.Call.{Call}
 use Rattle.transcript_elements.specs.declared.calls.Reply.{Reply}

@@ -1,8 +1,8 @@
 -- Checking a witness: the state that it leaves, and whether the witness passes.
 use Rattle.std.proofs.Common.{◌≡◌, ◌≢◌, ◌%◌, ◌^◌, ℕ, zero, suc, ap, refl, sym, ◌∙◌, nat_eq}
 use Rattle.std.specs.Int.{from_le_bytes, w64}
-use Rattle.transcript_bytes.specs.ByteCalls.{after, IsPartlyRun, observing, sampling, squeezed_word, Transitions}
-use Rattle.transcript_bytes.proofs.Runs.{bytes_after_observing, after_none, partly_first, partly_second, state_joined}
+use Rattle.transcripts.specs.ByteCalls.{after, IsPartlyRun, observing, sampling, squeezed_word, Transitions}
+use Rattle.transcripts.proofs.Runs.{bytes_after_observing, after_none, partly_first, partly_second, state_joined}
 use Rattle.field_bytes.specs.Bytes.{low_bytes}
 use Rattle.transcript_elements.specs.Sampled.{check_calls, passes}
 

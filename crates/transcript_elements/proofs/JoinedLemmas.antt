@@ -3,9 +3,9 @@ use Rattle.std.proofs.Common.{◌≡◌, ℕ, [], ◌∷◌, ◌++◌, ap, sym, 
 use Rattle.std.proofs.lemmas.List.{map-append}
 use Rattle.field_bytes.specs.Bytes.{low_bytes}
 use Rattle.field_bytes.specs.Streams.{joined_bytes}
-use Rattle.transcript_bytes.specs.ByteCalls.{after, Observe, observing}
-use Rattle.transcript_bytes.specs.declared.byte_challenger.ByteChallenger
-use Rattle.transcript_bytes.proofs.Runs.{state_joined}
+use Rattle.transcripts.specs.ByteCalls.{after, Observe, observing}
+use Rattle.transcripts.specs.declared.byte_challenger.ByteChallenger
+use Rattle.transcripts.proofs.Runs.{state_joined}
 use Rattle.transcript_elements.proofs.ManyCalls.{none_observed}
 use Rattle.transcript_elements.specs.Challengers.{state_of}
 use Rattle.transcript_elements.specs.Joined.{ElementsJoin}

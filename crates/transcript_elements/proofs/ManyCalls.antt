@@ -7,8 +7,8 @@ use Rattle.std.proofs.lemmas.List.{append-nil, map-append, replicate-append-repl
 use Rattle.std.specs.List.{flat_map}
 use native.Mathlib.Nat.{mul-suc, mul-zero}
 use Rattle.field_base.specs.Chunks.{chunk, chunks}
-use Rattle.transcript_bytes.specs.ByteCalls.{after, Observe, observing, Sample, sampling, Transitions}
-use Rattle.transcript_bytes.proofs.Runs.{after_none, state_joined}
+use Rattle.transcripts.specs.ByteCalls.{after, Observe, observing, Sample, sampling, Transitions}
+use Rattle.transcripts.proofs.Runs.{after_none, state_joined}
 use Rattle.field_bytes.specs.Bytes.{low_bytes}
 use Rattle.field_base.proofs.ChunkLists.{chunks-more, chunks-next, chunks-none, more-lt}
 use Rattle.transcript_elements.specs.Sampled.{coefficient_bytes, squeezed_element, squeezed_elements}

@@ -3,8 +3,8 @@
 use Rattle.std.specs.Prelude.{◌≡◌, ◌<◌, ◌%◌, ◌^◌, ◌⊎◌, ℕ, Bool, true, List, [], ◌∷◌, ◌++◌, map, nat_eq, Vec}
 use Rattle.std.specs.Int.{from_le_bytes, w64}
 use Rattle.std.specs.List.{flat_map}
-use Rattle.transcript_bytes.specs.ByteCalls.{after, ByteCall, IsPartlyRun, observing, sampling, squeezed, Transitions}
-use Rattle.transcript_bytes.specs.declared.byte_challenger.ByteChallenger
+use Rattle.transcripts.specs.ByteCalls.{after, ByteCall, IsPartlyRun, observing, sampling, squeezed, Transitions}
+use Rattle.transcripts.specs.declared.byte_challenger.ByteChallenger
 use Rattle.field_bytes.specs.Bytes.{low_bytes, number_of_bytes}
 use Rattle.transcript_elements.specs.Challengers.{challenger_refused, inner_of, state_after, state_of}
 use Rattle.transcript_elements.specs.Sampled.{check_calls}

@@ -1,8 +1,8 @@
 -- What a contract sees of the challenger of a field.
 use Rattle.std.specs.Prelude.{Bool, List}
-use Rattle.transcript_bytes.specs.ByteCalls.{after, ByteCall, IsPartlyRun}
-use Rattle.transcript_bytes.specs.declared.byte_challenger.ByteChallenger
-use Rattle.transcript_bytes.specs.declared.guarded.Guarded.{Guarded}
+use Rattle.transcripts.specs.ByteCalls.{after, ByteCall, IsPartlyRun}
+use Rattle.transcripts.specs.declared.byte_challenger.ByteChallenger
+use Rattle.transcripts.specs.declared.guarded.Guarded.{Guarded}
 use Rattle.transcript_elements.specs.declared.challenger.BinaryChallenger.{BinaryChallenger}
 
 -- the guarded byte challenger below it

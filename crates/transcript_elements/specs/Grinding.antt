@@ -1,7 +1,7 @@
 -- Searches for witnesses of work. The candidates are elements of a field, in the order of their representations.
 use Rattle.std.specs.Prelude.{◌≡◌, ◌≢◌, ◌⊎◌, ◌<◌, ◌≤◌, ◌+◌, ◌-◌, ◌^◌, ℕ, Bool, true, false, cond, nat_lt}
-use Rattle.transcript_bytes.specs.declared.error.ChallengerError.{ChallengerError}
-use Rattle.transcript_bytes.specs.declared.error.ChallengerError.TheVariants as challenger_error
+use Rattle.transcripts.specs.declared.error.ChallengerError.{ChallengerError}
+use Rattle.transcripts.specs.declared.error.ChallengerError.TheVariants as challenger_error
 use Rattle.transcript_elements.specs.declared.error.GrindError.{GrindError}
 use Rattle.transcript_elements.specs.declared.error.GrindError.TheVariants as grind_error
 

@@ -3,8 +3,8 @@
 use Rattle.std.specs.Prelude.{◌≡◌, ℕ, List}
 use Rattle.field_bytes.specs.Bytes.{low_bytes}
 use Rattle.field_bytes.specs.Streams.{joined_bytes}
-use Rattle.transcript_bytes.specs.ByteCalls.{observing}
-use Rattle.transcript_bytes.specs.declared.byte_challenger.ByteChallenger
+use Rattle.transcripts.specs.ByteCalls.{observing}
+use Rattle.transcripts.specs.declared.byte_challenger.ByteChallenger
 use Rattle.transcript_elements.specs.Challengers.{state_after, state_of}
 use Rattle.transcript_elements.specs.Lists.{InTurn}
 use Rattle.transcript_elements.specs.declared.challenger.BinaryChallenger.{BinaryChallenger}

@@ -4,8 +4,8 @@ use Rattle.std.specs.Prelude.{◌≡◌, ℕ, zero, suc, ◌*◌, ◌%◌, ◌^�
 use Rattle.std.specs.List.{flat_map}
 use Rattle.field_base.specs.Chunks.{chunks}
 use Rattle.field_bytes.specs.Bytes.{low_bytes, number_of_bytes}
-use Rattle.transcript_bytes.specs.ByteCalls.{after, ByteCall, observing, sampling, squeezed, squeezed_word, Transitions}
-use Rattle.transcript_bytes.specs.declared.byte_challenger.ByteChallenger
+use Rattle.transcripts.specs.ByteCalls.{after, ByteCall, observing, sampling, squeezed, squeezed_word, Transitions}
+use Rattle.transcripts.specs.declared.byte_challenger.ByteChallenger
 use Rattle.transcript_elements.specs.Challengers.{state_of}
 use Rattle.transcript_elements.specs.declared.challenger.BinaryChallenger.{BinaryChallenger}
 

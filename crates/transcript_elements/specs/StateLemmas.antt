@@ -6,7 +6,7 @@ use Rattle.std.proofs.lemmas.List.{same_from_push}
 use Rattle.std.proofs.lemmas.Nat.{mod-pow-add}
 use native.Mathlib.Nat.{mul-suc, mul-zero}
 use Rattle.field_base.specs.Chunks.{chunk, chunks}
-use Rattle.transcript_bytes.specs.ByteCalls.{after, sampling, squeezed_word, Transitions}
+use Rattle.transcripts.specs.ByteCalls.{after, sampling, squeezed_word, Transitions}
 use Rattle.transcript_elements.specs.Sampled.{SamplesBits, SamplesCoefficients, squeezed_elements}
 
 -- two values that one function gives at equal arguments are equal

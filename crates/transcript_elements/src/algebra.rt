@@ -1,7 +1,7 @@
 // Elements of extensions that are observed and sampled, coefficient by coefficient.
 ghost use Rattle.std.specs.Prelude.{◌≡◌, ◌<◌, ◌*◌, ◌^◌, ℕ, true, IfOk, OnOk};
-ghost use Rattle.transcript_bytes.specs.ByteCalls.{after, observing};
-ghost use Rattle.transcript_bytes.specs.GuardedAnswers.{GuardedAnswer};
+ghost use Rattle.transcripts.specs.ByteCalls.{after, observing};
+ghost use Rattle.transcripts.specs.GuardedAnswers.{GuardedAnswer};
 ghost use Rattle.transcript_elements.specs.Challengers.{state_after, state_of};
 ghost use Rattle.transcript_elements.specs.Lists.{InTurn};
 ghost use Rattle.transcript_elements.specs.Sampled.{coefficient_bytes, SamplesCoefficients};
@@ -13,7 +13,7 @@ use crate::sample::CanSample;
 use crate::{ByteLevel, CanObserve, CanSampleBits, Transcript};
 use field_base::traits::PrimeCharacteristicRing;
 use field_space::BasedVectorSpace;
-use transcript_bytes::{ByteChallenger, ChallengerError};
+use transcripts::{ByteChallenger, ChallengerError};
 
 /// A transcript that observes and samples elements of the field `F`, and of the algebras over it coefficient by coefficient.
 pub trait FieldChallenger<F: PrimeCharacteristicRing>: CanObserve<F>

@@ -1,14 +1,14 @@
 // Lists of calls of a challenger, an addition to the Rust crate: calls as values, and the replies to them.
 ghost use Rattle.std.specs.Prelude.{◌≡◌, All, false, true, Err, IfErr, IfOk, OnErr, OnOk};
-ghost use Rattle.transcript_bytes.specs.GuardedAnswers.{GuardedAnswer};
-ghost use Rattle.transcript_bytes.specs.declared.error.ChallengerError.TheVariants.{Failed, Memory};
+ghost use Rattle.transcripts.specs.GuardedAnswers.{GuardedAnswer};
+ghost use Rattle.transcripts.specs.declared.error.ChallengerError.TheVariants.{Failed, Memory};
 ghost use Rattle.transcript_elements.specs.Calls.{AppendsReplies, byte_calls, IsReplyTo, joined_calls, MayCall, StopsEarly};
 ghost use Rattle.transcript_elements.specs.Challengers.{challenger_failed, challenger_refused, state_after, state_of, StopsWithin};
 
 use crate::ByteLevel;
 use crate::challenger::BinaryChallenger;
 use std::alloc::Allocator;
-use transcript_bytes::{ByteChallenger, ChallengerError};
+use transcripts::{ByteChallenger, ChallengerError};
 
 /// A call of a challenger of the field `F`.
 #[derive(Clone, Copy, Debug, PartialEq, Eq)]

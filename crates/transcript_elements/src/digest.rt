@@ -1,9 +1,9 @@
 // Digests and caps of Merkle trees, and how they are observed.
 ghost use Rattle.std.specs.Prelude.{◌≡◌, ℕ, false, List, OnOk};
 ghost use Rattle.std.specs.List.{flat_map};
-ghost use Rattle.transcript_bytes.specs.ByteCalls.{after, observing};
-ghost use Rattle.transcript_bytes.specs.Guarded.{guarded_after, guarded_failed, guarded_refused, guarded_state};
-ghost use Rattle.transcript_bytes.specs.GuardedAnswers.{GuardedAnswer};
+ghost use Rattle.transcripts.specs.ByteCalls.{after, observing};
+ghost use Rattle.transcripts.specs.Guarded.{guarded_after, guarded_failed, guarded_refused, guarded_state};
+ghost use Rattle.transcripts.specs.GuardedAnswers.{GuardedAnswer};
 ghost use Rattle.field_bytes.specs.Bytes.{low_bytes};
 ghost use Rattle.transcript_elements.specs.Challengers.{state_after, state_of};
 ghost use Rattle.transcript_elements.specs.Digests.{roots_of, words_of};
@@ -15,7 +15,7 @@ use crate::CanObserve;
 use crate::challenger::BinaryChallenger;
 use std::alloc::{Allocator, Global};
 use std::marker::PhantomData;
-use transcript_bytes::{ByteChallenger, ChallengerError, Guarded};
+use transcripts::{ByteChallenger, ChallengerError, Guarded};
 
 /// A digest of `N` words of the hash `G`.
 #[derive(Clone, Copy, Debug, PartialEq, Eq)]

@@ -1,8 +1,8 @@
 // Elements that are observed and sampled, and bits that are sampled.
 ghost use Rattle.std.specs.Prelude.{◌≡◌, ◌<◌, ◌≤◌, ℕ, false, true, IfOk, OnErr, OnOk};
-ghost use Rattle.transcript_bytes.specs.ByteCalls.{after, observing, sampling, squeezed};
-ghost use Rattle.transcript_bytes.specs.Guarded.{guarded_after, guarded_failed, guarded_refused, guarded_state, RunsPartly};
-ghost use Rattle.transcript_bytes.specs.GuardedAnswers.{GuardedAnswer};
+ghost use Rattle.transcripts.specs.ByteCalls.{after, observing, sampling, squeezed};
+ghost use Rattle.transcripts.specs.Guarded.{guarded_after, guarded_failed, guarded_refused, guarded_state, RunsPartly};
+ghost use Rattle.transcripts.specs.GuardedAnswers.{GuardedAnswer};
 ghost use Rattle.field_bytes.specs.Bytes.{low_bytes, number_of_bytes};
 ghost use Rattle.transcript_elements.specs.Challengers.{challenger_failed, challenger_refused, state_after, state_of, StopsWithin};
 ghost use Rattle.transcript_elements.specs.Sampled.{SamplesBits, squeezed_element};
@@ -13,7 +13,7 @@ use crate::byte_level::{MOST_BYTES, of_number};
 use crate::challenger::BinaryChallenger;
 use crate::{ByteLevel, CanObserve, Transcript};
 use field_bytes::number_of_low_first;
-use transcript_bytes::{ByteChallenger, ChallengerError, Guarded};
+use transcripts::{ByteChallenger, ChallengerError, Guarded};
 
 impl<F: ByteLevel, Inner: ByteChallenger> CanObserve<F> for BinaryChallenger<F, Inner> {
     ghost observes = { λ old value new. state_of new ≡ state_after (observing (low_bytes F.NUM_BYTES (F.repr value))) old };

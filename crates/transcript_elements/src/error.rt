@@ -5,7 +5,7 @@ ghost use Rattle.transcript_elements.specs.declared.error.GrindError.TheVariants
 
 use std::alloc::AllocError;
 use thiserror::Error;
-use transcript_bytes::ChallengerError;
+use transcripts::ChallengerError;
 
 /// Why an element could not be read from bytes.
 #[derive(Clone, Copy, Debug, PartialEq, Eq, Error)]

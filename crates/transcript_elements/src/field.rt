@@ -2,7 +2,7 @@
 ghost use Rattle.std.specs.Prelude.{◌≡◌, ◌*◌, ◌++◌, ◌^◌, ◌<◌, ◌↔◌, Bool, false, true, IfErr, IfOk, IsErr};
 ghost use Rattle.std.specs.Prelude.{List, length, OnErr, OnOk, refl, ℕ, take, Ok};
 ghost use Rattle.std.proofs.Common.{◌∙◌};
-ghost use Rattle.transcript_bytes.specs.GuardedAnswers.{GuardedAnswer};
+ghost use Rattle.transcripts.specs.GuardedAnswers.{GuardedAnswer};
 ghost use Rattle.transcript_elements.specs.BigEndian.{be_bytes};
 ghost use Rattle.transcript_elements.specs.Seeds.{BeginsSeed, IsPrefixFree, ObservesSeed};
 ghost use Rattle.transcript_elements.specs.Tags.{tag_of};
@@ -16,7 +16,7 @@ use field_base::LevelKernel;
 use field_element::{Element, HasPacking};
 use many_words::Many;
 use std::alloc::{AllocError, Allocator};
-use transcript_bytes::ChallengerError;
+use transcripts::ChallengerError;
 use word_polynomial::Poly64Kernel;
 use word_tower::{Bits8, Bits16, Bits32, Bits64, Bits128, Level, Tower};
 

@@ -2,7 +2,7 @@
 ghost use Rattle.transcript_elements.specs.Joined.{ElementsJoin};
 
 use crate::ByteLevel;
-use transcript_bytes::ByteChallenger;
+use transcripts::ByteChallenger;
 
 /// Computes nothing; its contract is the law that a challenger of a field which observes elements one after the other, as
 /// `observe_slice` does, observes the bytes of all of them, joined.

@@ -1,10 +1,10 @@
 // Transcripts, and the values that they observe.
 ghost use Rattle.std.specs.Prelude.{◌≡◌, false, true, Bool, OnErr, OnOk};
-ghost use Rattle.transcript_bytes.specs.GuardedAnswers.{GuardedAnswer};
+ghost use Rattle.transcripts.specs.GuardedAnswers.{GuardedAnswer};
 ghost use Rattle.transcript_elements.specs.Lists.{BeginsInTurn, InTurn};
 ghost use Rattle.transcript_elements.specs.States.{LeadsByState};
 
-use transcript_bytes::ChallengerError;
+use transcripts::ChallengerError;
 
 /// A transcript. It has one state, which changes with what is observed and sampled. A call that is refused memory returns `Memory`,
 /// and the transcript has failed from then on: every later call returns `Failed`, and changes nothing. A call that takes memory of

@@ -3,7 +3,7 @@ ghost use Rattle.std.specs.Prelude.{◌≡◌, ◌++◌, ◌∷◌, [], false, r
 
 use crate::observe::{CanObserve, Transcript};
 use std::alloc::{Allocator, Global};
-use transcript_bytes::ChallengerError;
+use transcripts::ChallengerError;
 
 /// A transcript that keeps the list of what it observed, the first value first. If the list could not grow, it stays as it is, and
 /// the recorder has failed.

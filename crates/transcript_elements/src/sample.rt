@@ -1,7 +1,7 @@
 // Values that are sampled, one or many, and elements of extensions, coefficient by coefficient.
 ghost use Rattle.std.specs.Prelude.{◌≡◌, false, length, true, Err, IfErr, IfOk, OnErr, OnOk};
-ghost use Rattle.transcript_bytes.specs.GuardedAnswers.{GuardedAnswer};
-ghost use Rattle.transcript_bytes.specs.declared.error.ChallengerError.TheVariants.{Failed, Memory};
+ghost use Rattle.transcripts.specs.GuardedAnswers.{GuardedAnswer};
+ghost use Rattle.transcripts.specs.declared.error.ChallengerError.TheVariants.{Failed, Memory};
 ghost use Rattle.transcript_elements.specs.Challengers.{state_of};
 ghost use Rattle.transcript_elements.specs.Lists.{InTurn};
 ghost use Rattle.transcript_elements.specs.Sampled.{SamplesCoefficients};
@@ -12,7 +12,7 @@ use crate::challenger::BinaryChallenger;
 use crate::{ByteLevel, Transcript};
 use field_space::BasedVectorSpace;
 use std::alloc::Allocator;
-use transcript_bytes::{ByteChallenger, ChallengerError};
+use transcripts::{ByteChallenger, ChallengerError};
 
 /// A transcript from which values of the type `T` are sampled. The value and the state after it depend on the state before alone.
 pub trait CanSample<T>: Transcript {

@@ -1,11 +1,11 @@
 // Strings of bytes as elements.
 ghost use Rattle.std.specs.Prelude.{◌≡◌, false, OnErr, OnOk};
-ghost use Rattle.transcript_bytes.specs.GuardedAnswers.{GuardedAnswer};
+ghost use Rattle.transcripts.specs.GuardedAnswers.{GuardedAnswer};
 ghost use Rattle.transcript_elements.specs.Seeds.{BeginsPadded, ObservesPadded};
 
 use crate::field::TranscriptField;
 use crate::observe::CanObserve;
-use transcript_bytes::ChallengerError;
+use transcripts::ChallengerError;
 
 /// Observes bytes as elements, the first bytes in the first element, the first of them its lowest byte; zeros fill the last element.
 /// It fails if the transcript does; the elements before are then observed.

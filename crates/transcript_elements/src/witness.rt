@@ -1,8 +1,8 @@
 // Witnesses of work: elements such that the bits sampled after them are 0.
 ghost use Rattle.std.specs.Prelude.{◌≡◌, ◌<◌, ℕ, Bool, false, true, Err, IfErr, IfOk, IsOk, Ok, OnErr, OnOk};
 ghost use Rattle.std.proofs.Common.{ap};
-ghost use Rattle.transcript_bytes.specs.ByteCalls.{after};
-ghost use Rattle.transcript_bytes.specs.GuardedAnswers.{GuardedAnswer};
+ghost use Rattle.transcripts.specs.ByteCalls.{after};
+ghost use Rattle.transcripts.specs.GuardedAnswers.{GuardedAnswer};
 ghost use Rattle.transcript_elements.specs.Challengers.{challenger_failed, challenger_refused, state_after, state_of, StopsWithin};
 ghost use Rattle.transcript_elements.specs.Grinding.{candidate_count, FailsSearch, IsLeastPassing, MayGrind};
 ghost use Rattle.transcript_elements.specs.Sampled.{challenger_passes, check_calls, passes};
@@ -14,7 +14,7 @@ use crate::elements::CanSampleBits;
 use crate::error::GrindError;
 use crate::{ByteLevel, Transcript};
 use field_base::traits::{Field, PrimeCharacteristicRing};
-use transcript_bytes::{ByteChallenger, ChallengerError};
+use transcripts::{ByteChallenger, ChallengerError};
 
 /// A transcript with proofs of work: a witness is an element that takes a search to find and one call to check.
 pub trait GrindingChallenger: CanSampleBits<usize> {

@@ -13,11 +13,11 @@ use Rattle.field_base.specs.Tower.{tower_mul}
 use Rattle.field_base.proofs.RingLemmas.{mod-times, times-mod}
 use Rattle.field_base.proofs.TowerLaws.{tower_field}
 use Rattle.field_base.proofs.TowerRing.{tower_ring}
-use Rattle.field_laws.proofs.Polynomials.{IsPolynomial, polynomial-unique}
+use Rattle.field_base.proofs.Polynomials.{IsPolynomial, polynomial-unique}
 use Rattle.ghash_slices.specs.Cantor.{point, polynomial_value}
 use Rattle.ghash_slices.proofs.CantorValues.{points_are_distinct}
-use Rattle.tower_transforms.specs.LevelVectors.{level_vectors}
-use Rattle.tower_transforms.specs.Words.{level_element}
+use Rattle.additive_transforms.specs.LevelVectors.{level_vectors}
+use Rattle.additive_transforms.specs.Words.{level_element}
 use Rattle.word_tables.specs.Cantor.{cantor_vector}
 use Rattle.word_tables.proofs.LevelLaws.{level_cantor}
 use Rattle.additive_transforms.specs.Columns.{column_of}

@@ -7,7 +7,7 @@ use Rattle.std.proofs.lemmas.List.{get_or-append-add, get_or_append_left, length
 use Rattle.additive_transforms.specs.Columns.{column_of}
 use Rattle.field_base.specs.Tower.{tower_mul}
 use Rattle.ghash_slices.specs.Cantor.{point, polynomial_value}
-use Rattle.tower_transforms.specs.Words.{level_element}
+use Rattle.additive_transforms.specs.Words.{level_element}
 use Rattle.word_tables.specs.Cantor.{cantor_vector}
 use Rattle.transform_codes.specs.Blocks.{AreSlopes}
 use Rattle.transform_codes.specs.Columns.{AreDerivedRows, AreFirstDerivedRows, ArePutWords, HoldWordValues}

@@ -13,7 +13,7 @@ use Rattle.field_base.specs.Ring.{IsRing}
 use Rattle.field_base.proofs.BasisSums.{sum_below-same}
 use Rattle.field_base.proofs.FieldLemmas.{no_zero_divisors}
 use Rattle.field_base.proofs.RingLemmas.{mod-times, sum_times, times-mod, times-zero, times_left_comm, xor_left_comm, xor_nothing, zero-times}
-use Rattle.field_laws.proofs.Polynomials.{IsPolynomial, polynomial-lt, polynomial-root, polynomial-scale, polynomial-sum, polynomial-unique, polynomial-zero}
+use Rattle.field_base.proofs.Polynomials.{IsPolynomial, polynomial-lt, polynomial-root, polynomial-scale, polynomial-sum, polynomial-unique, polynomial-zero}
 use Rattle.ghash_slices.specs.Cantor.{polynomial_value, subspace_value}
 use Rattle.ghash_slices.specs.Stages.{factors_at, sum_of_factors}
 use Rattle.ghash_slices.proofs.CantorValues.{subspace_value-sum}

@@ -11,7 +11,7 @@ use Rattle.field_base.specs.Field.{IsField}
 use Rattle.field_base.specs.Ring.{IsRing}
 use Rattle.field_base.proofs.FieldLemmas.{no_zero_divisors}
 use Rattle.field_base.proofs.RingLemmas.{times-zero, times_left_comm, xor_nothing}
-use Rattle.field_laws.proofs.Polynomials.{IsPolynomial, polynomial-root}
+use Rattle.field_base.proofs.Polynomials.{IsPolynomial, polynomial-root}
 use Rattle.transform_codes.specs.Locators.{locator, lost_count, others_lost}
 use Rattle.transform_codes.proofs.DerivedValues.{constant, one-lt}
 

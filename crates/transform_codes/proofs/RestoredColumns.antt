@@ -14,9 +14,9 @@ use Rattle.field_base.proofs.RingLemmas.{mod-times, times-zero}
 use Rattle.field_base.proofs.TowerLaws.{tower_field}
 use Rattle.field_base.proofs.TowerRing.{tower_ring}
 use Rattle.field_base.specs.Tower.{tower_mul}
-use Rattle.field_laws.proofs.Polynomials.{polynomial-lt}
+use Rattle.field_base.proofs.Polynomials.{polynomial-lt}
 use Rattle.ghash_slices.specs.Cantor.{point, polynomial_value}
-use Rattle.tower_transforms.specs.Words.{level_element}
+use Rattle.additive_transforms.specs.Words.{level_element}
 use Rattle.word_tables.specs.Cantor.{cantor_vector}
 use Rattle.transform_codes.specs.Codes.{IsCodedColumn, shard_symbol, value_at}
 use Rattle.transform_codes.specs.Columns.{AreFirstDerivedRows, AreRowProducts, HoldWordValues}

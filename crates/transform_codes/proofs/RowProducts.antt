@@ -8,7 +8,7 @@ use Rattle.std.proofs.lemmas.List.{get_or-append-add, get_or-map, get_or-set_oth
 use Rattle.field_base.specs.Tower.{tower_mul}
 use Rattle.field_base.proofs.RingLemmas.{times-mod}
 use Rattle.field_base.proofs.TowerRing.{tower_ring}
-use Rattle.tower_transforms.specs.Units.{FirstAre}
+use Rattle.additive_transforms.specs.Units.{FirstAre}
 use Rattle.transform_codes.specs.Blocks.{AreDifferences, AreInverted}
 use Rattle.transform_codes.specs.Columns.{ArePutProducts}
 

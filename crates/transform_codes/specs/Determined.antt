@@ -1,7 +1,7 @@
 -- Any k shards determine the others (F. J. MacWilliams and N. J. A. Sloane, The Theory of Error-Correcting Codes, 1977, chapter 10), so that
 -- shards that were encoded and then lost come back.
 use Rattle.std.specs.Prelude.{◌≡◌, ℕ, ◌+◌, ◌-◌, ◌^◌, ◌<◌, ◌≤◌, Bool, List, if◌then◌else◌, nat_lt}
-use Rattle.field_laws.specs.PolynomialRoots.{AreDistinctBelow}
+use Rattle.field_base.specs.PolynomialRoots.{AreDistinctBelow}
 use Rattle.transform_codes.specs.Codes.{AreCodedColumns, IsCodedColumn, shard_symbol}
 use Rattle.transform_codes.specs.Restoring.{AreRestoredColumns, IsAtHand}
 

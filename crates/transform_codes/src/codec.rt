@@ -1,6 +1,6 @@
 // The code: how many shards of data and of parity there are, and what is done with them.
 ghost use Rattle.std.specs.Prelude.{◌≡◌, ℕ, ◌+◌, ◌*◌, ◌/◌, ◌^◌, ◌<◌, ◌≤◌, ◌↔◌, length, IsTrue, IsOk, IfOk, IfErr, OnErr};
-ghost use Rattle.tower_transforms.specs.Words.{level_element};
+ghost use Rattle.additive_transforms.specs.Words.{level_element};
 ghost use Rattle.transform_codes.specs.Codes.{AreCodedColumns};
 ghost use Rattle.transform_codes.specs.Locators.{lost_count};
 ghost use Rattle.transform_codes.specs.Restoring.{AreRestoredColumns, is_missing};
@@ -13,8 +13,8 @@ use crate::error::TransformCodeError;
 use crate::locators::set_factors;
 use crate::restoring::restore_strip;
 use crate::strips::{columns_at_once, strip_at};
+use additive_transforms::StoredBytes;
 use field_base::Unsigned;
-use tower_transforms::StoredBytes;
 use word_tower::Level;
 
 /// An erasure code of so many shards of data and of parity. The data, of which there are k, have the points from 0 on, and the parity has

@@ -1,14 +1,14 @@
 // Whether shards of parity are those of the data, strip by strip.
 ghost use Rattle.std.specs.Prelude.{◌≡◌, ◌↔◌, ℕ, ◌+◌, ◌*◌, ◌^◌, ◌<◌, ◌≤◌, IsTrue, length, slice_index_or};
-ghost use Rattle.tower_transforms.specs.Words.{level_element};
+ghost use Rattle.additive_transforms.specs.Words.{level_element};
 ghost use Rattle.transform_codes.specs.Codes.{AreCodedColumns, IsCodedColumn, shard_symbol};
 ghost use Rattle.transform_codes.specs.Columns.{FitEncoding};
 
 use crate::codec::TransformCode;
 use crate::encoding::{interpolate, write_parity};
 use crate::strips::{Strip, columns_at_once, strip_at};
+use additive_transforms::StoredBytes;
 use field_base::Unsigned;
-use tower_transforms::StoredBytes;
 use word_tower::Level;
 
 // Whether each column is a code word. As many are computed at once as there is space for.

@@ -1,7 +1,7 @@
 // The parity of shards of data, strip by strip.
 ghost use Rattle.std.specs.Prelude.{◌≡◌, ◌⊎◌, ℕ, ◌+◌, ◌*◌, ◌^◌, ◌<◌, ◌≤◌, length, map, slice_index_or};
 ghost use Rattle.additive_transforms.specs.Columns.{column_of};
-ghost use Rattle.tower_transforms.specs.Words.{level_element};
+ghost use Rattle.additive_transforms.specs.Words.{level_element};
 ghost use Rattle.transform_codes.specs.Codes.{AreCodedColumns, AreOfData, IsCodedColumn, shard_symbol};
 ghost use Rattle.transform_codes.specs.Columns.{AreParityBelow, FitEncoding, OthersAreKept};
 
@@ -10,7 +10,7 @@ use crate::columns::{gather, scatter};
 use crate::points::point_of;
 use crate::strips::{Strip, columns_at_once, least, strip_at};
 use crate::transforms::{forward_first, inverse_strip};
-use tower_transforms::StoredBytes;
+use additive_transforms::StoredBytes;
 use word_tower::Level;
 
 // Sets the coefficients, in a row for each, to those of the polynomials of the columns of a strip of data.

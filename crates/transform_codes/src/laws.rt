@@ -1,5 +1,5 @@
 // The laws of the codes, as contracts of functions that compute nothing.
-ghost use Rattle.tower_transforms.specs.Words.{level_element};
+ghost use Rattle.additive_transforms.specs.Words.{level_element};
 ghost use Rattle.transform_codes.specs.Determined.{LostSymbolsReturn, ShardsDetermine};
 ghost use Rattle.transform_codes.specs.Located.{LostSymbolsAreLocated};
 

@@ -6,7 +6,7 @@
 // derivative of the whole locator is, at a lost point, the locator of the other lost symbols.
 ghost use Rattle.std.specs.Prelude.{◌≡◌, ◌≢◌, ℕ, ◌+◌, ◌-◌, ◌*◌, ◌/◌, ◌^◌, ◌<◌, ◌≤◌, true, false, length, slice_index_or};
 ghost use Rattle.field_base.specs.Tower.{tower_mul};
-ghost use Rattle.tower_transforms.specs.Words.{level_element};
+ghost use Rattle.additive_transforms.specs.Words.{level_element};
 ghost use Rattle.transform_codes.specs.Blocks.{AreDifferences, AreExtended, AreInverted, AreSlopes, HoldLocator};
 ghost use Rattle.transform_codes.specs.Locators.{lost_count};
 ghost use Rattle.transform_codes.specs.Restoring.{AreFactors, ArePoints, is_lost};
@@ -16,7 +16,7 @@ use crate::derivatives::derive;
 use crate::points::{is_lost, point_of, set_points};
 use crate::products::multiply_each;
 use crate::transforms::{forward_strip, inverse_strip};
-use tower_transforms::StoredBytes;
+use additive_transforms::StoredBytes;
 use word_tower::Level;
 
 // The locator of at most 2^4 places is a product of differences.

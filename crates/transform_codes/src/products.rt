@@ -1,17 +1,17 @@
 // Products of words: of rows by one factor each, many words at once, and of two slices, word by word.
 ghost use Rattle.std.specs.Prelude.{◌≡◌, ℕ, ◌+◌, ◌*◌, ◌^◌, ◌<◌, ◌≤◌, length, slice_index_or};
 ghost use Rattle.field_base.specs.Tower.{tower_mul};
-ghost use Rattle.tower_transforms.specs.Rows.{level_of};
+ghost use Rattle.additive_transforms.specs.Rows.{level_of};
 ghost use Rattle.transform_codes.specs.Columns.{AreRowProducts, ArePutProducts};
 ghost use Rattle.transform_codes.specs.Restoring.{is_lost};
 
 use crate::codec::TransformCode;
 use crate::columns::clear_words;
 use crate::points::is_lost;
-use std::simd::prelude::*;
-use tower_transforms::{
+use additive_transforms::{
     ByteMultiples, HalfMultiples, Pair, PlaneScalars, StoredBytes, WordPlanes, multiply_words,
 };
+use std::simd::prelude::*;
 use word_tower::Level;
 
 type Planes8 = u8x32;

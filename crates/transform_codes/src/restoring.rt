@@ -2,7 +2,7 @@
 // points, since it is 0 at the lost ones, so that an inverse transform gives its coefficients. The derivative of the product is, at a lost
 // point, the lost symbol times the locator of the other lost ones. It is computed as far as the last of those that a shard has.
 ghost use Rattle.std.specs.Prelude.{◌≡◌, ◌⊎◌, ℕ, ◌+◌, ◌-◌, ◌*◌, ◌^◌, ◌<◌, ◌≤◌, length, slice_index_or};
-ghost use Rattle.tower_transforms.specs.Words.{level_element};
+ghost use Rattle.additive_transforms.specs.Words.{level_element};
 ghost use Rattle.transform_codes.specs.Columns.{IsOutside};
 ghost use Rattle.transform_codes.specs.Restoring.{AreMended, FitRestoring, IsAtHand, RestoresSymbols, word_at};
 
@@ -13,8 +13,8 @@ use crate::points::places_to_last;
 use crate::products::multiply_rows;
 use crate::strips::Strip;
 use crate::transforms::{forward_strip, inverse_strip};
+use additive_transforms::StoredBytes;
 use field_base::Unsigned;
-use tower_transforms::StoredBytes;
 use word_tower::Level;
 
 // Sets the values, a row for each point, to the words of a strip.

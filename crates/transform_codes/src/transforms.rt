@@ -3,10 +3,10 @@ ghost use Rattle.std.specs.Prelude.{◌≡◌, ◌*◌, ◌^◌, ◌<◌, ◌≤
 ghost use Rattle.additive_transforms.specs.Columns.{FitsColumns};
 ghost use Rattle.field_base.specs.Tower.{tower_mul};
 ghost use Rattle.ghash_slices.specs.Cantor.{subspace_value};
-ghost use Rattle.tower_transforms.specs.Words.{level_element};
+ghost use Rattle.additive_transforms.specs.Words.{level_element};
 ghost use Rattle.transform_codes.specs.Columns.{AreWordCoefficients, HoldFirstValues, HoldWordValues};
 
-use tower_transforms::{StoredBytes, forward_level_columns, inverse_level_columns};
+use additive_transforms::{StoredBytes, forward_level_columns, inverse_level_columns};
 use word_tower::Level;
 
 // From the coefficients of each column to the values at the points from `z` on.

@@ -1,112 +1,125 @@
-// The kernel of the cubic extension of GF(2^64), over every word that holds three words.
-ghost use Rattle.std.specs.Prelude.{◌≡◌, ◌≢◌, ◌<◌, ◌≤◌, ◌%◌, ◌^◌, ℕ};
-ghost use Rattle.std.proofs.Common.{lit<};
+// The arithmetic of the cubic extension on three words: a product by six products of words, and the inverse by the adjugate,
+// whose product with the element is its norm, an element of GF(2^64).
+ghost use Rattle.std.specs.Prelude.{◌≡◌, ◌≢◌, ◌<◌, ◌^◌};
+ghost use Rattle.word_polynomial.specs.Cubic.{cubic_mul};
+ghost use Rattle.field_base.specs.Powers.{repeated_square};
 ghost use Rattle.field_base.specs.Remainder.{mul_mod, poly64_modulus};
-ghost use Rattle.word_cubic.specs.Cubic.{cubic, triple};
-ghost use Rattle.word_cubic.proofs.Field192.{field_192, generator_nonzero_192, generator_order_192};
+ghost use Rattle.word_polynomial.specs.Triple.{triple_number};
 
-use crate::moduli::Poly64Kernel;
-use field_base::{Contains, FieldKernel};
-use word_cubic::{
-    HoldsTriple, Triple, invert_192, multiply_192, reduce_squarings_192, sqrt_192, square_192,
-};
+use crate::triple::Triple;
+use word_carryless::{multiply_mod_64, sqrt_mod_64, square_mod_64};
+use word_tables::{to_polynomial_64, to_tower_64};
+use word_tower::{Bits64, Level};
 
-/// The cubic extension of GF(2^64), which adjoins a root y of y³ + y + 1.
-pub struct CubicKernel;
-
-impl<R: HoldsTriple> FieldKernel<R> for CubicKernel {
-    ghost width = { 192 };
-
-    ghost product = { cubic 64 (mul_mod 64 poly64_modulus) };
-
-    ghost generator = { triple 64 5 3 1 };
-
-    const NAME: &'static str = "Poly192";
-
-    const GENERATOR: R = R::GENERATOR;
-
-    ghost GENERATOR = { R.GENERATOR };
-
-    ghost reduced = { λ low high. R.number low };
-
-    ghost field_law = { field_192 };
-
-    ghost wide_law = { lit< tt };
-
-    ghost generator_fits = { lit< tt };
-
-    #[inline]
-    fn bits() -> usize {
-        192
+/// The product, by Karatsuba's rule: six products of coefficients in place of nine.
+#[inline]
+pub fn multiply_192(x: Triple, y: Triple) -> Triple
+    ensures { triple_number result ≡ cubic_mul (triple_number x) (triple_number y) }
+{
+    let p0 = multiply_mod_64(x.c0, y.c0);
+    let p1 = multiply_mod_64(x.c1, y.c1);
+    let p2 = multiply_mod_64(x.c2, y.c2);
+    let p01 = multiply_mod_64(x.c0 ^ x.c1, y.c0 ^ y.c1);
+    let p02 = multiply_mod_64(x.c0 ^ x.c2, y.c0 ^ y.c2);
+    let p12 = multiply_mod_64(x.c1 ^ x.c2, y.c1 ^ y.c2);
+    let spill = p12 ^ p1 ^ p2;
+    Triple {
+        c0: p0 ^ spill,
+        c1: p01 ^ p0 ^ p1 ^ spill ^ p2,
+        c2: p02 ^ p0 ^ p1,
     }
-
-    // Three words have no bit above the field.
-    #[inline]
-    fn truncate(x: R) -> R {
-        x
-    }
-
-    #[inline]
-    fn multiply(x: R, y: R) -> R {
-        R::of_triple(multiply_192(x.to_triple(), y.to_triple()))
-    }
-
-    // Called by loops apart and in place: by a call of its own its three words would go through memory.
-    #[inline(always)]
-    fn square(x: R) -> R {
-        R::of_triple(square_192(x.to_triple()))
-    }
-
-    #[inline]
-    fn invert(x: R) -> R {
-        R::of_triple(invert_192(x.to_triple()))
-    }
-
-    #[inline(always)]
-    fn sqrt(x: R) -> R {
-        R::of_triple(sqrt_192(x.to_triple()))
-    }
-
-    #[inline]
-    fn reduce_squarings(x: R, count: usize) -> (R, usize) {
-        let (words, rest) = reduce_squarings_192(x.to_triple(), count);
-        (R::of_triple(words), rest)
-    }
-
-    #[inline]
-    fn no_products() -> (R, R) {
-        (R::ZERO, R::ZERO)
-    }
-
-    // A product is reduced at once.
-    #[inline]
-    fn add_product(low: R, high: R, x: R, y: R) -> (R, R) {
-        let product = multiply_192(x.to_triple(), y.to_triple());
-        (low.xor(R::of_triple(product)), high)
-    }
-
-    #[inline]
-    fn reduce_sum(low: R, _high: R) -> R {
-        low
-    }
-
-    ghost room_law = { R.room_law };
-
-    ghost reduced_fits = { λ low high. R.range_law low };
-
-    ghost generator_is = { R.generator_law };
-
-    ghost generator_nonzero = { generator_nonzero_192 };
-
-    ghost generator_law = { generator_order_192 };
 }
 
-// GF(2^64) inside its cubic extension: an element is coefficient 0.
-impl<R: HoldsTriple> Contains<R, u64, Poly64Kernel> for CubicKernel {
-    ghost image = { λ n. n };
+/// The square: (c0 + c1 y + c2 y²)² = c0² + c2² y + (c1² + c2²) y², since y⁴ = y² + y.
+#[inline(always)]
+pub fn square_192(x: Triple) -> Triple
+    ensures { triple_number result ≡ cubic_mul (triple_number x) (triple_number x) }
+{
+    let s0 = square_mod_64(x.c0);
+    let s1 = square_mod_64(x.c1);
+    let s2 = square_mod_64(x.c2);
+    Triple {
+        c0: s0,
+        c1: s2,
+        c2: s1 ^ s2,
+    }
+}
 
-    #[inline]
-    fn embed(x: u64) -> R {
-        R::of_triple(Triple::of_low(x))
+/// An element and a number of squarings below 192 that take it to `x` squared `count` times. The automorphism replaces 64 of
+/// them.
+#[inline]
+pub fn reduce_squarings_192(x: Triple, count: usize) -> (Triple, usize)
+    ensures few { result.1 < 192 }
+    ensures squarings { repeated_square 1 cubic_mul result.1 (triple_number result.0) ≡ repeated_square 1 cubic_mul count (triple_number x) }
+{
+    let rest = count % 192;
+    if rest < 64 {
+        (x, rest)
+    } else if rest < 128 {
+        (automorphism_192(x), rest - 64)
+    } else {
+        (automorphism_192(automorphism_192(x)), rest - 128)
+    }
+}
+
+/// The square root. Every element has exactly one.
+#[inline(always)]
+pub fn sqrt_192(x: Triple) -> Triple
+    ensures { cubic_mul (triple_number result) (triple_number result) ≡ triple_number x }
+{
+    let r0 = sqrt_mod_64(x.c0);
+    let r1 = sqrt_mod_64(x.c1 ^ x.c2);
+    let r2 = sqrt_mod_64(x.c1);
+    Triple {
+        c0: r0,
+        c1: r1,
+        c2: r2,
+    }
+}
+
+/// The inverse, and 0 for 0: the adjugate times the inverse of the norm.
+#[inline]
+pub fn invert_192(x: Triple) -> Triple
+    ensures zero { triple_number x ≡ 0 → triple_number result ≡ 0 }
+    ensures inverse { triple_number x ≢ 0 → cubic_mul (triple_number x) (triple_number result) ≡ 1 }
+{
+    let s0 = square_mod_64(x.c0);
+    let s1 = square_mod_64(x.c1);
+    let s2 = square_mod_64(x.c2);
+    let p01 = multiply_mod_64(x.c0, x.c1);
+    let p02 = multiply_mod_64(x.c0, x.c2);
+    let p12 = multiply_mod_64(x.c1, x.c2);
+    let d0 = s0 ^ s1 ^ (s2 ^ p12);
+    let d1 = p01 ^ s2;
+    let d2 = s1 ^ s2 ^ p02;
+    let n0 = multiply_mod_64(x.c0, d0);
+    let n1 = multiply_mod_64(x.c1, d2);
+    let n2 = multiply_mod_64(x.c2, d1);
+    let scale = invert_by_tower(n0 ^ n1 ^ n2);
+    let c0 = multiply_mod_64(scale, d0);
+    let c1 = multiply_mod_64(scale, d1);
+    let c2 = multiply_mod_64(scale, d2);
+    Triple { c0, c1, c2 }
+}
+
+/// The inverse in GF(2^64), and 0 for 0, by the tower's tables. They take about a seventh of the time of the 63 squarings that
+/// invert a `Poly64`.
+#[inline]
+fn invert_by_tower(x: u64) -> u64
+    ensures zero { x ≡ 0 → result ≡ 0 }
+    ensures inverse { x ≢ 0 → mul_mod 64 poly64_modulus x result ≡ 1 }
+{
+    to_polynomial_64(Bits64::invert(to_tower_64(x)))
+}
+
+/// The element squared 64 times: the automorphism over GF(2^64) that takes y to y², and so y² to y⁴ = y² + y.
+#[inline]
+pub fn automorphism_192(x: Triple) -> Triple
+    ensures { triple_number result ≡ repeated_square 1 cubic_mul 64 (triple_number x) }
+{
+    Triple {
+        c0: x.c0,
+        c1: x.c2,
+        c2: x.c1 ^ x.c2,
     }
 }

@@ -4,7 +4,7 @@ ghost use Rattle.std.specs.Prelude.{◌≡◌, ◌<◌, ◌%◌, ◌^◌, List, 
 use crate::element::Element;
 use crate::names::Poly64;
 use std::marker::PhantomData;
-use word_cubic::Triple;
+use word_polynomial::Triple;
 
 /// The coefficients [c0, c1, c2] of an element c0 + c1 y + c2 y² of `Poly192`, which store it.
 #[derive(Clone, Copy)]

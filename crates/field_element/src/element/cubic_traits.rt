@@ -5,8 +5,8 @@ ghost use Rattle.std.specs.Cmp.{on_equiv, on_per, on_po, on_total, partial_order
 ghost use Rattle.std.specs.Cmp.Rules.{comparing};
 ghost use Rattle.std.specs.Fmt.{WritesOnOk};
 ghost use Rattle.field_element.specs.Coefficients.{stored_words};
-ghost use Rattle.word_cubic.specs.Triple.{events_of, hexadecimal_of};
-ghost use Rattle.word_cubic.specs.TripleLemmas.{same_number, words_law};
+ghost use Rattle.word_polynomial.specs.Triple.{events_of, hexadecimal_of};
+ghost use Rattle.word_polynomial.specs.TripleLemmas.{same_number, words_law};
 
 use crate::element::Coefficients;
 use field_base::ReadWord;
@@ -19,7 +19,7 @@ use std::alloc::Global;
 use std::cmp::Ordering;
 use std::fmt;
 use std::hash::{Hash, Hasher};
-use word_cubic::Triple;
+use word_polynomial::Triple;
 
 impl PartialEq for Coefficients {
     ghost eq = { λ x y. ⟦<Triple as PartialEq>⟧.eq (stored_words x) (stored_words y) };

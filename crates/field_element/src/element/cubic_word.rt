@@ -1,8 +1,8 @@
 // The coefficients of an element of `Poly192` as its stored word, which holds their words.
 ghost use Rattle.std.specs.Prelude.{◌≡◌, ◌≢◌, ◌<◌, ◌≤◌, ◌%◌, ◌^◌, ◌∷◌, [], ℕ, refl};
 ghost use Rattle.std.proofs.Common.{lit<, lit≤, rules};
-ghost use Rattle.word_cubic.specs.Cubic.{triple};
-ghost use Rattle.word_cubic.specs.TripleLemmas.{fits_192, triple-chunks, words_law};
+ghost use Rattle.word_polynomial.specs.Cubic.{triple};
+ghost use Rattle.word_polynomial.specs.TripleLemmas.{fits_192, triple-chunks, words_law};
 ghost use Rattle.field_element.specs.Coefficients.{coefficients_of_number, coefficients_of_words};
 ghost use Rattle.field_element.specs.Coefficients.{same_coefficients, stored_number, stored_words};
 
@@ -10,8 +10,7 @@ use crate::element::{Coefficients, Element};
 use crate::names::Poly64;
 use field_base::{Joins, Stored};
 use std::marker::PhantomData;
-use word_cubic::{HoldsTriple, Triple};
-use word_polynomial::{CubicKernel, Poly64Kernel};
+use word_polynomial::{CubicKernel, HoldsTriple, Poly64Kernel, Triple};
 
 // The elements 0 and 1 of `Poly64`: the value of a constant can name none that a trait provides.
 const ZERO_COEFFICIENT: Poly64 = Element {

@@ -2,7 +2,7 @@
 // bound ask for `LowerHex`.
 ghost use Rattle.std.specs.Prelude.{◌≡◌, ◌<◌, ◌^◌, true, false};
 ghost use Rattle.std.specs.Fmt.{WritesOnOk, digits};
-ghost use Rattle.word_cubic.specs.Triple.{hexadecimal_of};
+ghost use Rattle.word_polynomial.specs.Triple.{hexadecimal_of};
 ghost use Rattle.field_element.specs.Coefficients.{stored_words};
 ghost use Rattle.field_element.specs.Element.{number_of_64_bits};
 

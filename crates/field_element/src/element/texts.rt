@@ -4,8 +4,7 @@ ghost use Rattle.std.specs.Fmt.{decimal, styled_decimal};
 ghost use Rattle.field_base.specs.Steps.{GivesEach};
 
 use crate::element::{Coefficients, Element};
-use field_base::{FieldKernel, ReadWord, Stored, Unsigned};
-use field_integers::write_decimal;
+use field_base::{FieldKernel, ReadWord, Stored, Unsigned, write_decimal};
 use serde::{
     Described, Deserialize, DeserializeOwned, Deserializer, Format, Serialize, Serializer,
 };

@@ -5,8 +5,8 @@ ghost use Rattle.std.proofs.Common.{lit≤};
 ghost use Rattle.many_words.specs.Places.{level_in_planes};
 
 use super::FieldInPlanes;
+use additive_transforms::{ByteMultiples, HalfMultiples, Holds, Pair};
 use std::simd::prelude::*;
-use tower_transforms::{ByteMultiples, HalfMultiples, Holds, Pair};
 use word_tower::{Bits8, Bits16, Bits32, Bits64, Bits128, Tower};
 
 type Planes8 = u8x32;

@@ -13,8 +13,9 @@ use crate::scaled_bytes::LEAST_MAPPED;
 use crate::{SlicedWide, bytes, mapped_words, products, scalars, scaled_bytes};
 use bit_slices::Vector;
 use ghash_slices::Width;
-use word_cubic::Triple;
-use word_polynomial::{CubicKernel, GhashKernel, Poly64Kernel, Poly64Modulus, RijndaelKernel};
+use word_polynomial::{
+    CubicKernel, GhashKernel, Poly64Kernel, Poly64Modulus, RijndaelKernel, Triple,
+};
 use word_tower::{Bits1, Bits2, Bits4, Bits64, Tower};
 
 impl Many<u8, u8> for Tower<Bits1> {

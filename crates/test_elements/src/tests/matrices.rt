@@ -3,7 +3,7 @@
 // rank 1; triangular factors, powers of a companion matrix, and draws.
 use field_base::traits::{PrimeCharacteristicRing, TowerLevel};
 use field_element::Rijndael8b;
-use field_matrices::{
+use field_slices::matrices::{
     Elements, companion_into, determinant, invert_beside, multiply_into, plu_decompose, power_into,
     random_into, row_reduce, solve_augmented,
 };

@@ -1,6 +1,6 @@
 // Matrices over GF(2), worked and drawn: reduced forms, ranks, null spaces, inverses and solutions, of rows of one word and of two, and of
 // none.
-use bit_matrices::{
+use bits_packed::matrices::{
     identity_into, invert_beside, multiply_into, null_space_into, random_into, row_reduce,
     solve_augmented,
 };

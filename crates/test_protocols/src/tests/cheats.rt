@@ -13,8 +13,8 @@ use protocols::sumcheck::{prove, verify};
 use protocols::terms::{Term, are_within, cube_sum, terms_at};
 use std::alloc::{AllocError, Global};
 use std::test::Fail;
-use transcript_bytes::{HashChallenger, Sha256Hasher};
 use transcript_elements::BinaryChallenger;
+use transcripts::{HashChallenger, Sha256Hasher};
 
 type Wide = BinaryField128;
 

@@ -10,8 +10,8 @@ use protocols::merkle_tree::MerkleTree;
 use std::alloc::{AllocError, Global};
 use std::test::Fail;
 use test_support::next_word;
-use transcript_bytes::Sha256Hasher;
 use transcript_elements::{BinaryChallenger, MerkleCap, ShortWord};
+use transcripts::Sha256Hasher;
 use word_tower::{Bits64, Tower};
 
 // What is changed between the prover and the verifier.

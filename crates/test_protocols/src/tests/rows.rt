@@ -3,7 +3,7 @@ use protocols::merkle_tree::MerkleTree;
 use protocols::openings::verify_many;
 use std::alloc::{AllocError, Global};
 use std::test::Fail;
-use transcript_bytes::Sha256Hasher;
+use transcripts::Sha256Hasher;
 
 // Eight rows of three bytes.
 static ROWS: [u8; 24] = *b"r00r01r02r03r04r05r06r07";

@@ -6,8 +6,8 @@ use field_slices::evaluate_multilinear;
 use protocols::tables::{column_values, commit_table, open_columns, verify_columns};
 use std::alloc::{AllocError, Global};
 use test_support::next_word;
-use transcript_bytes::Sha256Hasher;
 use transcript_elements::ByteLevel;
+use transcripts::Sha256Hasher;
 
 // What is changed between the prover and the verifier.
 #[derive(Clone, Copy)]

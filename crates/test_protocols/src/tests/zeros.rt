@@ -6,8 +6,8 @@ use field_slices::evaluate_multilinear;
 use protocols::ProtocolError;
 use protocols::zero_check::{prove_zero, verify_zero};
 use std::alloc::Global;
-use transcript_bytes::{HashChallenger, Sha256Hasher};
 use transcript_elements::{BinaryChallenger, FieldChallenger};
+use transcripts::{HashChallenger, Sha256Hasher};
 
 type Wide = BinaryField128;
 

@@ -12,8 +12,8 @@ use std::alloc::{AllocError, Allocator, Global};
 use std::cell::Cell;
 use std::marker::PhantomData;
 use test_support::{Copies, Double, Ending, Growing, Rest, Seen, is_refused_in_turn};
-use transcript_bytes::{ByteChallenger, ChallengerError, Sha256Hasher};
 use transcript_elements::{BinaryChallenger, ByteLevel, Call, Reply, run_calls};
+use transcripts::{ByteChallenger, ChallengerError, Sha256Hasher};
 
 // The call of a row.
 fn call_of<F: ByteLevel>(row: &Row) -> Call<F>

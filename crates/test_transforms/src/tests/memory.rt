@@ -1,12 +1,13 @@
 // Calls that take memory, with each growth refused in turn, and granted where there is memory: `LowStageTwiddles::new` with bases of 3 to 257
 // elements, which leaves nothing behind; and `forward_with`, `forward`, `forward_numbers` and `Transform::new` at 2^0 to 2^8 values. A refused
 // transform leaves the values and the count as they were. Fewer than 16 values take no memory, but for `Transform::new`.
-use additive_transforms::{PolyKernel, Transform as KeptTransform, forward_with};
+use additive_transforms::{
+    PolyKernel, Transform as KeptTransform, forward, forward_numbers, forward_with, inverse_numbers,
+};
 use ghash_slices::LowStageTwiddles;
 use linked_list_allocator::LocalHeap;
 use std::alloc::{AllocError, Allocator, Global};
 use test_support::{Ending, Growing, Rest, fill, is_refused_in_turn};
-use tower_transforms::{forward, forward_numbers, inverse_numbers};
 
 // Twiddles with a basis of so many elements.
 #[derive(Drop)]

@@ -1,10 +1,10 @@
 // Butterflies of rows by scalars of 8, 16 and 32 bits against products of elements, place by place, at each number of elements up to 73,
 // and back.
+use additive_transforms::{ByteBlock, butterflies_8, butterflies_16, butterflies_32};
 use field_base::traits::TowerLevel;
 use field_element::{BinaryField8, BinaryField16, BinaryField32};
 use std::simd::prelude::*;
 use test_support::{fill_bytes, next_number};
-use tower_transforms::{ByteBlock, butterflies_8, butterflies_16, butterflies_32};
 
 // Runs the butterflies of two rows by a scalar of 8 bits, or returns false.
 fn run_8<V: ByteBlock>(lo: &mut [u8], hi: &mut [u8], scalar: u32, inverse: bool) -> bool {

@@ -2,13 +2,12 @@
 // the points of drawn places, with shifts of each level of the tower. And that no instruction multiplies.
 use super::words::SHIFTS;
 use additive_transforms::over::evaluate_cantor;
-use additive_transforms::point;
+use additive_transforms::{forward, inverse, point};
 use field_element::Ghash128;
 use ghash_slices::HAS_HARDWARE_CLMUL;
 use std::alloc::{AllocError, Allocator, Global};
 use std::test::Fail;
 use test_support::{fill, next_number};
-use tower_transforms::{forward, inverse};
 
 // Runs the transform of 2^m values for an m up to 12, or returns false.
 pub(crate) fn forward_of<A: Allocator>(

@@ -1,13 +1,12 @@
 // The transform of words of the levels of 16 to 128 bits, against that of elements: the same values, and back. The shifts have no bits, so
 // that all twiddles are narrow, and bits of each level up to all.
-use additive_transforms::forward_elements;
+use additive_transforms::{WordBytes, forward_elements, forward_level, inverse_level};
 use field_base::traits::TowerLevel;
 use field_base::{FieldKernel, Unsigned};
 use field_element::{BinaryField16, BinaryField32, BinaryField64, BinaryField128};
 use std::alloc::{AllocError, Global};
 use std::test::Fail;
 use test_support::next_number;
-use tower_transforms::{WordBytes, forward_level, inverse_level};
 use word_tower::{Bits16, Bits32, Bits64, Bits128, Level, Tower};
 
 // Runs the transform of 2^m words for an m up to 12 and the level's bits, or, where `inverse` is true, the inverse one; or returns false.

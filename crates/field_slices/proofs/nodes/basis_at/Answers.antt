@@ -1,5 +1,5 @@
 use Rattle.std.proofs.Common.{ℕ, sym, ◌∙◌, ap}
-use Rattle.field_laws.specs.Interpolation.{other_factors}
+use Rattle.field_base.specs.Interpolation.{other_factors}
 use Rattle.field_slices.proofs.LagrangeSteps.{basis-quotient, differences-nonzero}
 use Rattle.field_slices.proofs.nodes.basis_at.Goals as goal
 

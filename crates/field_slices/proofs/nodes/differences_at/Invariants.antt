@@ -1,5 +1,5 @@
 use Rattle.std.proofs.Common.{◌≡◌}
-use Rattle.field_laws.specs.Interpolation.{other_factors}
+use Rattle.field_base.specs.Interpolation.{other_factors}
 use Rattle.field_slices.proofs.nodes.differences_at.Given as goal
 
 -- the product so far is that of the differences before this one

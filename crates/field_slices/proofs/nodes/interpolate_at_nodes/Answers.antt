@@ -1,8 +1,8 @@
 use Rattle.std.proofs.Common.{ℕ, length, map, sym, ◌∙◌, ap, ap₂, arith}
 use Rattle.std.specs.Prelude.{bit_xor, slice_index}
-use Rattle.field_laws.specs.Interpolation.{lagrange}
+use Rattle.field_base.specs.Interpolation.{lagrange}
 use Rattle.field_base.proofs.Places.{number-at}
-use Rattle.field_matrices.proofs.NextTerms.{sum-none, sum-more}
+use Rattle.field_slices.proofs.NextTerms.{sum-none, sum-more}
 use Rattle.field_slices.proofs.nodes.interpolate_at_nodes.Goals as goal
 
 pub loop-own-init : goal.loop-own-init

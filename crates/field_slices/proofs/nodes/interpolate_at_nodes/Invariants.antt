@@ -1,7 +1,7 @@
 use Rattle.std.proofs.Common.{◌≡◌, length, map}
 use Rattle.std.specs.Prelude.{slice_index}
 use Rattle.field_base.specs.Basis.{sum_below}
-use Rattle.field_laws.specs.Interpolation.{lagrange}
+use Rattle.field_base.specs.Interpolation.{lagrange}
 use Rattle.field_slices.proofs.nodes.interpolate_at_nodes.Given as goal
 
 -- the sum so far is that of the terms before this one

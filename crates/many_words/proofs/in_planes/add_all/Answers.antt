@@ -1,7 +1,7 @@
 use Rattle.std.proofs.Common.{ℕ, ◌^◌, ◌<◌, ◌∙◌, ap, arith, get_or, subst}
 use Rattle.std.specs.Prelude.{bit_xor}
 use Rattle.std.proofs.lemmas.Nat.{pow_pos}
-use Rattle.tower_transforms.specs.Rows.{level_of}
+use Rattle.additive_transforms.specs.Rows.{level_of}
 use Rattle.many_words.proofs.FirstPlaces.{all_fit, all_hold, first_added, more_added, summed}
 use Rattle.many_words.proofs.in_planes.add_all.Goals as goal
 

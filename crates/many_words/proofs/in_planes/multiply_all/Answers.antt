@@ -1,5 +1,5 @@
 use Rattle.std.proofs.Common.{arith}
-use Rattle.tower_transforms.specs.Rows.{level_of}
+use Rattle.additive_transforms.specs.Rows.{level_of}
 use Rattle.many_words.proofs.FirstPlaces.{all_hold, first_multiplied, more_multiplied, multiplied}
 use Rattle.many_words.proofs.in_planes.multiply_all.Goals as goal
 

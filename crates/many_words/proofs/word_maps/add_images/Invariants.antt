@@ -1,7 +1,7 @@
 use Rattle.std.proofs.Common.{◌≡◌, ◌*◌, ◌%◌, ◌^◌, ◌≤◌, ℕ, length, map}
 use Rattle.std.specs.Prelude.{bit_xor, slice_index}
-use Rattle.tower_transforms.specs.Rows.{level_of}
-use Rattle.tower_transforms.specs.Units.{FirstAre}
+use Rattle.additive_transforms.specs.Rows.{level_of}
+use Rattle.additive_transforms.specs.Units.{FirstAre}
 use Rattle.many_words.specs.Maps.{AreTables}
 use Rattle.many_words.proofs.word_maps.add_images.Given as goal
 

@@ -1,5 +1,5 @@
 use Rattle.std.proofs.Common.{map, ◌∙◌, arith}
-use Rattle.tower_transforms.proofs.WordSteps.{last_first}
+use Rattle.additive_transforms.proofs.WordSteps.{last_first}
 use Rattle.many_words.proofs.MapSteps.{block_mapped}
 use Rattle.many_words.proofs.word_maps.map_words.Goals as goal
 

@@ -1,7 +1,7 @@
 use Rattle.std.proofs.Common.{◌≡◌, map, length, sym, ◌∙◌, ap, arith}
 use Rattle.std.specs.Prelude.{bit_xor, slice_index}
 use Rattle.field_base.specs.Basis.{sum_below}
-use Rattle.field_matrices.proofs.NextTerms.{sum-more, sum-none}
+use Rattle.field_slices.proofs.NextTerms.{sum-more, sum-none}
 use Rattle.field_base.proofs.Places.{number-at}
 use Rattle.protocols.proofs.columns.sum_of_column.Goals as goal
 

@@ -1,6 +1,6 @@
 use Rattle.std.proofs.Common.{◌≡◌, ◌+◌, ◌-◌, ◌*◌, ◌≤◌, length, map, take, refl, ap, ◌∙◌, sym, arith}
 use Rattle.std.proofs.lemmas.List.{length-take-le}
-use Rattle.field_matrices.proofs.NextTerms.{sum-none}
+use Rattle.field_slices.proofs.NextTerms.{sum-none}
 use Rattle.protocols.specs.Products.{term_product}
 use Rattle.protocols.specs.Terms.{row_entry, terms_value}
 use Rattle.protocols.proofs.BlockSums.{block-more}

@@ -1,6 +1,6 @@
 use Rattle.std.proofs.Common.{◌*◌, map, refl, ap, ◌∙◌, sym, arith}
 use Rattle.std.specs.Prelude.{bit_xor}
-use Rattle.field_matrices.proofs.NextTerms.{sum-more, sum-none}
+use Rattle.field_slices.proofs.NextTerms.{sum-more, sum-none}
 use Rattle.protocols.specs.Products.{term_product}
 use Rattle.protocols.specs.Terms.{row_entry, terms_value}
 use Rattle.protocols.proofs.Rows.{terms_value-same}

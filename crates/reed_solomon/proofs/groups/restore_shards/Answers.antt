@@ -1,6 +1,6 @@
 use Rattle.std.proofs.Common.{◌≡◌, ◌+◌, ◌-◌, ◌*◌, ◌<◌, ◌≤◌, ℕ, length, take, drop, slice_index, refl, sym, ◌∙◌, ap, subst, arith}
 use Rattle.std.proofs.lemmas.List.{get_or-take, length-take-le}
-use Rattle.field_laws.specs.Interpolation.{lagrange}
+use Rattle.field_base.specs.Interpolation.{lagrange}
 use Rattle.reed_solomon.specs.ErasureField.{erasure_product}
 use Rattle.reed_solomon.specs.Tables.{AreApart, HasRow}
 use Rattle.reed_solomon.proofs.GroupWriting.{apart_places, group_symbols, group_written}

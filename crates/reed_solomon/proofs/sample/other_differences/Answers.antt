@@ -1,5 +1,5 @@
 use Rattle.std.proofs.Common.{◌≡◌, refl, slice_index, ◌∙◌, ap, arith}
-use Rattle.field_laws.specs.Interpolation.{other_factors}
+use Rattle.field_base.specs.Interpolation.{other_factors}
 use Rattle.reed_solomon.specs.ErasureField.{erasure_product}
 use Rattle.reed_solomon.proofs.Factors.{no_factors, factor_step, factor_skipped, denominator-nonzero}
 use Rattle.reed_solomon.proofs.sample.other_differences.Goals as goal

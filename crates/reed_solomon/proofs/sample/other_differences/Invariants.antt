@@ -1,5 +1,5 @@
 use Rattle.std.proofs.Common.{◌≡◌, slice_index}
-use Rattle.field_laws.specs.Interpolation.{other_factors}
+use Rattle.field_base.specs.Interpolation.{other_factors}
 use Rattle.reed_solomon.specs.ErasureField.{erasure_product}
 use Rattle.reed_solomon.proofs.sample.other_differences.Given as goal
 

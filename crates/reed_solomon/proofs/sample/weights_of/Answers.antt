@@ -1,6 +1,6 @@
 use Rattle.std.proofs.Common.{◌≡◌, ℕ, slice_index, set, sym, ◌∙◌, ap, arith}
 use Rattle.std.proofs.lemmas.List.{get_or-set_same, get_or-set_other, length-set}
-use Rattle.field_laws.specs.Interpolation.{other_factors}
+use Rattle.field_base.specs.Interpolation.{other_factors}
 use Rattle.reed_solomon.specs.ErasureField.{erasure_product}
 use Rattle.reed_solomon.proofs.Samples.{below_next}
 use Rattle.reed_solomon.proofs.sample.weights_of.Goals as goal

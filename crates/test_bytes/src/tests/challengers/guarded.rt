@@ -5,7 +5,7 @@ use std::alloc::Allocator;
 use std::cell::Cell;
 use std::test::Fail;
 use test_support::{Copies, Double, Seen};
-use transcript_bytes::{ByteChallenger, ChallengerError, Guarded, observe_bytes, sample_u64};
+use transcripts::{ByteChallenger, ChallengerError, Guarded, observe_bytes, sample_u64};
 
 /// Whether a call returned that memory was refused.
 fn is_refused<T: Drop>(answer: Result<T, ChallengerError>) -> bool {

@@ -2,7 +2,7 @@
 use super::sha256::OF_NOTHING;
 use std::alloc::{AllocError, Allocator, Global};
 use std::test::Fail;
-use transcript_bytes::{
+use transcripts::{
     ByteChallenger, HashChallenger, Sha256Hasher, observe_bytes, sample_bytes, sample_u64,
 };
 

@@ -4,7 +4,7 @@
 use linked_list_allocator::LocalHeap;
 use std::alloc::{AllocError, Allocator, Global};
 use test_support::{Ending, Growing, Rest, refusals_of};
-use transcript_bytes::{ByteChallenger, HashChallenger, Sha256Hasher, observe_bytes};
+use transcripts::{ByteChallenger, HashChallenger, Sha256Hasher, observe_bytes};
 
 fn challenger_over<A: Allocator + Clone>(
     alloc: A,

@@ -1,5 +1,5 @@
 // Outside vectors: SHA-256 against the examples that NIST publishes with FIPS 180-4, and against the digest of no byte.
-use transcript_bytes::{ByteHasher32, Sha256Hasher};
+use transcripts::{ByteHasher32, Sha256Hasher};
 
 /// The digest of no byte.
 pub(crate) static OF_NOTHING: [u8; 32] = [

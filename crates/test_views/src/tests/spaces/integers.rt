@@ -1,7 +1,6 @@
 // Worked rows: integers as elements of GF(2). `from_canonical_checked` of another integer than 0 and 1, as 2, 255 and -1, gives None.
-use field_base::Gf2;
 use field_base::traits::PrimeCharacteristicRing;
-use field_integers::QuotientMap;
+use field_base::{Gf2, QuotientMap};
 
 #[test]
 fn integers_by_parity(rt: HostRuntime) {

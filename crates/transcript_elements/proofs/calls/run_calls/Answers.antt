@@ -1,5 +1,5 @@
 use Rattle.std.proofs.Common.{◌≡◌, ◌++◌, ◌∷◌, [], ◌∙◌, ◌+◌, drop, inr, rules, subst, sym, take}
-use Rattle.transcript_bytes.specs.ByteCalls.{IsPartlyRun}
+use Rattle.transcripts.specs.ByteCalls.{IsPartlyRun}
 use Rattle.transcript_elements.specs.Calls.{byte_calls, call_sayings, AppendsSayings, StopsAtCall}
 use Rattle.transcript_elements.specs.Challengers.{inner_of, state_of}
 use Rattle.transcript_elements.proofs.CallLists.{call_apart, called_next, has_room, nothing_called, nothing_replied, on_err, replied_next, room_left}

@@ -1,7 +1,7 @@
 use Rattle.std.proofs.Common.{◌≡◌, false, take}
 use Rattle.std.specs.List.{flat_map}
-use Rattle.transcript_bytes.specs.ByteCalls.{observing}
-use Rattle.transcript_bytes.specs.Guarded.{guarded_after, guarded_failed, guarded_state}
+use Rattle.transcripts.specs.ByteCalls.{observing}
+use Rattle.transcripts.specs.Guarded.{guarded_after, guarded_failed, guarded_state}
 use Rattle.transcript_elements.proofs.digest.observe_digests.Given as goal
 
 -- the digests before the index were observed, and nothing has failed

@@ -1,6 +1,6 @@
 use Rattle.std.proofs.Common.{◌≡◌, ◌+◌, ◌*◌, ◌^◌, ◌<◌, ℕ, List, get_or, map, ◌∙◌, ap, arith}
 use Rattle.additive_transforms.specs.Columns.{column_of}
-use Rattle.tower_transforms.specs.Words.{level_element}
+use Rattle.additive_transforms.specs.Words.{level_element}
 use Rattle.transform_codes.specs.Codes.{shard_symbol, value_at}
 use Rattle.transform_codes.proofs.ComparedColumns.{parity_is_computed}
 use Rattle.transform_codes.proofs.comparing.is_coded_strip.Goals as goal

@@ -1,6 +1,6 @@
 use Rattle.std.proofs.Common.{◌+◌, arith, sym, ◌∙◌, ap, below_more}
 use Rattle.std.proofs.lemmas.List.{get_or_read}
-use Rattle.tower_transforms.specs.Words.{level_element}
+use Rattle.additive_transforms.specs.Words.{level_element}
 use Rattle.transform_codes.proofs.comparing.same_words.Goals as goal
 
 pub loop-c-preserved : goal.loop-c-preserved

@@ -1,4 +1,4 @@
-use Rattle.tower_transforms.specs.Words.{level_element}
+use Rattle.additive_transforms.specs.Words.{level_element}
 use Rattle.transform_codes.proofs.CodedColumns.{next_strip}
 use Rattle.transform_codes.proofs.encoding.encode_columns.Goals as goal
 

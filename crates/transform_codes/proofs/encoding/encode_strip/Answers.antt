@@ -1,6 +1,6 @@
 use Rattle.std.proofs.Common.{map}
 use Rattle.additive_transforms.specs.Columns.{column_of}
-use Rattle.tower_transforms.specs.Words.{level_element}
+use Rattle.additive_transforms.specs.Words.{level_element}
 use Rattle.transform_codes.proofs.encoding.encode_strip.Goals as goal
 
 pub returns-clause-encoded : goal.returns-clause-encoded

@@ -1,7 +1,7 @@
 use Rattle.std.proofs.Common.{◌≡◌, ℕ, ◌%◌, ◌*◌, ◌^◌, length, ◌∙◌, ap, subst}
 use Rattle.std.proofs.lemmas.Nat.{pow_pos}
 use native.Mathlib.Nat.{mod-eq_of_lt}
-use Rattle.tower_transforms.specs.Words.{level_element}
+use Rattle.additive_transforms.specs.Words.{level_element}
 use Rattle.transform_codes.specs.Columns.{HoldStrip}
 use Rattle.transform_codes.proofs.CodedColumns.{of_data}
 use Rattle.transform_codes.proofs.encoding.interpolate.Goals as goal

@@ -1,6 +1,6 @@
 use Rattle.std.proofs.Common.{◌+◌, ◌*◌, ◌^◌, ◌<◌, ℕ, map}
 use Rattle.additive_transforms.specs.Columns.{column_of}
-use Rattle.tower_transforms.specs.Words.{level_element}
+use Rattle.additive_transforms.specs.Words.{level_element}
 use Rattle.transform_codes.specs.Columns.{AreParityBelow, OthersAreKept}
 use Rattle.transform_codes.proofs.encoding.write_parity.Given as goal
 

@@ -1,4 +1,4 @@
-use Rattle.tower_transforms.specs.Words.{level_element}
+use Rattle.additive_transforms.specs.Words.{level_element}
 use Rattle.transform_codes.proofs.MendedColumns.{lost_shards_return}
 use Rattle.transform_codes.proofs.laws.lost_shards_return.Goals as goal
 

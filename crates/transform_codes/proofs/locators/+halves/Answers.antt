@@ -1,6 +1,6 @@
 use Rattle.std.proofs.Common.{◌≡◌, ◌+◌, ◌-◌, ◌^◌, ℕ, length, sym, ◌∙◌, ap, subst, arith}
 use Rattle.std.proofs.lemmas.Nat.{pow_pos}
-use Rattle.tower_transforms.specs.Words.{level_element}
+use Rattle.additive_transforms.specs.Words.{level_element}
 use Rattle.transform_codes.specs.Blocks.{HoldLocator}
 use Rattle.transform_codes.proofs.BlockLocators.{doubled, doubled_again, halves_multiplied, locator_extended}
 use Rattle.transform_codes.proofs.locators.+halves.Goals as goal

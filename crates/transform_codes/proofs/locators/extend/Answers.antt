@@ -1,7 +1,7 @@
 use Rattle.std.proofs.Common.{◌≡◌, ◌^◌, lit<, List, length, ◌∙◌, ap, subst}
 use Rattle.ghash_slices.specs.Cantor.{point}
 use Rattle.word_tables.specs.Cantor.{cantor_vector}
-use Rattle.tower_transforms.specs.Words.{level_element}
+use Rattle.additive_transforms.specs.Words.{level_element}
 use Rattle.transform_codes.specs.Columns.{HoldWordValues}
 use Rattle.transform_codes.proofs.BlockLocators.{extended_values}
 use Rattle.transform_codes.proofs.locators.extend.Goals as goal

@@ -1,7 +1,7 @@
 use Rattle.std.proofs.Common.{◌<◌, length, refl, sym, ◌∙◌, ap, arith}
 use Rattle.std.proofs.lemmas.List.{get_or_read}
 use Rattle.field_base.specs.Tower.{tower_mul}
-use Rattle.tower_transforms.specs.Words.{level_element}
+use Rattle.additive_transforms.specs.Words.{level_element}
 use Rattle.transform_codes.specs.Restoring.{is_lost}
 use Rattle.transform_codes.proofs.RowProducts.{inverted_more}
 use Rattle.transform_codes.proofs.locators.invert_lost.Goals as goal

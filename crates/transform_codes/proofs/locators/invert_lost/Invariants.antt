@@ -1,4 +1,4 @@
-use Rattle.tower_transforms.specs.Words.{level_element}
+use Rattle.additive_transforms.specs.Words.{level_element}
 use Rattle.transform_codes.specs.Blocks.{AreInverted}
 use Rattle.transform_codes.specs.Restoring.{is_lost}
 use Rattle.transform_codes.proofs.locators.invert_lost.Given as goal

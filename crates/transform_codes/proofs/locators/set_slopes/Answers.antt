@@ -1,5 +1,5 @@
 use Rattle.std.proofs.Common.{◌≡◌, ◌^◌, lit<, List, length, ◌∙◌, ap, subst}
-use Rattle.tower_transforms.specs.Words.{level_element}
+use Rattle.additive_transforms.specs.Words.{level_element}
 use Rattle.transform_codes.specs.Columns.{HoldWordValues}
 use Rattle.transform_codes.proofs.DerivedColumns.{slopes_are}
 use Rattle.transform_codes.proofs.locators.set_slopes.Goals as goal

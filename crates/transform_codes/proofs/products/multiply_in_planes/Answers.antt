@@ -1,7 +1,7 @@
 use Rattle.std.proofs.Common.{ℕ, get_or, map, ◌∙◌, subst}
 use Rattle.field_base.specs.Tower.{tower_mul}
-use Rattle.tower_transforms.specs.Rows.{level_of}
-use Rattle.tower_transforms.specs.Units.{FirstAre}
+use Rattle.additive_transforms.specs.Rows.{level_of}
+use Rattle.additive_transforms.specs.Units.{FirstAre}
 use Rattle.transform_codes.proofs.RowProducts.{first_products}
 use Rattle.transform_codes.proofs.products.multiply_in_planes.Goals as goal
 

@@ -1,7 +1,7 @@
 use Rattle.std.proofs.Common.{◌≡◌, ◌≤◌, ◌*◌, ◌^◌, ◌+◌, ℕ, ◌<◌, true, false, List, ◌++◌, length, lit<, ◌∙◌, ap, subst, arith, mul-le-mul_right}
 use Rattle.std.specs.Prelude.{slice_index}
 use Rattle.std.proofs.Math.Nat.{pow-le-pow_right}
-use Rattle.tower_transforms.specs.Words.{level_element}
+use Rattle.additive_transforms.specs.Words.{level_element}
 use Rattle.transform_codes.specs.Columns.{AreRowProducts}
 use Rattle.transform_codes.specs.Restoring.{is_lost, word_at}
 use Rattle.transform_codes.proofs.MendedColumns.{data_restored, parity_restored}

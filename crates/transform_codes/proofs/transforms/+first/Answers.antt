@@ -1,6 +1,6 @@
 use Rattle.std.proofs.Common.{◌≡◌, ◌-◌, ◌*◌, ◌/◌, ◌^◌, ℕ, suc, List, ◌++◌, length, sym, ◌∙◌, subst, arith}
 use Rattle.std.proofs.lemmas.Nat.{pow_pos}
-use Rattle.tower_transforms.specs.Words.{level_element}
+use Rattle.additive_transforms.specs.Words.{level_element}
 use Rattle.transform_codes.specs.Columns.{HoldFirstValues}
 use Rattle.transform_codes.proofs.DerivedColumns.{half_rows}
 use Rattle.transform_codes.proofs.FirstValues.{first_all, first_step, halves_fit}

@@ -1,5 +1,5 @@
 use Rattle.std.proofs.Common.{ℕ, ◌<◌, subst}
-use Rattle.tower_transforms.specs.Words.{level_element}
+use Rattle.additive_transforms.specs.Words.{level_element}
 use Rattle.transform_codes.specs.Columns.{AreWordCoefficients}
 use Rattle.transform_codes.proofs.transforms.inverse_strip.Goals as goal
 

@@ -14,5 +14,16 @@ join_products-requires-clause-mixed g c = product_lt g.E.Below.Level.LEVEL _ _ _
 pub returns : goal.returns
 returns g c =
     let karatsuba = tower_mul-karatsuba g.E.Below.Level.LEVEL (g.R.Stored.number c.args.a) (g.R.Stored.number c.args.b) in
-    cc (karatsuba, c.low-a0.ensures, c.high-a1.ensures, c.low-b0.ensures, c.high-b1.ensures, c.reference_multiply-low.ensures, c.reference_multiply-high.ensures,
-    c.xor.ensures, c.xor-2.ensures, c.reference_multiply-mixed.ensures, c.join_products.ensures)
+    cc (
+      karatsuba,
+      c.low-a0.ensures,
+      c.high-a1.ensures,
+      c.low-b0.ensures,
+      c.high-b1.ensures,
+      c.reference_multiply-low.ensures,
+      c.reference_multiply-high.ensures,
+      c.xor.ensures,
+      c.xor-2.ensures,
+      c.reference_multiply-mixed.ensures,
+      c.join_products.ensures,
+    )

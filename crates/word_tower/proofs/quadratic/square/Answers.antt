@@ -13,5 +13,13 @@ join-requires-clause-high g c = product_lt g.E.Below.Level.LEVEL _ _ _ c.multipl
 pub returns : goal.returns
 returns g c =
     let square = tower_mul-square g.E.Below.Level.LEVEL (g.R.Stored.number c.args.a) in
-    cc (square, c.low.ensures, c.high.ensures, c.square-low.ensures, c.square-high.ensures, c.multiply_by_root-by_root.ensures, c.xor.ensures,
-    c.join.ensures)
+    cc (
+      square,
+      c.low.ensures,
+      c.high.ensures,
+      c.square-low.ensures,
+      c.square-high.ensures,
+      c.multiply_by_root-by_root.ensures,
+      c.xor.ensures,
+      c.join.ensures,
+    )

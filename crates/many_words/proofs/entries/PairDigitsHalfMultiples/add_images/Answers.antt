@@ -1,7 +1,7 @@
 use Rattle.std.proofs.Common.{◌≡◌, ◌+◌, ◌*◌, ◌/◌, ◌^◌, ◌≤◌, ℕ, ◌∙◌, ap, arith, length}
 use Rattle.std.specs.Prelude.{bit_xor}
 use Rattle.std.proofs.Math.Nat.{pow-succ'}
-use Rattle.tower_transforms.specs.Rows.{level_of}
+use Rattle.additive_transforms.specs.Rows.{level_of}
 use Rattle.many_words.proofs.TableLanes.{digits_bits, first_tables, second_tables, two_images}
 use Rattle.many_words.proofs.entries.PairDigitsHalfMultiples.add_images.Goals as goal
 

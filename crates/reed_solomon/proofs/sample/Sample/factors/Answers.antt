@@ -1,5 +1,5 @@
 use Rattle.std.proofs.Common.{slice_index, ◌∙◌, ap, ℕ, arith}
-use Rattle.field_laws.specs.Interpolation.{lagrange}
+use Rattle.field_base.specs.Interpolation.{lagrange}
 use Rattle.reed_solomon.specs.ErasureField.{erasure_product}
 use Rattle.reed_solomon.proofs.Factors.{difference-nonzero, weighed_factor}
 use Rattle.reed_solomon.proofs.GroupWriting.{entry_next}

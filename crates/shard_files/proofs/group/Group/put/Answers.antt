@@ -3,7 +3,7 @@ use Rattle.std.proofs.lemmas.List.{take_at}
 use borrow.Rule.Slice.PartMut.{put_mid}
 use Rattle.shard_files.specs.Groups.{Puts}
 use Rattle.shard_files.specs.Stripes.{shard_total}
-use Rattle.stripe_codes.proofs.ShardPlaces.{shard_room}
+use Rattle.shard_files.proofs.ShardPlaces.{shard_room}
 use Rattle.shard_files.proofs.Groups.{length_put, put_there}
 use Rattle.shard_files.proofs.group.Group.put.Goals as goal
 

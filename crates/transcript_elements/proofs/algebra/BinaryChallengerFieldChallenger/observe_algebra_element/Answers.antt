@@ -1,5 +1,5 @@
 use Rattle.std.proofs.Common.{◌≡◌, ◌∙◌, ℕ, ap, le_antisymm, sym}
-use Rattle.transcript_bytes.specs.ByteCalls.{observing}
+use Rattle.transcripts.specs.ByteCalls.{observing}
 use Rattle.transcript_elements.specs.Challengers.{state_after, state_of}
 use Rattle.transcript_elements.specs.Sampled.{coefficient_bytes}
 use Rattle.transcript_elements.proofs.ManyCalls.{no_coefficient_observed, one_more_coefficient}

@@ -1,5 +1,5 @@
 use Rattle.std.proofs.Common.{◌≡◌, false}
-use Rattle.transcript_bytes.specs.ByteCalls.{observing}
+use Rattle.transcripts.specs.ByteCalls.{observing}
 use Rattle.transcript_elements.specs.Challengers.{challenger_failed, state_after, state_of}
 use Rattle.transcript_elements.specs.Sampled.{coefficient_bytes}
 use Rattle.transcript_elements.proofs.algebra.BinaryChallengerFieldChallenger.observe_algebra_element.Given as goal

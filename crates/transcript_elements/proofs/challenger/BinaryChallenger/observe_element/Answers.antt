@@ -1,6 +1,6 @@
 use Rattle.std.proofs.Common.{◌≡◌, ◌∙◌, ℕ, ap, OnErr, subst, take}
 use Rattle.field_bytes.specs.Bytes.{low_bytes}
-use Rattle.transcript_bytes.specs.ByteCalls.{IsPartlyRun, observing}
+use Rattle.transcripts.specs.ByteCalls.{IsPartlyRun, observing}
 use Rattle.transcript_elements.specs.Challengers.{state_of}
 use Rattle.transcript_elements.proofs.challenger.BinaryChallenger.observe_element.Goals as goal
 

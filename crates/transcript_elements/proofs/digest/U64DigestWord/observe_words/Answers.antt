@@ -1,8 +1,8 @@
 use Rattle.std.proofs.Common.{◌∙◌, ap, get_or, refl}
 use Rattle.std.proofs.lemmas.List.{take_all}
 use Rattle.std.specs.List.{flat_map}
-use Rattle.transcript_bytes.specs.ByteCalls.{observing}
-use Rattle.transcript_bytes.specs.Guarded.{guarded_after, guarded_state}
+use Rattle.transcripts.specs.ByteCalls.{observing}
+use Rattle.transcripts.specs.Guarded.{guarded_after, guarded_state}
 use Rattle.field_bytes.specs.Bytes.{low_bytes}
 use Rattle.field_bytes.proofs.WordBytes.{eight_bytes}
 use Rattle.transcript_elements.proofs.ManyCalls.{none_observed, one_more_observed}

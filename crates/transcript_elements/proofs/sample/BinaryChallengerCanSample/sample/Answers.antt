@@ -1,6 +1,6 @@
 use Rattle.std.proofs.Common.{◌≡◌, ◌*◌, ◌∙◌, ℕ, ap, le_antisymm, sym}
 use Rattle.field_base.specs.Chunks.{chunks}
-use Rattle.transcript_bytes.specs.ByteCalls.{after, sampling}
+use Rattle.transcripts.specs.ByteCalls.{after, sampling}
 use Rattle.transcript_elements.specs.Challengers.{state_of}
 use Rattle.transcript_elements.specs.Sampled.{squeezed_elements}
 use Rattle.transcript_elements.proofs.ManyCalls.{none_sampled, one_more_sampled}

@@ -1,5 +1,5 @@
 use Rattle.std.proofs.Common.{◌≡◌, ℕ, ◌*◌, ◌^◌, sym, ◌∙◌, ap, subst, arith}
-use Rattle.tower_transforms.specs.Words.{level_element}
+use Rattle.additive_transforms.specs.Words.{level_element}
 use Rattle.transform_codes.specs.Restoring.{AreRestoredColumns}
 use Rattle.transform_codes.proofs.MendedColumns.{next_restored}
 use Rattle.transform_codes.proofs.RestoredColumns.{bits_left, enough_known, fits_restoring}

@@ -1,5 +1,5 @@
 use Rattle.std.proofs.Common.{◌-◌, ◌≤◌}
-use Rattle.tower_transforms.specs.Words.{level_element}
+use Rattle.additive_transforms.specs.Words.{level_element}
 use Rattle.transform_codes.specs.Restoring.{AreRestoredColumns}
 use Rattle.transform_codes.proofs.codec.TransformCode.restore_shards.Given as goal
 

@@ -1,7 +1,7 @@
 use Rattle.std.proofs.Common.{subst, sym}
 use Rattle.field_base.specs.Steps.{GivesEach}
-use Rattle.word_cubic.specs.Triple.{events_of}
-use Rattle.word_cubic.specs.declared.triple.Triple.{Triple}
+use Rattle.word_polynomial.specs.Triple.{events_of}
+use Rattle.word_polynomial.specs.declared.triple.Triple.{Triple}
 use Rattle.field_element.proofs.element.cubic_traits.CoefficientsReadWord.read.Goals as goal
 
 pub returns : goal.returns

@@ -1,0 +1,82 @@
+// The field of GHASH by the tower: words that hold elements of the level of 128 bits, as the polynomials that are their images.
+ghost use Rattle.std.specs.Prelude.{◌≡◌, ℕ, length, map};
+ghost use Rattle.std.proofs.Common.{lit<};
+ghost use Rattle.ghash_slices.specs.LowStages.{ghash_cantor_vector, ghash_product};
+ghost use Rattle.additive_transforms.specs.ImageLemmas.{ghash_ring_laws, ghash_vector_laws, image_fits};
+ghost use Rattle.additive_transforms.specs.Images.{after_change, before_change, tower_image};
+
+use crate::StageArithmetic;
+use crate::arithmetic::{run_block, shift_of};
+use crate::words::GhashWord;
+use ghash_slices::{WideWord, number_at, put_number};
+use std::marker::PhantomData;
+use word_tables::{to_polynomial_128, to_tower_128};
+use word_tower::Bits128;
+
+/// The arithmetic of the tower's level of 128 bits, where a word stands for the image of the element that it holds.
+pub(crate) struct OfImages<W>(PhantomData<W>);
+
+impl<W: GhashWord> StageArithmetic for OfImages<W> {
+    type Value = W;
+
+    type Twiddle = u128;
+
+    ghost width = { 128 };
+
+    ghost product = { ghash_product };
+
+    ghost vector = { ghash_cantor_vector };
+
+    ghost value = { λ x. tower_image (W.WideWord.value x) };
+
+    ghost number = { tower_image };
+
+    #[inline]
+    fn sum(x: u128, y: u128) -> u128 {
+        x ^ y
+    }
+
+    #[inline]
+    fn cantor_vector(i: usize) -> u128 {
+        word_tables::cantor_vector(i)
+    }
+
+    fn shift(z: u128, stage: usize) -> u128 {
+        shift_of::<u128, Bits128>(z, stage)
+    }
+
+    fn butterflies(lo: &mut [W], hi: &mut [W], twiddle: u128, inverse: bool) {
+        run_block::<u128, Bits128, W>(lo, hi, twiddle, inverse);
+    }
+
+    ghost wide_law = { lit< tt };
+
+    ghost ring_law = { ghash_ring_laws };
+
+    ghost vector_law = { ghash_vector_laws };
+
+    ghost range_law = { λ x. image_fits (W.WideWord.value x) };
+}
+
+/// Replaces each polynomial by the element of the tower whose image it is, or, where `back` is true, each element by its image.
+pub(crate) fn change_basis<W: WideWord>(words: &mut [W], back: bool)
+    ensures changed { map (after_change back) (map W.value words.new) ≡ map (before_change back) (map W.value words.old) }
+    ensures length { length words.new ≡ length words.old }
+{
+    for place in 0..words.len() {
+        let number = number_at(words, place);
+        put_number(words, place, changed(number, back));
+    }
+}
+
+// The element whose image this is, or the image of this one.
+#[inline(always)]
+fn changed(number: u128, back: bool) -> u128
+    ensures { after_change back result ≡ before_change back number }
+{
+    if back {
+        to_polynomial_128(number)
+    } else {
+        to_tower_128(number)
+    }
+}

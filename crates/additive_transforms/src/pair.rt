@@ -1,0 +1,75 @@
+// Elements of the next level, by the planes of their halves.
+ghost use Rattle.std.specs.Prelude.{◌≡◌, ◌^◌, ℕ, suc};
+ghost use Rattle.field_base.specs.Quadratic.{pair};
+ghost use Rattle.additive_transforms.specs.Rows.{level_of};
+ghost use Rattle.additive_transforms.specs.Products.{AreMultiplesOfHalves};
+ghost use Rattle.additive_transforms.specs.PairLemmas.{pair_fits};
+
+use crate::multiples::HalfMultiples;
+use crate::planes::Planes;
+
+/// The elements `low + high X`.
+#[derive(Clone, Copy)]
+pub struct Pair<P> {
+    /// The planes of the low halves.
+    pub low: P,
+    /// The planes of the high halves.
+    pub high: P,
+}
+
+impl<M, P: Planes<M>> Planes<HalfMultiples<M>> for Pair<P> {
+    ghost depth = { suc P.depth };
+
+    ghost lanes = { P.lanes };
+
+    ghost lane = { λ x l. pair (2 ^ level_of P.depth) (P.lane x.low l) (P.lane x.high l) };
+
+    ghost are_multiples = { AreMultiplesOfHalves (level_of P.depth) P.are_multiples };
+
+    #[inline(always)]
+    fn lane_count() -> usize {
+        P::lane_count()
+    }
+
+    #[inline(always)]
+    fn elements_of(length: usize) -> usize {
+        P::elements_of(length / 2)
+    }
+
+    #[inline(always)]
+    fn read(row: &[u8], start: usize, rest: bool) -> Pair<P> {
+        let (low, high) = row.split_at(row.len() / 2);
+        Pair {
+            low: P::read(low, start, rest),
+            high: P::read(high, start, rest),
+        }
+    }
+
+    #[inline(always)]
+    fn write(&self, row: &mut [u8], start: usize, rest: bool) {
+        let (low, high) = row.split_at_mut(row.len() / 2);
+        self.low.write(low, start, rest);
+        self.high.write(high, start, rest);
+    }
+
+    #[inline(always)]
+    fn add(&mut self, other: &Pair<P>) {
+        self.low.add(&other.low);
+        self.high.add(&other.high);
+    }
+
+    // (s0 + s1 X) (a0 + a1 X), where q = s1 (a0 + a1), is q + (s0 + s1) a0 and q + (s0 + s1 + t s1) a1.
+    #[inline(always)]
+    fn set_product(&mut self, multiples: &HalfMultiples<M>, factor: &Pair<P>) {
+        let mut sum = factor.low;
+        sum.add(&factor.high);
+        let mut both = sum;
+        both.set_product(&multiples.both, &sum);
+        self.low.set_product(&multiples.low, &factor.low);
+        self.low.add(&both);
+        self.high.set_product(&multiples.high, &factor.high);
+        self.high.add(&both);
+    }
+
+    ghost fits_law = { λ x l. pair_fits (level_of P.depth) (P.lane x.low l) (P.lane x.high l) (P.fits_law x.low l) (P.fits_law x.high l) };
+}

@@ -1,8 +1,0 @@
-use Rattle.std.specs.Prelude.{slice_index}
-use Rattle.bit_matrices.specs.BitMatrices.{entry_within}
-use Rattle.bit_matrices.proofs.WordColumns.{MaskSoFar}
-use Rattle.bit_matrices.proofs.pending.pivot_mask.Given as goal
-
--- the bits before this one are done
-abbrev pub invariant-loop-bit : goal.invariant-loop-bit
-invariant-loop-bit l = MaskSoFar (λ b. entry_within l.rows (λ k j. 1) (slice_index l.places b) 0) l.bit l.mask

@@ -1,8 +1,0 @@
-use Rattle.std.proofs.Common.{sym}
-use Rattle.bit_matrices.proofs.WordRanges.{added_to, range_end}
-use Rattle.bit_matrices.proofs.tables.add_strip.Goals as goal
-
-pub returns-then-count-eq8 : goal.returns-then-count-eq8
-returns-then-count-eq8 c =
-    range_end c.args.first 8 (added_to c.args.target.now c.args.sums.now c.args.first)
-    c.args.target.now c.add_words.new.target c.add_words.ensures c.args.count (sym c.if-count-eq8.true)

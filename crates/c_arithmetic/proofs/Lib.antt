@@ -1,3 +1,0 @@
-mod ErasureCounts
-mod ErasureRestored
-pub mod LowNumbers

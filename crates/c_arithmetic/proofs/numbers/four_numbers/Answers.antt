@@ -1,4 +1,0 @@
-use Rattle.c_arithmetic.proofs.numbers.four_numbers.Goals as goal
-
-pub returns : goal.returns
-returns c = c.numbers_of.ensures.whole c.requires

@@ -1,8 +1,0 @@
-use Rattle.std.proofs.Common.{◌≡◌, length, take}
-use Rattle.c_arithmetic.specs.Bytes.{flags_of}
-use Rattle.c_arithmetic.proofs.shards.flags_of.Given as goal
-
--- the places before have their flags
-abbrev pub invariant-loop-place : goal.invariant-loop-place
-invariant-loop-place g l =
-    (length l.flags ≡ g.row.N) × (take l.place l.flags ≡ flags_of (take l.place l.present))

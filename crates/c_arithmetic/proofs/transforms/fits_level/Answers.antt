@@ -1,4 +1,0 @@
-use Rattle.c_arithmetic.proofs.transforms.fits_level.Goals as goal
-
-pub stages_of-requires : goal.stages_of-requires
-stages_of-requires g c = c.has_stages.ensures.0 c.if-not-has_stages.false

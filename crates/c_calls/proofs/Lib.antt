@@ -1,0 +1,6 @@
+mod Calls
+mod Endings
+mod Equations
+mod ErasureCounts
+mod ErasureRestored
+pub mod LowNumbers

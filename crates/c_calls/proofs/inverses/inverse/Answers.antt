@@ -1,0 +1,55 @@
+use Rattle.std.proofs.Common.{ℕ, ◌+◌, ◌*◌, List, refl, sym, ◌∙◌, ap, arith}
+use Rattle.std.specs.Prelude.{slice_index}
+use Rattle.field_slices.specs.Matrices.{entry_of}
+use Rattle.many_words.specs.Fields.{field_of}
+use Rattle.c_calls.specs.Matrices.{entries}
+use Rattle.c_calls.specs.Low.{low_number}
+use Rattle.c_calls.proofs.Endings.{call_solved, call_unsolved}
+use Rattle.c_calls.proofs.Equations.{first_entry, inverse_same}
+use Rattle.c_calls.proofs.LowNumbers.{now_elements, now_numbers}
+use Rattle.c_calls.proofs.inverses.inverse.Goals as goal
+
+pub returns-then-not-invert_beside : goal.returns-then-not-invert_beside
+returns-then-not-invert_beside g c =
+    let field = field_of g.W.Holds.number g.K.FieldKernel.width g.K.FieldKernel.product g.K.FieldKernel.generator in
+    let n = c.args.size in
+    let matrix = c.args.matrix.now in
+    let beside = entry_of (low_number field.number field.width) (n + n) c.put_columns.new.target in
+    let shape = c.has_shape.ensures.0 c.if-not-has_shape.false in
+    let fits = c.are_elements.ensures.0 c.if-not-are_elements.false in
+    call_unsolved
+    (shape, c.if-inverse-matrix.false ∙ shape, c.has_shape-2.ensures.0 c.if-not-has_shape-2.false, c.if-places-size.false) fits
+    (λ found.
+    c.invert_beside.ensures.singular c.if-not-invert_beside.true found.0
+    (inverse_same field.times n (entries field n matrix) found.0 beside found.0
+    (λ i j inside within.
+    first_entry field (n + n) n matrix c.args.space.now fits beside i j within
+    (c.put_columns.ensures.entries i j inside (omega (arith, within))))
+    (λ i j inside within. refl) found.1).1)
+    refl
+
+pub returns : goal.returns
+returns g c =
+    let field = field_of g.W.Holds.number g.K.FieldKernel.width g.K.FieldKernel.product g.K.FieldKernel.generator in
+    let n = c.args.size in
+    let matrix = c.args.matrix.now in
+    let low = low_number field.number field.width in
+    let beside = entry_of low (n + n) c.put_columns.new.target in
+    let after = entry_of low (n + n) c.invert_beside.new.augmented in
+    let target = c.columns_into.new.target in
+    let new = c.truncate_all.new.words in
+    let long = c.truncate_all.ensures.long in
+    let cut = c.truncate_all.ensures.low in
+    let shape = c.has_shape.ensures.0 c.if-not-has_shape.false in
+    let fits = c.are_elements.ensures.0 c.if-not-are_elements.false in
+    let inverses =
+    inverse_same field.times n beside (λ i j. after i (n + j)) (entries field n matrix) (entries field n new)
+    (λ i j inside within.
+    sym (first_entry field (n + n) n matrix c.args.space.now fits beside i j within
+    (c.put_columns.ensures.entries i j inside (omega (arith, within)))))
+    (λ i j inside within.
+    ap (λ (ns : List ℕ). slice_index ns (i * n + j)) (now_numbers field target new long cut) ∙ c.columns_into.ensures.entries i j inside within)
+    (c.invert_beside.ensures.inverse c.if-not-invert_beside.false) in
+    call_solved
+    (shape, c.if-inverse-matrix.false ∙ shape, c.has_shape-2.ensures.0 c.if-not-has_shape-2.false, c.if-places-size.false) fits
+    (entries field n new, inverses) (now_elements field target new long cut, inverses)

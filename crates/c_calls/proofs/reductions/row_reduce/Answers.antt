@@ -1,0 +1,17 @@
+use Rattle.many_words.specs.Fields.{field_of}
+use Rattle.c_calls.proofs.Calls.{reduced_is}
+use Rattle.c_calls.proofs.Endings.{call_done}
+use Rattle.c_calls.proofs.LowNumbers.{now_elements, now_numbers}
+use Rattle.c_calls.proofs.reductions.row_reduce.Goals as goal
+
+pub returns : goal.returns
+returns g c =
+    let field = field_of g.W.Holds.number g.K.FieldKernel.width g.K.FieldKernel.product g.K.FieldKernel.generator in
+    let target = c.row_reduce.new.matrix in
+    let new = c.truncate_all.new.words in
+    let long = c.truncate_all.ensures.long in
+    let low = c.truncate_all.ensures.low in
+    let fits = c.are_elements.ensures.0 c.if-not-are_elements.false in
+    call_done (c.has_shape.ensures.0 c.if-not-has_shape.false, c.if-pivots-rows.false) fits
+    (reduced_is field c.args.rows c.args.columns c.row_reduce.result c.row_reduce.new.pivots c.args.matrix.now target new fits
+    (now_elements field target new long low) (now_numbers field target new long low) c.row_reduce.ensures.reduced c.row_reduce.ensures.space)

@@ -1,0 +1,11 @@
+pub mod Bytes
+pub mod Calls
+pub mod Erasure
+pub mod Fields
+pub mod Fits
+pub mod Linear
+pub mod Low
+pub mod LowLemmas
+pub mod Matrices
+pub mod Transforms
+pub mod WideLemmas

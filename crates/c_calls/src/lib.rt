@@ -1,0 +1,58 @@
+//! The calls of other languages: on slices of words over any field, over words of 128 bits in the field of GHASH, the values of transforms
+//! and linear maps, messages and shards, and in the module `matrices` on matrices of words. A call compares the lengths, refuses words that
+//! are no elements, and returns a status. On every status but `OK` what it would have written is as before; what it works in is lost. None
+//! takes memory.
+#![tactic(auto)]
+
+mod batch;
+mod determinants;
+mod erasure;
+pub mod in_place;
+mod inverses;
+mod linear;
+mod many;
+pub mod matrices;
+mod messages;
+mod numbers;
+pub mod operations;
+mod polynomials;
+mod products;
+mod reductions;
+mod scalars;
+mod shapes;
+mod shards;
+pub mod slices;
+pub mod status;
+mod systems;
+mod transforms;
+mod wide;
+mod wide_level;
+mod words;
+
+pub use crate::batch::batch_invert;
+pub use crate::erasure::{erasure_encode, erasure_reconstruct, erasure_space, erasure_verify};
+pub use crate::linear::{map_bytes, map_wide};
+pub use crate::many::{
+    add_scaled, dot_product, invert, invert_in_place, multiply, multiply_by, multiply_by_in_place,
+    multiply_in_place,
+};
+pub use crate::messages::{
+    gcm_ghash, gcm_ghash_final, hash, hash_prepare, hash_update, hash_update_padded,
+    hash_update_prepared, tags_are_equal,
+};
+pub use crate::polynomials::evaluate;
+pub use crate::scalars::{Words, truncate_all, truncated};
+pub use crate::shards::{
+    add_shard, encode, encode_prepared, prepare, reconstruct, reconstruct_data, tables_length,
+    verify, verify_prepared,
+};
+pub use crate::transforms::{
+    butterfly_forward, butterfly_inverse, inverse_transform, inverse_transform_level, low_stages,
+    transform, transform_level,
+};
+pub use crate::wide::Wide;
+pub use crate::words::Cubic;
+pub use additive_transforms::Holds;
+pub use many_words::{ChangeOfBasis, FromTower, ToTower};
+pub use word_polynomial::{CubicKernel, GhashKernel, Poly64Kernel, RijndaelKernel, Triple};
+pub use word_tower::{Bits1, Bits2, Bits4, Bits8, Bits16, Bits32, Bits64, Bits128, Tower};

@@ -1,0 +1,147 @@
+// Arithmetic on slices of words, place by place, over any field whose elements are words. Each function returns a status: the
+// lengths are compared first, then it is seen that all words are elements, and nothing is written before.
+ghost use Rattle.std.specs.Prelude.{◌≡◌, ◌↔◌, ◌*◌, ◌≤◌, IsTrue};
+ghost use Rattle.field_base.specs.Powers.{power};
+ghost use Rattle.c_calls.specs.Calls.{CallOnEach, CallOnTwo, ChangesBasis};
+ghost use Rattle.c_calls.specs.Calls.{NamesGenerator, TakesProduct};
+ghost use Rattle.many_words.specs.Fields.{field_of};
+ghost use Rattle.many_words.specs.Words.{AreElements};
+
+use crate::status;
+use additive_transforms::Holds;
+use field_base::{FieldKernel, Stored};
+use many_words::operations::{OnOne, OnTwo};
+use many_words::{ChangeOfBasis, fields};
+
+/// Writes the result of the operation at the word at each place. Operations that look words up take two in a turn, for which the
+/// address of a table is loaded once.
+#[inline]
+pub fn write_each<R: Stored, W: Holds<R>, K: FieldKernel<R>, O: OnOne<R, W, K>>(
+    words: &[W],
+    results: &mut [W],
+    operation: &O,
+    two_in_a_turn: bool,
+) -> u32
+    ensures { CallOnEach (field_of W.number K.width K.product K.generator) (O.gives operation.now) words.now results.old results.new result }
+{
+    if words.len() != results.len() {
+        return status::LENGTH;
+    }
+    if !are_elements::<R, W, K>(words) {
+        return status::NOT_AN_ELEMENT;
+    }
+    let pairs = pairs_of(results.len(), two_in_a_turn);
+    'pairs: for pair in 0..pairs {
+        let place = 2 * pair;
+        results[place] = operation.result_at(words[place]);
+        results[place + 1] = operation.result_at(words[place + 1]);
+    }
+    'rest: for place in 2 * pairs..results.len() {
+        results[place] = operation.result_at(words[place]);
+    }
+    status::OK
+}
+
+// The pairs of so many places that a loop takes two in a turn.
+#[inline(always)]
+fn pairs_of(count: usize, two_in_a_turn: bool) -> usize
+    ensures { 2 * result ≤ count }
+{
+    if two_in_a_turn { count / 2 } else { 0 }
+}
+
+/// Writes the result of the operation at the words of two slices at each place.
+#[inline]
+pub fn write_each_of_two<R: Stored, W: Holds<R>, K: FieldKernel<R>, O: OnTwo<R, W, K>>(
+    left: &[W],
+    right: &[W],
+    results: &mut [W],
+    operation: &O,
+) -> u32
+    ensures { CallOnTwo (field_of W.number K.width K.product K.generator) (O.gives operation.now) left.now right.now results.old results.new
+        result }
+{
+    if left.len() != results.len() || right.len() != results.len() {
+        return status::LENGTH;
+    }
+    if !are_elements::<R, W, K>(left) || !are_elements::<R, W, K>(right) {
+        return status::NOT_AN_ELEMENT;
+    }
+    for place in 0..results.len() {
+        results[place] = operation.result_at(left[place], right[place]);
+    }
+    status::OK
+}
+
+/// Writes the product of all words, which is 1 of none.
+#[inline]
+pub fn product<R: Stored, W: Holds<R>, K: FieldKernel<R>>(words: &[W], product: &mut W) -> u32
+    ensures { TakesProduct (field_of W.number K.width K.product K.generator) words.now product.old product.new result }
+{
+    if !are_elements::<R, W, K>(words) {
+        return status::NOT_AN_ELEMENT;
+    }
+    let mut value = fields::one::<R, W>();
+    for word in words {
+        value = fields::multiply::<R, W, K>(value, *word);
+    }
+    *product = value;
+    status::OK
+}
+
+/// Writes a generator of the nonzero elements.
+#[inline]
+pub fn generator<R: Stored, W: Holds<R>, K: FieldKernel<R>>(generator: &mut W) -> u32
+    ensures { NamesGenerator (field_of W.number K.width K.product K.generator) generator.new result }
+{
+    *generator = fields::generator::<R, W, K>();
+    status::OK
+}
+
+/// Writes the image of each word under a change of basis.
+#[inline]
+pub fn change_basis<R: Stored, W: Holds<R>, C: ChangeOfBasis<R>>(
+    words: &[W],
+    images: &mut [W],
+) -> u32
+    ensures { ChangesBasis W.number C.relates words.now images.old images.new result }
+{
+    if words.len() != images.len() {
+        return status::LENGTH;
+    }
+    for place in 0..images.len() {
+        images[place] = W::of_stored(C::change(words[place].stored()));
+    }
+    status::OK
+}
+
+// A word to the power of the exponent, by squaring and multiplying from the exponent's lowest bit.
+#[inline]
+pub(crate) fn power_of<R: Stored, W: Holds<R>, K: FieldKernel<R>>(word: W, exponent: u64) -> W
+    ensures { W.number result ≡ power 1 K.product (W.number word) exponent }
+{
+    let mut base = word;
+    let mut rest = exponent;
+    let mut value = fields::one::<R, W>();
+    while rest != 0 {
+        if rest % 2 == 1 {
+            value = fields::multiply::<R, W, K>(value, base);
+        }
+        base = fields::square::<R, W, K>(base);
+        rest /= 2;
+    }
+    value
+}
+
+/// Whether every word is an element. Where an element has as many bits as a word, nothing is left of the loop.
+#[inline]
+pub fn are_elements<R: Stored, W: Holds<R>, K: FieldKernel<R>>(words: &[W]) -> bool
+    ensures { IsTrue result ↔ AreElements (field_of W.number K.width K.product K.generator) words.now }
+{
+    for word in words {
+        if !fields::is_element::<R, W, K>(*word) {
+            return false;
+        }
+    }
+    true
+}

@@ -1,5 +1,0 @@
-use Rattle.field_base.proofs.CarrylessPairs.{carryless_counts}
-use Rattle.field_laws.proofs.carryless_counts_pairs.Goals as goal
-
-pub returns : goal.returns
-returns c = carryless_counts

@@ -1,5 +1,0 @@
-use Rattle.field_base.proofs.FieldLemmas.{fields_have_laws}
-use Rattle.field_laws.proofs.fields_have_laws.Goals as goal
-
-pub returns : goal.returns
-returns c = fields_have_laws

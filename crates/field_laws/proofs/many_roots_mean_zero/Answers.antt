@@ -1,5 +1,0 @@
-use Rattle.field_laws.proofs.Codewords.{many_roots_mean_zero}
-use Rattle.field_laws.proofs.many_roots_mean_zero.Goals as goal
-
-pub returns : goal.returns
-returns c = many_roots_mean_zero

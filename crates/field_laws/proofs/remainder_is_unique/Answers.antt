@@ -1,5 +1,0 @@
-use Rattle.field_base.proofs.RemainderLaws.{rem_is_remainder, remainder_unique}
-use Rattle.field_laws.proofs.remainder_is_unique.Goals as goal
-
-pub returns : goal.returns
-returns c = record { is_remainder = rem_is_remainder; is_unique = remainder_unique }

@@ -1,6 +1,0 @@
--- The homomorphism, by induction on the level.
-use Rattle.field_base.proofs.BasisIsomorphism.{roots_give_homomorphism}
-use Rattle.field_laws.proofs.roots_give_homomorphism.Goals as goal
-
-pub returns : goal.returns
-returns c = roots_give_homomorphism

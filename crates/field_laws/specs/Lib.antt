@@ -1,3 +1,0 @@
-pub mod Codewords
-pub mod Interpolation
-pub mod PolynomialRoots

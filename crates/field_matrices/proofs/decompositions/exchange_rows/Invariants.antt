@@ -1,6 +1,0 @@
-use Rattle.field_matrices.proofs.RowExchanges.{RowsExchanged}
-use Rattle.field_matrices.proofs.decompositions.exchange_rows.Given as goal
-
--- the entries before this column are exchanged
-abbrev pub invariant-loop-column : goal.invariant-loop-column
-invariant-loop-column g l = RowsExchanged g.S.Scalars.number l.shape.columns l.first l.second l.fn.matrix l.matrix l.column

@@ -1,5 +1,0 @@
-use Rattle.field_matrices.proofs.DeterminantInverses.{determinant_tells_inverses}
-use Rattle.field_matrices.proofs.laws.determinant_tells_inverses.Goals as goal
-
-pub returns : goal.returns
-returns c = determinant_tells_inverses

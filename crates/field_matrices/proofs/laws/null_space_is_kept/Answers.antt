@@ -1,5 +1,0 @@
-use Rattle.field_matrices.proofs.NullSpaces.{null_is_kept}
-use Rattle.field_matrices.proofs.laws.null_space_is_kept.Goals as goal
-
-pub returns : goal.returns
-returns c = null_is_kept

@@ -1,3 +1,0 @@
-pub mod Decompositions
-pub mod Determinants
-pub mod Matrices

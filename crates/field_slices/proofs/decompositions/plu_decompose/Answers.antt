@@ -1,0 +1,57 @@
+use Rattle.std.proofs.Common.{◌≡◌, ℕ, ◌+◌, ◌*◌, List, length, refl, sym, subst, ◌∙◌, ap, arith}
+use Rattle.std.specs.Prelude.{slice_index}
+use Rattle.std.specs.List.{range_with_len}
+use Rattle.std.specs.List.Sorted.{IsPermutation}
+use Rattle.std.proofs.lemmas.List.FromFn.{get_or-range_with_len, length-range_with_len}
+use Rattle.std.proofs.lemmas.List.Sorted.{IsPermutation-refl, IsPermutation-trans, length_permutation}
+use Rattle.field_slices.specs.Decompositions.{IsDecomposition}
+use Rattle.field_slices.specs.Matrices.{entry_of}
+use Rattle.field_base.proofs.Places.{numbers-lt}
+use Rattle.field_slices.proofs.TriangularSteps.{decomposition-start}
+use Rattle.field_slices.proofs.decompositions.plu_decompose.Goals as goal
+
+pub loop-column-init : goal.loop-column-init
+loop-column-init g c =
+    let scalars = g.S.Scalars in
+    let law = g.met.S.Scalars in
+    let rows = c.args.rows in
+    let columns = c.args.columns in
+    let old = c.args.matrix.now in
+    let counted = c.count_up.new.order in
+    let is : counted ≡ range_with_len 0 rows = c.count_up.ensures ∙ ap (range_with_len 0) c.requires.order in (
+      refl,
+      c.identity_into.ensures.shape,
+      ap length c.count_up.ensures ∙ length-range_with_len 0 (length c.args.order.now),
+      subst (λ (xs : List ℕ). IsPermutation (range_with_len 0 rows) xs) (sym is) (IsPermutation-refl (range_with_len 0 rows)),
+      decomposition-start scalars.width scalars.product law.field_law.ring rows columns (entry_of scalars.number columns old)
+          (entry_of scalars.number rows c.identity_into.new.target) (slice_index counted)
+          (λ i j. numbers-lt scalars.number scalars.width law.range_law old (i * columns + j))
+          (λ i inside.
+          let own : 0 + i ≡ i = omega arith in
+          ap (λ (xs : List ℕ). slice_index xs i) is ∙ get_or-range_with_len 0 rows i 0 inside ∙ own)
+          c.identity_into.ensures.entries,
+    )
+
+pub loop-column-preserved : goal.loop-column-preserved
+loop-column-preserved g c =
+    let step = c.decompose_column.ensures in
+    let so_far = c.loop-column.invariant in
+    let order = c.loop-column.order in
+    let next = c.decompose_column.new.order in (
+      step.shape ∙ so_far.0,
+      step.lower ∙ so_far.1,
+      length_permutation order next step.order ∙ so_far.2,
+      IsPermutation-trans (range_with_len 0 c.args.rows) order next so_far.3 step.order,
+      step.decomposed (entry_of g.S.Scalars.number c.args.columns c.args.matrix.now) so_far.4,
+    )
+
+pub returns-clause-decomposed : goal.returns-clause-decomposed
+returns-clause-decomposed g c =
+    let number = g.S.Scalars.number in
+    let all : c.loop-column.column ≡ c.args.columns = omega arith in
+    subst (λ (n : ℕ). IsDecomposition g.S.Scalars.product c.args.rows c.args.columns n (entry_of number c.args.columns c.args.matrix.now)
+    (slice_index c.loop-column.order) (entry_of number c.args.rows c.loop-column.lower)
+    (entry_of number c.args.columns c.loop-column.matrix)) all c.loop-column.invariant.4
+
+pub returns-clause-order : goal.returns-clause-order
+returns-clause-order g c = c.loop-column.invariant.3

@@ -1,0 +1,10 @@
+use Rattle.field_slices.specs.Matrices.{entry_of}
+use Rattle.field_slices.proofs.TriangularSteps.{FactorsWritten}
+use Rattle.field_slices.proofs.decompositions.write_factors.Given as goal
+
+-- the rows before this one are done
+abbrev pub invariant-loop-row : goal.invariant-loop-row
+invariant-loop-row g l =
+    let scalars = g.S.Scalars in
+    FactorsWritten scalars.number scalars.product l.shape.rows l.column (entry_of scalars.number l.shape.columns l.matrix) l.fn.lower l.lower
+    l.row

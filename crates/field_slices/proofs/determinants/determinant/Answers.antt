@@ -1,0 +1,34 @@
+use Rattle.std.proofs.Common.{refl, sym, ◌∙◌, arith}
+use Rattle.field_slices.specs.Determinants.{determinant_of}
+use Rattle.field_slices.specs.Matrices.{entry_of}
+use Rattle.field_slices.proofs.PivotDeterminants.{steps-start, steps-none, steps-end}
+use Rattle.field_slices.proofs.determinants.determinant.Goals as goal
+
+pub loop-step-init : goal.loop-step-init
+loop-step-init g c =
+    let scalars = g.S.Scalars in
+    let law = g.met.S.Scalars in (
+      refl,
+      steps-start scalars.width scalars.product law.field_law.ring c.args.size law.wide_law
+          (entry_of scalars.number c.args.size c.args.matrix.now) (scalars.number c.one-product.result) c.one-product.ensures,
+    )
+
+pub returns-in-None-clause-determinant : goal.returns-in-None-clause-determinant
+returns-in-None-clause-determinant g c =
+    let scalars = g.S.Scalars in
+    let old = entry_of scalars.number c.args.size c.args.matrix.now in
+    let now = entry_of scalars.number c.args.size c.loop-step.matrix in
+    c.zero.ensures
+    ∙ sym (steps-none scalars.width scalars.product g.met.S.Scalars.field_law.ring c.args.size now
+    (scalars.number c.loop-step.product) c.loop-step.step (determinant_of scalars.product c.args.size old) c.loop-step.invariant.1
+    (c.in-None.ensures.none refl))
+
+pub returns-clause-determinant : goal.returns-clause-determinant
+returns-clause-determinant g c =
+    let scalars = g.S.Scalars in
+    let law = g.met.S.Scalars in
+    let old = entry_of scalars.number c.args.size c.args.matrix.now in
+    let now = entry_of scalars.number c.args.size c.loop-step.matrix in
+    sym (steps-end scalars.width scalars.product law.field_law.ring c.args.size now
+    (scalars.number c.loop-step.product) c.loop-step.step (determinant_of scalars.product c.args.size old) c.loop-step.invariant.1 (omega arith)
+    (law.range_law c.loop-step.product))

@@ -1,0 +1,24 @@
+use Rattle.std.proofs.Common.{ℕ, arith}
+use Rattle.field_slices.specs.Matrices.{beside_identity, entry_of}
+use Rattle.field_slices.proofs.MatrixRows.{rows_start, rows_step, rows_end}
+use Rattle.field_slices.proofs.InverseMatrices.{beside-same}
+use Rattle.field_slices.proofs.identities.write_identity.Goals as goal
+
+pub loop-row-init : goal.loop-row-init
+loop-row-init g c =
+    let number = g.S.Scalars.number in
+    let columns = c.args.shape.columns in
+    rows_start number columns (beside_identity c.args.from (entry_of number columns c.args.matrix.now)) c.args.matrix.now
+
+pub loop-row-preserved : goal.loop-row-preserved
+loop-row-preserved g c =
+    let entries = entry_of g.S.Scalars.number c.args.shape.columns in
+    let row = c.loop-row.row in
+    let so_far = c.loop-row.invariant in
+    rows_step so_far
+    (λ j inside.
+    beside-same c.args.from (λ (i : ℕ). entries c.loop-row.matrix row) (entries c.args.matrix.now) row j
+    (λ within. so_far.rest row j (omega arith) inside)) c.write_identity_row.ensures
+
+pub returns-clause-entries : goal.returns-clause-entries
+returns-clause-entries g c = rows_end c.loop-row.invariant c.args.shape.rows (omega arith)

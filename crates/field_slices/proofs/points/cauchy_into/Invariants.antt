@@ -1,0 +1,14 @@
+use Rattle.std.proofs.Common.{◌-◌, ◌^◌, length, map}
+use Rattle.std.specs.Prelude.{bit_xor, slice_index}
+use Rattle.field_base.specs.Powers.{power}
+use Rattle.field_slices.proofs.MatrixRows.{RowsWritten}
+use Rattle.field_slices.proofs.points.cauchy_into.Given as goal
+
+-- the rows before this one are done
+abbrev pub invariant-loop-row : goal.invariant-loop-row
+invariant-loop-row g l =
+    let scalars = g.S.Scalars in
+    let numbers = map scalars.number in
+    RowsWritten scalars.number (length l.right)
+    (λ i j. power 1 scalars.product (bit_xor (slice_index (numbers l.left) i) (slice_index (numbers l.right) j)) (2 ^ scalars.width - 2))
+    l.fn.target l.target l.row

@@ -1,0 +1,13 @@
+use Rattle.std.proofs.Common.{◌-◌, ◌^◌, map}
+use Rattle.std.specs.Prelude.{bit_xor, slice_index}
+use Rattle.field_base.specs.Powers.{power}
+use Rattle.field_slices.proofs.MatrixRows.{RowWritten}
+use Rattle.field_slices.proofs.points.write_inverses.Given as goal
+
+-- the entries before this column are done
+abbrev pub invariant-loop-column : goal.invariant-loop-column
+invariant-loop-column g l =
+    let scalars = g.S.Scalars in
+    let other = slice_index (map scalars.number l.others) in
+    RowWritten scalars.number l.shape.columns l.row
+    (λ j. power 1 scalars.product (bit_xor (scalars.number l.point) (other j)) (2 ^ scalars.width - 2)) l.fn.target l.target l.column

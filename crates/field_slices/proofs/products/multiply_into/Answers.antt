@@ -1,0 +1,17 @@
+use Rattle.std.proofs.Common.{refl, arith}
+use Rattle.field_slices.specs.Matrices.{entry_of, product_entry}
+use Rattle.field_slices.proofs.MatrixRows.{rows_start, rows_step, rows_end}
+use Rattle.field_slices.proofs.products.multiply_into.Goals as goal
+
+pub loop-row-init : goal.loop-row-init
+loop-row-init g c =
+    let scalars = g.S.Scalars in
+    rows_start scalars.number c.args.columns
+    (product_entry scalars.product c.args.inner (entry_of scalars.number c.args.inner c.args.left.now)
+    (entry_of scalars.number c.args.columns c.args.right.now)) c.args.target.now
+
+pub loop-row-preserved : goal.loop-row-preserved
+loop-row-preserved g c = rows_step c.loop-row.invariant (λ j inside. refl) c.write_product_row.ensures
+
+pub returns-clause-product : goal.returns-clause-product
+returns-clause-product g c = rows_end c.loop-row.invariant c.args.rows (omega arith)

@@ -1,0 +1,11 @@
+use Rattle.field_slices.specs.Matrices.{IsRowWritten, entry_of, product_entry}
+use Rattle.field_slices.proofs.products.write_product_row.Given as goal
+
+-- the row is the sum of the products before this one
+abbrev pub invariant-loop-k : goal.invariant-loop-k
+invariant-loop-k g l =
+    let scalars = g.S.Scalars in
+    let columns = l.shape.columns in
+    IsRowWritten scalars.number columns l.row
+    (product_entry scalars.product l.k (entry_of scalars.number l.inner l.left) (entry_of scalars.number columns l.right) l.row)
+    l.fn.target l.target

@@ -1,0 +1,39 @@
+use Rattle.std.proofs.Common.{◌≡◌, ℕ, refl, subst, ◌∙◌, arith}
+use Rattle.std.specs.Prelude.{slice_index}
+use Rattle.field_slices.specs.Matrices.{entry_of, IsReducedEchelon}
+use Rattle.field_slices.proofs.RowSpaces.{space_same, space_then}
+use Rattle.field_slices.proofs.Elimination.{echelon_start}
+use Rattle.field_slices.proofs.reduction.row_reduce_augmented.Goals as goal
+
+pub loop-column-init : goal.loop-column-init
+loop-column-init g c =
+    let scalars = g.S.Scalars in
+    let old = entry_of scalars.number c.args.columns c.args.matrix.now in (
+      refl,
+      refl,
+      echelon_start c.args.rows (slice_index c.args.pivots.now) old,
+      space_same scalars.width scalars.product g.met.S.Scalars.field_law.ring c.args.rows c.args.columns old,
+    )
+
+pub loop-column-preserved : goal.loop-column-preserved
+loop-column-preserved g c =
+    let scalars = g.S.Scalars in
+    let columns = c.args.columns in
+    let step = c.reduce_column-rank.ensures in
+    let so_far = c.loop-column.invariant in (
+      step.shape ∙ so_far.0,
+      step.room ∙ so_far.1,
+      step.reduced,
+      space_then scalars.width scalars.product g.met.S.Scalars.field_law.ring c.args.rows columns
+          (entry_of scalars.number columns c.args.matrix.now) (entry_of scalars.number columns c.loop-column.matrix)
+          (entry_of scalars.number columns c.reduce_column-rank.new.matrix) so_far.3 step.space,
+    )
+
+pub returns-clause-reduced : goal.returns-clause-reduced
+returns-clause-reduced g c =
+    let all : c.loop-column.column ≡ c.args.count = omega arith in
+    subst (λ (n : ℕ). IsReducedEchelon c.args.rows n c.loop-column.rank (slice_index c.loop-column.pivots)
+    (entry_of g.S.Scalars.number c.args.columns c.loop-column.matrix)) all c.loop-column.invariant.2
+
+pub returns-clause-space : goal.returns-clause-space
+returns-clause-space g c = c.loop-column.invariant.3

@@ -1,0 +1,13 @@
+use Rattle.std.proofs.Common.{◌≡◌, length}
+use Rattle.std.specs.Prelude.{slice_index}
+use Rattle.field_slices.specs.Matrices.{entry_of, HaveSameRowSpace, IsReducedEchelon}
+use Rattle.field_slices.proofs.reduction.row_reduce_augmented.Given as goal
+
+-- the columns before this one are in reduced row echelon form, and the rows span what they did
+abbrev pub invariant-loop-column : goal.invariant-loop-column
+invariant-loop-column g l =
+    let scalars = g.S.Scalars in
+    (length l.matrix ≡ length l.fn.matrix) × (length l.pivots ≡ length l.fn.pivots)
+    × IsReducedEchelon l.rows l.column l.rank (slice_index l.pivots) (entry_of scalars.number l.columns l.matrix)
+    × HaveSameRowSpace scalars.product l.rows l.columns (entry_of scalars.number l.columns l.fn.matrix)
+    (entry_of scalars.number l.columns l.matrix)

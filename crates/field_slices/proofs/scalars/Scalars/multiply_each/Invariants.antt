@@ -1,0 +1,10 @@
+use Rattle.std.proofs.Common.{map}
+use Rattle.std.specs.Simd.Lanes.{zip2}
+use Rattle.field_base.proofs.Written.{WrittenTo}
+use Rattle.field_slices.proofs.scalars.Scalars.multiply_each.Given as goal
+
+-- the places before this one are done
+abbrev pub invariant-loop-place : goal.invariant-loop-place
+invariant-loop-place g l =
+    let s = g.Self.Scalars in
+    WrittenTo s.number (zip2 s.product (map s.number l.fn.values) (map s.number l.others)) l.fn.values l.values l.place

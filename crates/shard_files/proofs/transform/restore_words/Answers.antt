@@ -1,0 +1,74 @@
+use Rattle.std.proofs.Common.{◌≡◌, ◌+◌, ◌*◌, ℕ, length, refl, sym, ◌∙◌, ap, subst, arith}
+use Rattle.transform_codes.specs.Restoring.{AreRestoredColumns}
+use Rattle.shard_files.proofs.TransformCalls.{can_rebuild, half_is, parts, words_are}
+use Rattle.shard_files.proofs.TransformWords.{element, restored_kept, restored_whole}
+use Rattle.shard_files.proofs.transform.restore_words.Goals as goal
+
+pub write_words-requires : goal.write_words-requires
+write_words-requires c =
+    let own = c.args.transform.now in
+    let room = parts (length c.args.shards.now) own.data_shards own.parity_shards c.args.half c.requires.whole in
+    omega (arith, room, c.reconstruct-restored.ensures.long, c.requires.words.long)
+
+pub write_words-requires-2 : goal.write_words-requires-2
+write_words-requires-2 c =
+    let own = c.args.transform.now in
+    let room = parts (length c.args.shards.now) own.data_shards own.parity_shards c.args.half c.requires.whole in
+    omega (
+      arith,
+      room,
+      c.reconstruct-restored.ensures.parity_long,
+      c.requires.words.long,
+      c.requires.words.parity_long,
+      c.write_words.ensures.long,
+    )
+
+pub returns-clause-restored : goal.returns-clause-restored
+returns-clause-restored c =
+    λ size whole even word long agree.
+    let own = c.args.transform.now in
+    let half = c.args.half in
+    let needs = c.requires in
+    let old = c.args.shards.now in
+    let new = c.write_words-2.new.bytes in
+    let words = c.args.words.now in
+    let parity = c.args.parity.now in
+    let present = c.args.present.now in
+    let now = c.reconstruct-restored.new.shards in
+    let now_parity = c.reconstruct-restored.new.parity in
+    let all : length old ≡ (own.data_shards + own.parity_shards) * size =
+    needs.whole ∙ ap (λ (n : ℕ). (own.data_shards + own.parity_shards) * n) (sym even) in
+    let ok = c.reconstruct-restored.ensures.accepted.1
+    (can_rebuild own half (length words) (length parity) (length c.args.space.now) needs.some needs.points needs.words.long needs.words.parity_long
+    needs.room present needs.flags needs.enough) in
+    restored_whole own.data_shards own.parity_shards half own.levels own.padded c.lost_shards_return.ensures size even present old new whole words parity
+    now now_parity needs.words
+    (words_are own half old c.write_words.new.bytes new words parity now now_parity (length words) refl needs.words
+    c.reconstruct-restored.ensures.long c.reconstruct-restored.ensures.parity_long c.write_words.ensures.written c.write_words-2.ensures.written
+    c.write_words-2.ensures.kept)
+    (subst (λ (n : ℕ). AreRestoredColumns element 0 4 own.levels own.data_shards own.parity_shards n present n words parity now now_parity)
+    (half_is own.data_shards half (length words) own.some_data needs.words.long) (c.reconstruct-restored.ensures.restored ok))
+    word agree (c.write_words-2.ensures.long ∙ c.write_words.ensures.long ∙ all) (long ∙ all)
+
+pub returns-clause-kept : goal.returns-clause-kept
+returns-clause-kept c =
+    λ size even.
+    let own = c.args.transform.now in
+    let half = c.args.half in
+    let needs = c.requires in
+    let old = c.args.shards.now in
+    let new = c.write_words-2.new.bytes in
+    let words = c.args.words.now in
+    let parity = c.args.parity.now in
+    let present = c.args.present.now in
+    let now = c.reconstruct-restored.new.shards in
+    let now_parity = c.reconstruct-restored.new.parity in
+    let ok = c.reconstruct-restored.ensures.accepted.1
+    (can_rebuild own half (length words) (length parity) (length c.args.space.now) needs.some needs.points needs.words.long needs.words.parity_long
+    needs.room present needs.flags needs.enough) in
+    restored_kept own.data_shards own.parity_shards half own.levels size even present old new words parity now now_parity needs.words
+    (words_are own half old c.write_words.new.bytes new words parity now now_parity (length words) refl needs.words
+    c.reconstruct-restored.ensures.long c.reconstruct-restored.ensures.parity_long c.write_words.ensures.written c.write_words-2.ensures.written
+    c.write_words-2.ensures.kept)
+    (subst (λ (n : ℕ). AreRestoredColumns element 0 4 own.levels own.data_shards own.parity_shards n present n words parity now now_parity)
+    (half_is own.data_shards half (length words) own.some_data needs.words.long) (c.reconstruct-restored.ensures.restored ok))

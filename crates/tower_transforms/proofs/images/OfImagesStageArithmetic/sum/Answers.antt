@@ -1,5 +1,0 @@
-use Rattle.tower_transforms.proofs.ImageBlocks.{sum_image}
-use Rattle.tower_transforms.proofs.images.OfImagesStageArithmetic.sum.Goals as goal
-
-pub returns : goal.returns
-returns g c = sum_image c.args.x c.args.y

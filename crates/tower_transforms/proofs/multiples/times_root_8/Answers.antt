@@ -1,6 +1,0 @@
-use Rattle.std.proofs.Common.{◌∙◌}
-use Rattle.tower_transforms.proofs.Tables.{root_product}
-use Rattle.tower_transforms.proofs.multiples.times_root_8.Goals as goal
-
-pub returns : goal.returns
-returns c = c.entry_at.ensures ∙ root_product c.args.scalar c.ranges.scalar.fits

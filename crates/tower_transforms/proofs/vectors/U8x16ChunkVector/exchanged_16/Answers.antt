@@ -1,6 +1,0 @@
-use Rattle.std.proofs.Common.{refl}
-use Rattle.tower_transforms.proofs.Exchanges.{exchanged}
-use Rattle.tower_transforms.proofs.vectors.U8x16ChunkVector.exchanged_16.Goals as goal
-
-pub returns : goal.returns
-returns c = exchanged 16 1 4 c.args.self refl c.fits-self.0

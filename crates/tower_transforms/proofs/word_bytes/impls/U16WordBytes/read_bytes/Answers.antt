@@ -1,6 +1,0 @@
-use Rattle.std.proofs.Common.{refl}
-use Rattle.tower_transforms.proofs.WordPlaces.{own_words_read}
-use Rattle.tower_transforms.proofs.word_bytes.impls.U16WordBytes.read_bytes.Goals as goal
-
-pub returns : goal.returns
-returns c = own_words_read 1 8 c.args.start c.args.words.now _ refl (λ k. (c.type_inv.words k).fits) refl
