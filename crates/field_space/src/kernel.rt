@@ -5,7 +5,7 @@ ghost use native.Mathlib.Nat.{mul-one};
 ghost use Rattle.field_base.specs.Chunks.{chunk};
 ghost use Rattle.field_base.specs.Remainder.{mul_mod, poly64_modulus};
 ghost use Rattle.field_base.proofs.RemainderRing.{poly64_ring};
-ghost use Rattle.word_polynomial.proofs.CubicRing.{chunk-cubic};
+ghost use Rattle.word_polynomial.specs.CubicRingLemmas.{chunk-cubic};
 ghost use Rattle.word_polynomial.specs.Triple.{triple_number};
 ghost use Rattle.field_base.proofs.Coefficients.{scales_one_coefficient};
 

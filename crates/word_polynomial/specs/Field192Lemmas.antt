@@ -5,7 +5,7 @@ use Rattle.word_polynomial.specs.Cubic.{cubic, triple}
 use Rattle.field_base.specs.Field.{IsField}
 use Rattle.field_base.specs.Orders.{HasFullOrder}
 use Rattle.field_base.specs.Remainder.{mul_mod, poly64_modulus}
-use Rattle.word_polynomial.proofs.CubicField.{cubic_is_field}
+use Rattle.word_polynomial.specs.CubicFieldLemmas.{cubic_is_field}
 use Rattle.word_tables.proofs.Isomorphisms.{field_64}
 
 -- the cubic extension of GF(2^64) is a field, since 64 leaves 1 modulo 3

@@ -10,7 +10,7 @@ use Rattle.field_base.specs.Field.{HasInverses, IsField}
 use Rattle.field_base.specs.Powers.{repeated_square}
 use Rattle.field_base.specs.Ring.{IsRing}
 use Rattle.field_base.specs.Chunks.{chunk}
-use Rattle.word_polynomial.proofs.CubicRing.{cubic_is_ring, cubic_ring, cubic-scales, cubic-triples, product_0, product_of_three, sums}
+use Rattle.word_polynomial.specs.CubicRingLemmas.{cubic_is_ring, cubic_ring, cubic-scales, cubic-triples, product_0, product_of_three, sums}
 use Rattle.word_polynomial.specs.TripleLemmas.{chunk_below, same₃, second-triple, third-triple, triple-chunks, triple-low, triple-lt}
 use Rattle.field_base.proofs.FieldLemmas.{divisor-zero, field_frobenius, no_zero_divisors}
 use Rattle.field_base.proofs.PowerLemmas.{one-times, square_xor, repeated_square-add, repeated_square-lt, repeated_square-mod, repeated_square-none, repeated_square_more, times-one}
