@@ -196,10 +196,6 @@ carryless_assoc a b c =
     ∙ ap₂ bit_xor (bit_times_carryless n b c) (double_carryless (carryless (n / 2) b) c ∙ ap (λ (x : ℕ). x * 2) ih)
     ∙ sym (carryless_step n (carryless b c))) a
 
--- a (b c) = b (a c)
-pub carryless_left_comm : (a b c : ℕ) → carryless a (carryless b c) ≡ carryless b (carryless a c)
-carryless_left_comm a b c = sym (carryless_assoc a b c) ∙ ap (λ (x : ℕ). carryless x c) (carryless_comm a b) ∙ carryless_assoc b a c
-
 -- ---- bounds
 
 -- half of a number of m + 1 bits has m bits

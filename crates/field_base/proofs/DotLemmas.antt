@@ -1,5 +1,5 @@
 -- The sum of products of two lists, from one place to the next.
-use Rattle.std.proofs.Common.{◌≡◌, ℕ, ◌+◌, ◌<◌, ◌≤◌, List, [], ◌∷◌, length, drop, get_or, refl, sym, ◌∙◌, ap, ap₂, suc, arith}
+use Rattle.std.proofs.Common.{◌≡◌, ℕ, ◌+◌, ◌<◌, ◌≤◌, List, ◌∷◌, length, drop, get_or, refl, sym, ◌∙◌, ap, ap₂, suc, arith}
 use Rattle.std.specs.Prelude.{bit_xor}
 use Rattle.std.proofs.Math.Seq.{drop-cons}
 use Rattle.std.proofs.lemmas.List.{drop_all}
@@ -8,10 +8,6 @@ use lib.Bits.{xor_assoc, xor_zero_r}
 use Rattle.field_base.specs.Powers.{dot_of}
 
 module _ {A : Type 0} (times : ℕ → ℕ → ℕ) (repr : A → ℕ) where
-  -- the sum of no products is 0
-  pub dot_of-nil : (ys : List A) → dot_of times repr [] ys ≡ 0
-  dot_of-nil ys = refl
-
   -- at a place of both lists the sum from there on is that place's product and the sum behind it
   pub dot_of-drop : (xs ys : List A) (k : ℕ) (x y : A) → k < length xs → k < length ys
       → x ≡ get_or xs k x → y ≡ get_or ys k y

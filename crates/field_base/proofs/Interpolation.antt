@@ -164,9 +164,6 @@ module _ (width : ℕ) (times : ℕ → ℕ → ℕ) (field : IsField width time
         below_k : (n : ℕ) → suc n ≤ k → n < k
         below_k n most = omega (arith, most)
 
-    weight : ℕ → ℕ
-    weight j = power 1 times (other_factors times point j (point j) k) (2 ^ width - 2)
-
     pub lagrange_at_own : (j : ℕ) → j < k → lagrange width times point k j (point j) ≡ 1
     lagrange_at_own j within =
         power-inverts width times field wide (other_factors times point j (point j) k) (factors-lt j (point j) k)

@@ -1,5 +1,4 @@
 pub mod AdditiveMaps
-pub mod AdjoinedRoots
 pub mod BasisColumns
 pub mod BasisFields
 pub mod BasisIsomorphism

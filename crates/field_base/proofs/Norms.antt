@@ -13,7 +13,7 @@ use Rattle.field_base.proofs.RingLemmas.{xor_cancel, times_left_comm, times-zero
 use Rattle.field_base.proofs.PowerLemmas.{one-times, times-one}
 use Rattle.field_base.proofs.FieldLemmas.{square-zero}
 use Rattle.field_base.proofs.QuadraticRing.{low_half-lt, high_half-lt, low_half-pair, high_half-pair, pair-halves, pair-lt, low_product, high_product, quadratic-pair_right, quadratic_ring}
-use Rattle.field_base.proofs.QuadraticProducts.{low_half-low, high_half-low, pair-low, quadratic-low, quadratic-low_times}
+use Rattle.field_base.proofs.QuadraticProducts.{pair-low, quadratic-low, quadratic-low_times}
 
 module _ (width : ℕ) (times : ℕ → ℕ → ℕ) (ring : IsRing width 1 times) (t : ℕ) where
   -- the norm is an element of the ring below
@@ -87,15 +87,6 @@ module _ (width : ℕ) (times : ℕ → ℕ → ℕ) (ring : IsRing width 1 time
       (times-mod width 1 times ring (norm width times t a) inverse ∙ inverts)
 
   -- ---- only 0 has the norm 0
-
-  -- the norm of 0 is 0
-  pub norm-of_zero : norm width times t 0 ≡ 0
-  norm-of_zero =
-      ap₂ norm_of_halves (low_half-low width 0 (pow_pos width)) (high_half-low width 0 (pow_pos width))
-      ∙ simp (times-zero width 1 times ring)
-    where
-      norm_of_halves : ℕ → ℕ → ℕ
-      norm_of_halves a0 a1 = bit_xor (bit_xor (times a0 a0) (times t (times a0 a1))) (times a1 a1)
 
   -- where u is the inverse of a1, the norm over a1² is the value of the polynomial at a0 / a1
   norm_as_value : (a0 a1 u : ℕ) → 0 < width → times a1 u ≡ 1

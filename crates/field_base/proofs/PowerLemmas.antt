@@ -2,13 +2,13 @@
 -- squares, and so repeated squarings and sums of them are additive.
 use Rattle.std.proofs.Common.{◌≡◌, ℕ, zero, suc, ◌+◌, ◌*◌, ◌/◌, ◌%◌, ◌^◌, ◌<◌, refl, sym, ◌∙◌, ap, ap₂, arith}
 use Rattle.std.specs.Prelude.{bit_xor}
-use Rattle.std.proofs.lemmas.Nat.{xor_lt, pow_pos, div-add-mod'}
+use Rattle.std.proofs.lemmas.Nat.{div-add-mod'}
 use native.Mathlib.Nat.{mod-eq_of_lt, mul-suc, mul-zero, pow-suc, zero-mul, zero-add, suc-mul}
 use native.Mathlib.Numerals.{add-one}
 use lib.Bits.{xor_assoc, xor_self, xor_zero_r}
 use Rattle.field_base.specs.Ring.{IsRing}
 use Rattle.field_base.specs.Powers.{power, repeated_square, sum_of_squarings}
-use Rattle.field_base.proofs.RingLemmas.{xor_left_comm, xor_cancel, sum_times, times_left_comm, times-zero, times-mod, mod-times}
+use Rattle.field_base.proofs.RingLemmas.{xor_left_comm, xor_cancel, sum_times, times_left_comm, times-mod, mod-times}
 
 module _ (width unit : ℕ) (times : ℕ → ℕ → ℕ) (ring : IsRing width unit times) where
   -- 1 a = a
@@ -44,12 +44,6 @@ module _ (width unit : ℕ) (times : ℕ → ℕ → ℕ) (ring : IsRing width u
   unfolding repeated_square
   repeated_square-mod zero a = times-mod width unit times ring unit a
   repeated_square-mod (suc n) a = ap (λ (x : ℕ). times x x) (repeated_square-mod n a)
-
-  -- 0 squared n times is 0
-  pub repeated_square-zero : (n : ℕ) → repeated_square unit times n 0 ≡ 0
-  unfolding repeated_square
-  repeated_square-zero zero = times-zero width unit times ring unit
-  repeated_square-zero (suc n) = ap (λ (x : ℕ). times x x) (repeated_square-zero n) ∙ times-zero width unit times ring 0
 
   -- n squarings of a sum are the sum of those of its terms
   pub repeated_square_xor : (n a b : ℕ) → repeated_square unit times n (bit_xor a b) ≡ bit_xor (repeated_square unit times n a) (repeated_square unit times n b)
@@ -108,12 +102,6 @@ module _ (width unit : ℕ) (times : ℕ → ℕ → ℕ) (ring : IsRing width u
 
   -- ---- sums of repeated squarings
 
-  -- a sum of squarings is an element
-  pub sum_of_squarings-lt : (n a : ℕ) → sum_of_squarings unit times n a < 2 ^ width
-  unfolding sum_of_squarings
-  sum_of_squarings-lt zero a = pow_pos width
-  sum_of_squarings-lt (suc n) a = xor_lt width _ _ (sum_of_squarings-lt n a) (repeated_square-lt n a)
-
   -- it depends only on the low bits of a
   pub sum_of_squarings-mod : (n a : ℕ) → sum_of_squarings unit times n (a % 2 ^ width) ≡ sum_of_squarings unit times n a
   unfolding sum_of_squarings
@@ -127,15 +115,6 @@ module _ (width unit : ℕ) (times : ℕ → ℕ → ℕ) (ring : IsRing width u
   sum_of_squarings_xor zero a b = refl
   sum_of_squarings_xor (suc n) a b =
       ap₂ bit_xor (sum_of_squarings_xor n a b) (repeated_square_xor n a b) ∙ simp (xor_assoc, xor_left_comm)
-
-  -- the sum for a square is the square of the sum
-  pub sum_of_squarings_square : (n a : ℕ) → sum_of_squarings unit times n (times a a)
-      ≡ times (sum_of_squarings unit times n a) (sum_of_squarings unit times n a)
-  unfolding sum_of_squarings
-  sum_of_squarings_square zero a = sym (times-zero width unit times ring 0)
-  sum_of_squarings_square (suc n) a =
-      ap₂ bit_xor (sum_of_squarings_square n a) (repeated_square_times n a a)
-      ∙ sym (square_xor (sum_of_squarings unit times n a) (repeated_square unit times n a))
 
   -- a sum that telescopes, by one term more
   telescoped : (sum first last next : ℕ) → bit_xor (bit_xor sum (bit_xor first last)) next
@@ -182,12 +161,6 @@ module _ (width unit : ℕ) (times : ℕ → ℕ → ℕ) (ring : IsRing width u
     unfolding power
     power-two a = ap (λ (x : ℕ). times x a) (ring.one a) ∙ mod-times width unit times ring a a
 
-    pub power_mod : (a n : ℕ) → power unit times (a % 2 ^ width) n ≡ power unit times a n
-    unfolding power
-    power_mod a zero = refl
-    power_mod a (suc n) =
-        times-mod width unit times ring (power unit times (a % 2 ^ width) n) a ∙ ap (λ (x : ℕ). times x a) (power_mod a n)
-
     -- a ^ (m + n) is a ^ m times a ^ n
     pub power-add : (a m n : ℕ) → power unit times a (m + n) ≡ times (power unit times a m) (power unit times a n)
     unfolding power
@@ -205,14 +178,6 @@ module _ (width unit : ℕ) (times : ℕ → ℕ → ℕ) (ring : IsRing width u
     power-mul a m (suc n) =
         ap (power unit times a) (mul-suc m n) ∙ power-add a (m * n) m
         ∙ ap (λ (x : ℕ). times x (power unit times a m)) (power-mul a m n)
-
-    -- a power of a product is the product of the powers
-    pub power_times : (a b n : ℕ) → power unit times (times a b) n ≡ times (power unit times a n) (power unit times b n)
-    unfolding power
-    power_times a b zero = sym (one-times unit fits)
-    power_times a b (suc n) =
-        ap (λ (x : ℕ). times x (times a b)) (power_times a b n)
-        ∙ simp (ring.assoc, times_left_comm width unit times ring)
 
     -- ---- raising by squaring and multiplying, from the exponent's lowest bit
 

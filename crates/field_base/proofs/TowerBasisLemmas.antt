@@ -26,10 +26,6 @@ module _ (k width : ℕ) (times : ℕ → ℕ → ℕ) (basis : ℕ → ℕ) (ri
   pub basis-nonzero : (a : ℕ) → a < 2 ^ 2 ^ k → basis a ≡ 0 → a ≡ 0
   basis-nonzero a fits none = basis-one_to_one a 0 fits (pow_pos (2 ^ k)) (none ∙ sym basis-zero)
 
-  -- the image of an inverse is the inverse of the image
-  pub basis-inverse : (a b : ℕ) → tower_mul k a b ≡ 1 → times (basis a) (basis b) ≡ 1
-  basis-inverse a b inverts = sym (keeps.product_image a b) ∙ ap basis inverts ∙ keeps.one_image
-
   -- the image of an element is no root of X² + t X + 1 in the other basis
   no_root_image : (a : ℕ) → a < 2 ^ 2 ^ k
       → bit_xor (bit_xor (times (basis a) (basis a)) (times (basis (root k)) (basis a))) 1 ≢ 0

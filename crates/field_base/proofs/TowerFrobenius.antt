@@ -10,8 +10,7 @@ use Rattle.field_base.specs.TowerField.{root_inverse}
 use Rattle.field_base.proofs.TowerRing.{tower_ring}
 use Rattle.field_base.proofs.TowerTraces.{tower_traces, squarings_return}
 use Rattle.field_base.proofs.TowerInverse.{tower_inverse, tower_mul-inverse}
-use Rattle.field_base.proofs.TowerSqrt.{tower_sqrt, tower_sqrt-unique}
-use Rattle.field_base.proofs.PowerLemmas.{times-one, repeated_square-lt, repeated_square-mod_round, repeated_square-power, power-lt}
+use Rattle.field_base.proofs.PowerLemmas.{times-one, repeated_square-mod_round, repeated_square-power, power-lt}
 use Rattle.field_base.proofs.QuadraticTraces.{repeated_square-conjugate}
 
 -- 2 ^ k squarings of an element of level k + 1, which return each element of level k, are its conjugate
@@ -23,16 +22,6 @@ tower_repeated_square-half k a =
 -- n squarings are as many as n leaves modulo the number of bits
 pub tower_repeated_square-mod_bits : (k n a : ℕ) → repeated_square 1 (tower_mul k) (n % 2 ^ k) a ≡ repeated_square 1 (tower_mul k) n a
 tower_repeated_square-mod_bits k n a = repeated_square-mod_round (2 ^ k) 1 (tower_mul k) (tower_ring k) (2 ^ k) (squarings_return k) n a
-
--- one squaring fewer than the level has bits gives the square root
-pub tower_sqrt-repeated_square : (k a : ℕ) → repeated_square 1 (tower_mul k) (2 ^ k - 1) a ≡ tower_sqrt k a
-unfolding repeated_square
-tower_sqrt-repeated_square k a =
-    tower_sqrt-unique k a (repeated_square 1 (tower_mul k) (2 ^ k - 1) a) (repeated_square-lt (2 ^ k) 1 (tower_mul k) (tower_ring k) (2 ^ k - 1) a)
-    (ap (λ (x : ℕ). repeated_square 1 (tower_mul k) x a) last ∙ squarings_return k a)
-  where
-    last : suc (2 ^ k - 1) ≡ 2 ^ k
-    last = omega (arith, pow_pos k)
 
 -- the one is an element of every level
 one_fits : (k : ℕ) → 1 < 2 ^ 2 ^ k

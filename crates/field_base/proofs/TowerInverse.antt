@@ -1,18 +1,16 @@
 -- The inverse of an element of the tower by recursion on the level, as the conjugate over the norm, and what follows
 -- from inverses: there are no divisors of 0, and an inverse is the only one.
-use Rattle.std.proofs.Common.{◌≡◌, ◌≢◌, ℕ, zero, suc, ◌%◌, ◌^◌, ◌<◌, ◌⊎◌, refl, sym, ◌∙◌, ap, ap₂, subst, arith, lit<}
+use Rattle.std.proofs.Common.{◌≡◌, ◌≢◌, ℕ, zero, suc, ◌%◌, ◌^◌, ◌<◌, ◌⊎◌, refl, sym, subst, arith, lit<}
 use Rattle.std.specs.Prelude.{bit_xor}
 use Rattle.std.proofs.lemmas.Nat.{pow_pos}
-use native.Mathlib.Nat.{mod-lt, suc-ne-zero}
+use native.Mathlib.Nat.{mod-lt}
 use Rattle.field_base.specs.Quadratic.{low_half, high_half, pair}
 use Rattle.field_base.specs.Norm.{conjugate, norm}
 use Rattle.field_base.specs.Tower.{root, tower_mul}
-use Rattle.field_base.proofs.RingLemmas.{zero-times, times-zero}
 use Rattle.field_base.proofs.TowerRing.{tower_ring, bits_double, halves-lt}
 use Rattle.field_base.proofs.TowerTraces.{tower_inverses, tower_no_root}
-use Rattle.field_base.proofs.FieldLemmas.{inverse-unique, no_zero_divisors}
-use Rattle.field_base.proofs.QuadraticProducts.{pair-low}
-use Rattle.field_base.proofs.Norms.{norm-lt, norm-of_zero, norm-zero, quadratic-conjugate, quadratic-inverse}
+use Rattle.field_base.proofs.FieldLemmas.{no_zero_divisors}
+use Rattle.field_base.proofs.Norms.{norm-lt, norm-zero, quadratic-conjugate, quadratic-inverse}
 
 -- the inverse of an element of level k, and 0 of 0: the halves of the conjugate by the inverse of the norm
 unfoldable pub tower_inverse : ℕ → ℕ → ℕ
@@ -22,15 +20,6 @@ tower_inverse (suc k) a =
     (tower_mul k (bit_xor (low_half (2 ^ k) a) (tower_mul k (root k) (high_half (2 ^ k) a)))
     (tower_inverse k (norm (2 ^ k) (tower_mul k) (root k) a)))
     (tower_mul k (high_half (2 ^ k) a) (tower_inverse k (norm (2 ^ k) (tower_mul k) (root k) a)))
-
--- the inverse at level k + 1: the conjugate times the inverse of the norm
-pub tower_inverse-suc : (k a : ℕ) → tower_inverse (suc k) a
-    ≡ pair (2 ^ k)
-    (tower_mul k (bit_xor (low_half (2 ^ k) a) (tower_mul k (root k) (high_half (2 ^ k) a)))
-    (tower_inverse k (norm (2 ^ k) (tower_mul k) (root k) a)))
-    (tower_mul k (high_half (2 ^ k) a) (tower_inverse k (norm (2 ^ k) (tower_mul k) (root k) a)))
-unfolding tower_inverse
-tower_inverse-suc k a = refl
 
 -- an inverse is an element
 pub tower_inverse-lt : (k a : ℕ) → tower_inverse k a < 2 ^ 2 ^ k
@@ -81,30 +70,7 @@ tower_mul-inverse (suc k) a fits nonzero =
     (tower_mul-inverse k (norm (2 ^ k) (tower_mul k) (root k) a) (tower_norm-lt k a)
     (λ e. nonzero (tower_norm-zero k a fits e)))
 
--- the inverse of 0 is 0
-pub tower_inverse-zero : (k : ℕ) → tower_inverse k 0 ≡ 0
-unfolding tower_inverse
-tower_inverse-zero zero = refl
-tower_inverse-zero (suc k) =
-    ap (λ (x : ℕ). pair (2 ^ k)
-    (tower_mul k (bit_xor (low_half (2 ^ k) 0) (tower_mul k (root k) (high_half (2 ^ k) 0))) x)
-    (tower_mul k (high_half (2 ^ k) 0) x))
-    (ap (tower_inverse k) (norm-of_zero (2 ^ k) (tower_mul k) (tower_ring k) (root k)) ∙ tower_inverse-zero k)
-    ∙ ap₂ (pair (2 ^ k)) (times-zero (2 ^ k) 1 (tower_mul k) (tower_ring k) _)
-    (times-zero (2 ^ k) 1 (tower_mul k) (tower_ring k) _)
-    ∙ pair-low (2 ^ k) 0
-
 -- ---- what follows
-
--- an inverse of an element is the only one
-pub tower_inverse-unique : (k a b : ℕ) → a < 2 ^ 2 ^ k → b < 2 ^ 2 ^ k → tower_mul k a b ≡ 1 → b ≡ tower_inverse k a
-tower_inverse-unique k a b a_fits b_fits inverts =
-    inverse-unique (2 ^ k) (tower_mul k) (tower_ring k) a b (tower_inverse k a) b_fits (tower_inverse-lt k a) inverts
-    (tower_mul-inverse k a a_fits nonzero)
-  where
-    nonzero : a ≢ 0
-    nonzero e =
-        suc-ne-zero 0 (sym inverts ∙ ap (λ (x : ℕ). tower_mul k x b) e ∙ zero-times (2 ^ k) 1 (tower_mul k) (tower_ring k) b)
 
 -- a product is 0 only where a factor is
 pub tower_mul-zero_divisors : (k a b : ℕ) → a < 2 ^ 2 ^ k → b < 2 ^ 2 ^ k → tower_mul k a b ≡ 0 → (a ≡ 0) ⊎ (b ≡ 0)

@@ -1,6 +1,6 @@
 -- The square root of an element of the tower by recursion on the level. Squaring is (r0 + r1 X)² =
 -- (r0² + r1²) + t r1² X, so r1² is a1 / t, and r0² is a0 + a1 / t.
-use Rattle.std.proofs.Common.{◌≡◌, ℕ, zero, suc, ◌*◌, ◌%◌, ◌^◌, ◌<◌, refl, sym, ◌∙◌, ap, lit<}
+use Rattle.std.proofs.Common.{◌≡◌, ℕ, zero, suc, ◌*◌, ◌%◌, ◌^◌, ◌<◌, refl, ◌∙◌, ap, lit<}
 use Rattle.std.specs.Prelude.{bit_xor}
 use Rattle.std.proofs.lemmas.Nat.{xor_lt}
 use native.Mathlib.Nat.{mod-lt, mod-eq_of_lt}
@@ -21,14 +21,6 @@ tower_sqrt (suc k) a =
     pair (2 ^ k)
     (tower_sqrt k (bit_xor (low_half (2 ^ k) a) (tower_mul k (high_half (2 ^ k) a) (root_inverse k))))
     (tower_sqrt k (tower_mul k (high_half (2 ^ k) a) (root_inverse k)))
-
--- the square root at level k + 1, from roots of a0 + a1 / t and a1 / t
-pub tower_sqrt-suc : (k a : ℕ) → tower_sqrt (suc k) a
-    ≡ pair (2 ^ k)
-    (tower_sqrt k (bit_xor (low_half (2 ^ k) a) (tower_mul k (high_half (2 ^ k) a) (root_inverse k))))
-    (tower_sqrt k (tower_mul k (high_half (2 ^ k) a) (root_inverse k)))
-unfolding tower_sqrt
-tower_sqrt-suc k a = refl
 
 -- a square root is an element
 pub tower_sqrt-lt : (k a : ℕ) → tower_sqrt k a < 2 ^ 2 ^ k
@@ -53,8 +45,3 @@ tower_mul-sqrt (suc k) a =
 -- two elements with the same square are one
 pub tower_mul-square_injective : (k a b : ℕ) → a < 2 ^ 2 ^ k → b < 2 ^ 2 ^ k → tower_mul k a a ≡ tower_mul k b b → a ≡ b
 tower_mul-square_injective k = square-injective (2 ^ k) (tower_mul k) (tower_ring k) (tower_inverses k)
-
--- so an element has one root
-pub tower_sqrt-unique : (k a b : ℕ) → b < 2 ^ 2 ^ k → tower_mul k b b ≡ a % 2 ^ 2 ^ k → b ≡ tower_sqrt k a
-tower_sqrt-unique k a b fits square =
-    tower_mul-square_injective k b (tower_sqrt k a) fits (tower_sqrt-lt k a) (square ∙ sym (tower_mul-sqrt k a))

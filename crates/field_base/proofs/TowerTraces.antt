@@ -1,17 +1,17 @@
 -- At every level of the tower the adjoined root and its inverse have the trace 1, 2 ^ k squarings return each element,
 -- and every nonzero element has an inverse.
-use Rattle.std.proofs.Common.{◌≡◌, ℕ, zero, suc, ◌*◌, ◌%◌, ◌^◌, ◌<◌, refl, sym, ◌∙◌, ap, subst, arith, lit<}
+use Rattle.std.proofs.Common.{◌≡◌, ℕ, zero, suc, ◌*◌, ◌%◌, ◌^◌, ◌<◌, refl, subst, arith, lit<}
 use Rattle.std.proofs.lemmas.Nat.{pow_pos}
-use native.Mathlib.Nat.{mod-lt, one-mul}
+use native.Mathlib.Nat.{mod-lt}
 use Rattle.field_base.specs.Field.{HasInverses}
-use Rattle.field_base.specs.Quadratic.{high_half, pair, quadratic}
+use Rattle.field_base.specs.Quadratic.{pair, quadratic}
 use Rattle.field_base.specs.Powers.{repeated_square, sum_of_squarings}
 use Rattle.field_base.specs.Tower.{root, tower_mul}
-use Rattle.field_base.specs.TowerField.{trace, root_inverse, TracesAreOne, RootInverse, NoLevelHasARoot, NonzeroHasInverse, SquaringsReturn}
+use Rattle.field_base.specs.TowerField.{root_inverse, TracesAreOne, RootInverse, NoLevelHasARoot, NonzeroHasInverse, SquaringsReturn}
 use Rattle.field_base.proofs.TowerRing.{tower_ring, bits_double}
 use Rattle.field_base.specs.BitRingLemmas.{two_cases}
 use Rattle.field_base.proofs.Norms.{quadratic-inverses}
-use Rattle.field_base.proofs.QuadraticTraces.{HasUnitTraces, quadratic-no_root, quadratic-trace, quadratic-unit_traces}
+use Rattle.field_base.proofs.QuadraticTraces.{HasUnitTraces, quadratic-no_root, quadratic-unit_traces}
 
 -- ---- level 0
 
@@ -78,24 +78,3 @@ squarings_return k a = (tower_traces k).returns a
 -- the root of a level is an element
 pub root-lt : (k : ℕ) → root k < 2 ^ 2 ^ k
 root-lt k = (tower_traces k).t_fits
-
--- so is its inverse
-pub root_inverse-lt : (k : ℕ) → root_inverse k < 2 ^ 2 ^ k
-root_inverse-lt k = (tower_traces k).s_fits
-
--- the trace by recursion: a bit is its own trace, and an element of the next level has that of t times its high half
-pub trace-zero : (a : ℕ) → trace 0 a ≡ a % 2
-unfolding repeated_square sum_of_squarings tower_mul
-trace-zero a = one-mul (a % 2)
-
--- the trace of a0 + a1 X at level k + 1 is the trace of t a1 at level k
-pub trace-suc : (k a : ℕ) → trace (suc k) a ≡ trace k (tower_mul k (root k) (high_half (2 ^ k) a))
-unfolding tower_mul
-trace-suc k a =
-    ap (λ (x : ℕ). sum_of_squarings 1 (quadratic (2 ^ k) (tower_mul k) (root k)) x a) (sym (bits_double k))
-    ∙ quadratic-trace (2 ^ k) (tower_mul k) (tower_ring k) (root k) (root_inverse k) (tower_traces k) a
-
--- the trace is 0 or 1
-pub trace-lt : (k a : ℕ) → trace k a < 2
-trace-lt zero a = subst (λ (x : ℕ). x < 2) (sym (trace-zero a)) (mod-lt a (lit< tt))
-trace-lt (suc k) a = subst (λ (x : ℕ). x < 2) (sym (trace-suc k a)) (trace-lt k (tower_mul k (root k) (high_half (2 ^ k) a)))

@@ -1,5 +1,5 @@
 -- Karatsuba's rule for the carryless product: a product of twice the width by three of the width.
-use Rattle.std.proofs.Common.{◌≡◌, ℕ, ◌+◌, ◌*◌, ◌/◌, ◌%◌, ◌^◌, ◌<◌, sym, ◌∙◌, ap, ap₂, arith, lit<, lit≤}
+use Rattle.std.proofs.Common.{◌≡◌, ℕ, ◌+◌, ◌*◌, ◌/◌, ◌%◌, ◌^◌, ◌<◌, sym, ◌∙◌, ap, ap₂, lit≤}
 use Rattle.std.specs.Prelude.{bit_xor}
 use Rattle.std.proofs.lemmas.Nat.{xor_comm, xor_lt, shl_whole, shl_below, mod_low, pow-add, pow_pos, shr_split}
 use native.Mathlib.Nat.{add-mul, mod-lt, mod-eq_of_lt, mul_assoc}

@@ -17,6 +17,5 @@ pub mod StandardFacts
 pub mod Shifts
 pub mod LaneProducts
 pub mod LaneReductions
-pub mod ListLoops
 pub mod MaskedLanes
 pub mod DotProducts

@@ -1,8 +1,8 @@
 -- Masked products in lanes, each lane by the theorem on one product, and the loops that write them over a slice by blocks.
-use Rattle.std.proofs.Common.{◌≡◌, ℕ, zero, suc, ◌+◌, ◌*◌, ◌%◌, ◌^◌, ◌<◌, ◌≤◌, List, [], ◌∷◌, ◌++◌, length, map, take, drop, get_or, replicate, refl, sym, ◌∙◌, ap, ap₂, subst, arith}
+use Rattle.std.proofs.Common.{◌≡◌, ℕ, zero, suc, ◌+◌, ◌*◌, ◌%◌, ◌^◌, ◌<◌, ◌≤◌, List, [], ◌∷◌, length, map, get_or, replicate, refl, sym, ◌∙◌, ap, ap₂, subst, arith}
 use Rattle.std.specs.Prelude.{bit_and, slice_index_or}
 use Rattle.std.specs.List.{All}
-use Rattle.std.specs.Simd.Lanes.{zip2, chunk}
+use Rattle.std.specs.Simd.Lanes.{chunk}
 use Rattle.std.proofs.lemmas.Simd.{length-chunk, get_or-chunk}
 use Rattle.word_tables.proofs.BlockLemmas.{done_before}
 use Rattle.field_base.specs.Carryless.{carryless}

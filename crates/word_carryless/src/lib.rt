@@ -13,7 +13,6 @@ mod nibbles;
 mod power_maps;
 mod product;
 mod root;
-mod slices;
 mod split;
 mod square;
 mod word_vector;
@@ -38,7 +37,6 @@ pub use crate::product::{
     multiply_32, multiply_64, multiply_64_twice, multiply_128, multiply_by_power_128,
 };
 pub use crate::root::{compact_64, compact_128, sqrt_mod_64, sqrt_mod_128};
-pub use crate::slices::{dot_product_mod_128, multiply_each_mod_128};
 pub use crate::split::{join_128, split_64, split_128};
 pub use crate::square::{carryless_square_64, carryless_square_128, spread_32};
 pub use crate::word_vector::WordVector;

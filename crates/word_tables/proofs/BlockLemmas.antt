@@ -12,10 +12,6 @@ use lib.Lanes.{chunk, put_chunk}
 abbrev pub done_before : (ℕ → ℕ) → ℕ → List ℕ → List ℕ
 done_before f n xs = map f (take n xs) ++ drop n xs
 
--- before the first place nothing is done
-pub none_done : (f : ℕ → ℕ) (n : ℕ) (xs : List ℕ) → n ≡ 0 → xs ≡ done_before f n xs
-none_done f n xs is = ap (λ (k : ℕ). done_before f k xs) (sym is)
-
 -- ---- by blocks
 
 -- nothing is written where nothing is to be written

@@ -1,7 +1,7 @@
 -- A linear map of bytes by two tables of sixteen entries: the sums of the first four images, and those of the others.
 use Rattle.std.proofs.Common.{◌≡◌, ℕ, zero, suc, ◌*◌, ◌/◌, ◌%◌, ◌^◌, ◌<◌, Bool, true, false, List, [], ◌∷◌, length, map, take, drop, cond, sym, ◌∙◌, ap, ap₂, refl, arith, lit<, w8, Fits}
 use Rattle.std.specs.Prelude.{bit_and, bit_xor, slice_index}
-use Rattle.std.specs.Simd.Lanes.{zip2, Each1}
+use Rattle.std.specs.Simd.Lanes.{Each1}
 use Rattle.std.proofs.lemmas.Nat.{and_mask}
 use native.Mathlib.Nat.{mod-eq_of_lt, mod-lt, zero-mul, one-mul}
 use lib.Bits.{xor_assoc, xor_zero_r}

@@ -1,10 +1,7 @@
-// Products in lanes against the same products one by one: on corners and drawn operands, and over slices of every length up to 9,
-// whose ends are an odd one out, and of 257.
-ghost use Rattle.std.specs.Prelude.{◌≤◌};
-
+// Products in lanes against the same products one by one, on corners and drawn operands.
 use word_carryless::{
-    dot_product_mod_128, masked_products, multiply_128, multiply_128_twice, multiply_each_mod_128,
-    multiply_mod_128, multiply_mod_128_four_times, multiply_mod_128_twice,
+    masked_products, multiply_128, multiply_128_twice, multiply_mod_128,
+    multiply_mod_128_four_times, multiply_mod_128_twice,
 };
 
 static CORNERS: [u128; 8] = [
@@ -44,35 +41,6 @@ fn four_times_is_single(left: [u128; 4], right: [u128; 4]) -> bool {
     same
 }
 
-// The products of both kinds over slices of this length, whose sum is the dot product.
-fn slice_is_single(length: usize) -> bool
-    requires { length ≤ 257 }
-{
-    let mut left = [0u128; 257];
-    let mut right = [0u128; 257];
-    for i in 0..257 {
-        left[i] = drawn(i);
-        right[i] = drawn(257 + i);
-    }
-    let before = left;
-    let sum = dot_product_mod_128(&left[..length], &right[..length]);
-    multiply_each_mod_128(&mut left[..length], &right[..length]);
-    let mut same = true;
-    let mut total = 0;
-    for i in 0..257 {
-        let want = if i < length {
-            multiply_mod_128(before[i], right[i])
-        } else {
-            before[i]
-        };
-        same = same && left[i] == want;
-        if i < length {
-            total ^= want;
-        }
-    }
-    same && sum == total
-}
-
 #[test]
 fn lanes_are_single_products(rt: HostRuntime) {
     for i in 0..8usize {
@@ -87,14 +55,6 @@ fn lanes_are_single_products(rt: HostRuntime) {
             );
         }
     }
-}
-
-#[test]
-fn slices_are_single_products(rt: HostRuntime) {
-    for length in 0..10usize {
-        assert!(rt; slice_is_single(length), "length {length}");
-    }
-    assert!(rt; slice_is_single(257));
 }
 
 #[test]

@@ -1,4 +1,4 @@
-use Rattle.std.proofs.Common.{◌%◌, ◌^◌, ◌∙◌, ap₂, List, ℕ}
+use Rattle.std.proofs.Common.{◌%◌, ◌^◌, ◌∙◌, ap₂}
 use Rattle.std.specs.Simd.Lanes.{zip2}
 use Rattle.field_base.specs.Carryless.{carryless}
 use Rattle.word_carryless.proofs.lanes.multiply_low_halves.Goals as goal

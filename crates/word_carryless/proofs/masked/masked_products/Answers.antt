@@ -1,4 +1,4 @@
-use Rattle.std.proofs.Common.{◌*◌, ◌+◌, ◌%◌, ◌^◌, arith}
+use Rattle.std.proofs.Common.{◌*◌, ◌%◌, ◌^◌, arith}
 use Rattle.field_base.specs.Carryless.{carryless}
 use Rattle.word_carryless.specs.Masked.{IsInClass}
 use Rattle.word_tables.proofs.BlockLemmas.{block_done, place_done}

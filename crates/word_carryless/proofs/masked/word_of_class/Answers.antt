@@ -1,6 +1,5 @@
-use Rattle.std.proofs.Common.{sym, subst, ℕ}
-use Rattle.std.specs.Prelude.{bit_and}
-use Rattle.word_carryless.specs.Masked.{IsInClass, class_mask}
+use Rattle.std.proofs.Common.{sym, subst}
+use Rattle.word_carryless.specs.Masked.{IsInClass}
 use Rattle.word_carryless.proofs.CarryIsolation.{kept_bits}
 use Rattle.word_carryless.proofs.ClassMasks.{class-mask}
 use Rattle.word_carryless.proofs.masked.word_of_class.Goals as goal
