@@ -33,7 +33,25 @@ def chain(names):
     return [name for name in known if name in wanted]
 
 
-def costs():
-    """The processor seconds of each crate's proofs from nothing, by the table of docs/GATE.md."""
+def gate():
+    """The processor seconds of each crate's proofs from nothing, of its tests and of its edits, by the table of docs/GATE.md."""
     page = (files.TOP / "docs/GATE.md").read_text(encoding="utf-8")
-    return {name: int(seconds.replace(",", "")) for name, seconds in re.findall(r"^\| `(\w+)` \| ([\d,]+) \|", page, re.MULTILINE)}
+    rows = re.findall(r"^\| `(\w+)` \| ([\d,]*) ?\| ?([\d,]*) ?\| ?([\d,]*) ?\|$", page, re.MULTILINE)
+    return {name: [int(it.replace(",", "") or 0) for it in seconds] for name, *seconds in rows}
+
+
+def costs():
+    """The processor seconds of each crate's proofs from nothing."""
+    return {name: proofs for name, (proofs, _, _) in gate().items()}
+
+
+def longest_chain():
+    """The crates of the longest chain of proofs, lowest first, and its seconds: those of its last crate are with tests and edits."""
+    seconds, ends = {}, {}
+    for name, below in dependencies().items():
+        proofs, tests, edits = gate().get(name, (0, 0, 0))
+        before, names = max(((seconds[it], ends[it]) for it in below if it in seconds), default=(0, []))
+        seconds[name], ends[name] = before + proofs, [*names, name]
+        ends[name, "whole"] = before + proofs + tests + edits
+    last = max(seconds, key=lambda name: ends[name, "whole"])
+    return ends[last], ends[last, "whole"]
