@@ -5,11 +5,25 @@ import re
 import files
 
 
+CRATE = re.compile(r"([a-z0-9_]+)[^:#]*:([^#]*)")
+
+
+def entries(path=files.TOP / "crates.txt"):
+    """Each crate of a crates.txt: what it depends on, its line, and the comments right above it."""
+    found, comments = {}, []
+    for line in path.read_text(encoding="utf-8").splitlines() if path.is_file() else []:
+        crate = CRATE.match(line)
+        if crate:
+            found[crate[1]] = crate[2].split(), line, comments
+        comments = [*comments, line] if line.startswith("#") else []
+    return found
+
+
 def layers():
     """Each layer by its heading, a comment with an empty line behind it, with its crates: their names and what they depend on."""
     found, lines = [], (files.TOP / "crates.txt").read_text(encoding="utf-8").splitlines()
     for line, behind in zip(lines, [*lines[1:], ""]):
-        crate = re.match(r"([a-z0-9_]+)[^:#]*:([^#]*)", line)
+        crate = CRATE.match(line)
         if crate:
             found[-1][1].append((crate[1], crate[2].split()))
         elif line.startswith("# ") and not behind:
@@ -19,7 +33,7 @@ def layers():
 
 def dependencies():
     """What each crate depends on, lowest first."""
-    return {name: below for _, crates in layers() for name, below in crates}
+    return {name: below for name, (below, _, _) in entries().items()}
 
 
 def chain(names):
