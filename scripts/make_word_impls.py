@@ -54,6 +54,8 @@ impl Stored for u$bits {
     }
 
     ghost eq_law = { Prim.search rules };
+
+    ghost room_law = { few_fit 1024 $bytes (lit< tt) };
 }
 
 impl Unsigned for u$bits {
@@ -71,14 +73,18 @@ impl Unsigned for u$bits {
 def stored():
     yield """\
 // The unsigned integers of Rust as words.
-ghost use Rattle.std.specs.Prelude.{◌≡◌, ◌↔◌, ◌<◌, ◌%◌, ◌^◌, IsTrue, bit_xor, refl};
-ghost use Rattle.std.proofs.Common.{rules};
+ghost use prog.Memory.{size};
+ghost use denote.Param.{layout};
+ghost use Rattle.std.specs.Prelude.{◌≡◌, ◌↔◌, ◌<◌, ◌≤◌, ◌*◌, ◌%◌, ◌^◌, IsTrue, bit_xor, refl};
+ghost use Rattle.std.proofs.Common.{lit<, rules};
+ghost use Rattle.field_base.specs.Room.{few_fit};
 
 use crate::word::{Stored, Unsigned};
 """
     for bits in UNSIGNED:
         of_index = "u128::from(i as u64)" if bits == 128 else f"i as u{bits}"
-        yield STORED.substitute(bits=bits, of_index=of_index, of_u128=low_bits(bits, 128), to_u128=widened(bits, 128))
+        bytes_and_words = {"bytes": bits // 8, "of_u128": low_bits(bits, 128), "to_u128": widened(bits, 128)}
+        yield STORED.substitute(bytes_and_words, bits=bits, of_index=of_index)
 
 
 READ = Template("""\

@@ -2,7 +2,7 @@
 ghost use Rattle.std.specs.Prelude.{◌≡◌, ◌<◌, ◌≤◌, ◌*◌, ◌%◌, ◌^◌, refl};
 ghost use Rattle.std.proofs.Common.{lit<, lit≤};
 ghost use Rattle.c_calls.specs.Fields.{wide_number};
-ghost use Rattle.many_words.specs.Room.{few_fit};
+ghost use Rattle.field_base.specs.Room.{few_fit};
 
 use crate::Wide;
 use additive_transforms::Holds;

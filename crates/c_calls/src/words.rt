@@ -3,7 +3,7 @@ ghost use Rattle.std.specs.Prelude.{◌≡◌, ◌<◌, ℕ};
 ghost use native.Mathlib.Nat.{mod-eq_of_lt};
 ghost use Rattle.c_calls.specs.Fields.{cubic_number, wide_number};
 ghost use Rattle.c_calls.specs.WideLemmas.{wide_number-lt};
-ghost use Rattle.many_words.specs.Room.{few_fit};
+ghost use Rattle.field_base.specs.Room.{few_fit};
 ghost use Rattle.std.proofs.Common.{lit<};
 
 use crate::wide::Wide;

@@ -17,6 +17,7 @@ pub mod Powers
 pub mod Quadratic
 pub mod Remainder
 pub mod Ring
+pub mod Room
 pub mod Steps
 pub mod Tower
 pub mod TowerBasis

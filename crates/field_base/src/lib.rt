@@ -11,6 +11,7 @@ pub mod laws;
 pub mod log_tables;
 mod prime;
 mod reading;
+mod reads;
 pub mod traits;
 mod word;
 
@@ -20,4 +21,5 @@ pub use crate::integer::Integer;
 pub use crate::kernel::{Contains, FieldKernel, Joins, LevelKernel};
 pub use crate::prime::{PrimeField, PrimeField32, PrimeField64, QuotientMap};
 pub use crate::reading::ReadWord;
+pub use crate::reads::Reads;
 pub use crate::word::{Stored, Unsigned};

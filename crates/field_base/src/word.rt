@@ -1,5 +1,7 @@
 // Words: what an element of a field is stored in.
-ghost use Rattle.std.specs.Prelude.{◌≡◌, ◌↔◌, ◌<◌, ◌*◌, ◌%◌, ◌^◌, ℕ, IsTrue, bit_xor};
+ghost use prog.Memory.{size};
+ghost use denote.Param.{layout};
+ghost use Rattle.std.specs.Prelude.{◌≡◌, ◌↔◌, ◌<◌, ◌≤◌, ◌*◌, ◌%◌, ◌^◌, ℕ, IsTrue, bit_xor};
 ghost use Rattle.field_base.specs.Bit.{bit_number};
 
 mod impls;
@@ -54,6 +56,9 @@ pub trait Stored: Copy + Debug + Ord + Hash {
     }
 
     ghost eq_law: { (x y : Self) → IsTrue (Self.PartialEq.eq x y) ↔ (number x ≡ number y) };
+
+    // An array of up to 1,024 words can be a value.
+    ghost room_law: { (n : ℕ) → n ≤ 1024 → n * size (layout Self.row) < 2 ^ 63 };
 }
 
 /// An unsigned integer of Rust as a word.

@@ -89,7 +89,7 @@ impl Many<Coefficients, Coefficients> for CubicKernel {
     ghost use prog.Memory.{size};
     ghost use denote.Param.{layout};
     ghost use Rattle.std.proofs.Common.{lit<};
-    ghost use Rattle.many_words.specs.Room.{few_fit};
+    ghost use Rattle.field_base.specs.Room.{few_fit};
 
     ghost room_law = { few_fit 1024 24 (lit< tt) };
 }

@@ -1,5 +1,4 @@
 pub mod Fields
 pub mod Maps
 pub mod Places
-pub mod Room
 pub mod Words

@@ -6,7 +6,7 @@ ghost use Rattle.std.proofs.Common.{lit<};
 ghost use Rattle.field_base.specs.Tower.{tower_mul};
 ghost use Rattle.field_base.specs.TowerBasis.{tower_generator};
 ghost use Rattle.many_words.specs.Fields.{field_of, ghash_field_of};
-ghost use Rattle.many_words.specs.Room.{few_fit};
+ghost use Rattle.field_base.specs.Room.{few_fit};
 ghost use Rattle.many_words.specs.Words.{EachOfTwo, HoldInverses};
 
 use crate::in_slices::{invert_images, invert_words, multiply_words};

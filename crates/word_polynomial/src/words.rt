@@ -1,6 +1,9 @@
 // Three words as the word that stores an element, and other words that hold the same three.
-ghost use Rattle.std.specs.Prelude.{◌≡◌, ◌<◌, ◌≤◌, ◌^◌, refl};
-ghost use Rattle.std.proofs.Common.{lit≤, rules};
+ghost use prog.Memory.{size};
+ghost use denote.Param.{layout};
+ghost use Rattle.std.specs.Prelude.{◌≡◌, ◌<◌, ◌≤◌, ◌*◌, ◌^◌, refl};
+ghost use Rattle.std.proofs.Common.{lit<, lit≤, rules};
+ghost use Rattle.field_base.specs.Room.{few_fit};
 ghost use Rattle.word_polynomial.specs.Cubic.{triple};
 ghost use Rattle.word_polynomial.specs.Triple.{triple_number};
 ghost use Rattle.word_polynomial.specs.TripleLemmas.{fits_192, same_number, triple-chunks, triple_of_number, words_law};
@@ -49,6 +52,8 @@ impl Stored for Triple {
     }
 
     ghost eq_law = { λ x y. words_law x y (Prim.search rules) };
+
+    ghost room_law = { few_fit 1024 24 (lit< tt) };
 }
 
 /// A stored word that holds three words of 64 bits, as three elements of GF(2^64) do that can be lent.

@@ -1,7 +1,10 @@
 // Written by scripts/make_word_impls.py; do not edit.
 // The unsigned integers of Rust as words.
-ghost use Rattle.std.specs.Prelude.{◌≡◌, ◌↔◌, ◌<◌, ◌%◌, ◌^◌, IsTrue, bit_xor, refl};
-ghost use Rattle.std.proofs.Common.{rules};
+ghost use prog.Memory.{size};
+ghost use denote.Param.{layout};
+ghost use Rattle.std.specs.Prelude.{◌≡◌, ◌↔◌, ◌<◌, ◌≤◌, ◌*◌, ◌%◌, ◌^◌, IsTrue, bit_xor, refl};
+ghost use Rattle.std.proofs.Common.{lit<, rules};
+ghost use Rattle.field_base.specs.Room.{few_fit};
 
 use crate::word::{Stored, Unsigned};
 
@@ -37,6 +40,8 @@ impl Stored for u8 {
     }
 
     ghost eq_law = { Prim.search rules };
+
+    ghost room_law = { few_fit 1024 1 (lit< tt) };
 }
 
 impl Unsigned for u8 {
@@ -81,6 +86,8 @@ impl Stored for u16 {
     }
 
     ghost eq_law = { Prim.search rules };
+
+    ghost room_law = { few_fit 1024 2 (lit< tt) };
 }
 
 impl Unsigned for u16 {
@@ -125,6 +132,8 @@ impl Stored for u32 {
     }
 
     ghost eq_law = { Prim.search rules };
+
+    ghost room_law = { few_fit 1024 4 (lit< tt) };
 }
 
 impl Unsigned for u32 {
@@ -169,6 +178,8 @@ impl Stored for u64 {
     }
 
     ghost eq_law = { Prim.search rules };
+
+    ghost room_law = { few_fit 1024 8 (lit< tt) };
 }
 
 impl Unsigned for u64 {
@@ -213,6 +224,8 @@ impl Stored for u128 {
     }
 
     ghost eq_law = { Prim.search rules };
+
+    ghost room_law = { few_fit 1024 16 (lit< tt) };
 }
 
 impl Unsigned for u128 {

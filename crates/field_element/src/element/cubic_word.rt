@@ -1,6 +1,9 @@
 // The coefficients of an element of `Poly192` as its stored word, which holds their words.
-ghost use Rattle.std.specs.Prelude.{◌≡◌, ◌≢◌, ◌<◌, ◌≤◌, ◌%◌, ◌^◌, ◌∷◌, [], ℕ, refl};
+ghost use prog.Memory.{size};
+ghost use denote.Param.{layout};
+ghost use Rattle.std.specs.Prelude.{◌≡◌, ◌≢◌, ◌<◌, ◌≤◌, ◌*◌, ◌%◌, ◌^◌, ◌∷◌, [], ℕ, refl};
 ghost use Rattle.std.proofs.Common.{lit<, lit≤, rules};
+ghost use Rattle.field_base.specs.Room.{few_fit};
 ghost use Rattle.word_polynomial.specs.Cubic.{triple};
 ghost use Rattle.word_polynomial.specs.TripleLemmas.{fits_192, triple-chunks, words_law};
 ghost use Rattle.field_element.specs.Coefficients.{coefficients_of_number, coefficients_of_words};
@@ -60,6 +63,8 @@ impl Stored for Coefficients {
     }
 
     ghost eq_law = { λ x y. words_law (stored_words x) (stored_words y) (Prim.search rules) };
+
+    ghost room_law = { few_fit 1024 24 (lit< tt) };
 }
 
 impl HoldsTriple for Coefficients {

@@ -3,7 +3,7 @@
 ghost use prog.Memory.{size};
 ghost use denote.Param.{layout};
 ghost use Rattle.std.proofs.Common.{lit<};
-ghost use Rattle.many_words.specs.Room.{few_fit};
+ghost use Rattle.field_base.specs.Room.{few_fit};
 
 use super::Many;
 use crate::bytes::LEAST_IN_VECTORS;
