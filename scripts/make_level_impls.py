@@ -604,18 +604,8 @@ impl TowerWord for u$bits {
     }
 
     #[inline]
-    fn square(self) -> u$bits {
-        Bits$bits::square(self)
-    }
-
-    #[inline]
     fn invert(self) -> u$bits {
         Bits$bits::invert(self)
-    }
-
-    #[inline]
-    fn sqrt(self) -> u$bits {
-        Bits$bits::sqrt(self)
     }
 
     ghost few_law = { lit≤ tt };
@@ -725,18 +715,6 @@ impl<V: Vector> Sliced for Slices$bits<V> {
 
     #[inline(always)]
     #[tactic(auto, unfolding(crate::specs::Called::lanes_$bits))]
-    fn set_quotient_by_root(&mut self, x: &Slices$bits<V>) {
-        self.inner.set_quotient_by_root(&x.inner);
-    }
-
-    #[inline(never)]
-    #[tactic(auto, unfolding(crate::specs::Called::lanes_$bits))]
-    fn set_sqrt(&mut self, x: &Slices$bits<V>) {
-        self.inner.set_sqrt(&x.inner);
-    }
-
-    #[inline(always)]
-    #[tactic(auto, unfolding(crate::specs::Called::lanes_$bits))]
     fn exchange(x: &mut Slices$bits<V>, y: &mut Slices$bits<V>, level: usize) {
         Sliced::exchange(&mut x.inner, &mut y.inner, level);
     }
@@ -779,12 +757,6 @@ impl<V: Vector> SlicedPolynomials<V> for Slices$bits<V> {
         );
     }
 
-    #[inline(always)]
-    #[tactic(auto, unfolding(crate::specs::Called::lanes_$bits))]
-    fn set_carryless_square(low: &mut Slices$bits<V>, high: &mut Slices$bits<V>, x: &Slices$bits<V>) {
-        SlicedPolynomials::set_carryless_square(&mut low.inner, &mut high.inner, &x.inner);
-    }
-
     #[inline(${tail_inline})]
     #[tactic(auto, unfolding(crate::specs::Called::lanes_$bits))]
     fn add_by_tail<M: Tail>(&mut self, x: &Slices$bits<V>, carry: &mut Slices8<V>) {
@@ -804,9 +776,10 @@ impl<V: Vector> SlicedWord<V> for u$bits {
 
 def slices():
     yield """\
-// The levels of 8 to 128 bits by slices of bits. Each is a type of its own whose products, squares, inverses, roots and transpositions are
+// The levels of 8 to 128 bits by slices of bits. Each is a type of its own whose products, squares, inverses and transpositions are
 // called and not put in line: so LLVM compiles, and the checker names, each level once.
-ghost use Rattle.bit_slices.specs.Called.{lanes_8, lanes_8-lt, lanes_16, lanes_16-lt, lanes_32, lanes_32-lt, lanes_64, lanes_64-lt, lanes_128, lanes_128-lt};
+ghost use Rattle.bit_slices.specs.Called.{lanes_8, lanes_16, lanes_32, lanes_64, lanes_128};
+ghost use Rattle.bit_slices.specs.Called.{lanes_8-lt, lanes_16-lt, lanes_32-lt, lanes_64-lt, lanes_128-lt};
 ghost use Rattle.std.specs.Prelude.{◌≡◌, ◌<◌, ◌^◌, ℕ, refl};
 
 use crate::bit::Bit;

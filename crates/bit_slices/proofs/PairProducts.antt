@@ -1,8 +1,8 @@
 -- The arithmetic of the next level by the halves of elements, in the forms in which it is computed.
 use Rattle.std.proofs.Common.{◌≡◌, ◌≢◌, ℕ, suc, ◌^◌, ◌<◌, sym, ◌∙◌, ap, ap₂}
 use Rattle.std.specs.Prelude.{bit_xor}
-use Rattle.std.proofs.lemmas.Nat.{xor_block, xor_comm, xor_lt, pow_pos}
-use lib.Bits.{xor_assoc, xor_self, xor_zero_r}
+use Rattle.std.proofs.lemmas.Nat.{xor_block, xor_comm, pow_pos}
+use lib.Bits.{xor_assoc}
 use Rattle.field_base.specs.Norm.{norm}
 use Rattle.field_base.specs.Quadratic.{low_half, high_half, pair}
 use Rattle.field_base.specs.Tower.{root, tower_mul}
@@ -116,26 +116,3 @@ inverse_of_zero_pair k a0 a1 v a0_fits a1_fits none =
     ∙ zero-times (2 ^ k) 1 (tower_mul k) (tower_ring k) v)
     (zero-times (2 ^ k) 1 (tower_mul k) (tower_ring k) v)
     ∙ pair-low (2 ^ k) 0
-
--- a sum and what was added to it
-twice_added : (a b : ℕ) → bit_xor (bit_xor a b) b ≡ a
-twice_added a b = xor_assoc a b b ∙ ap (bit_xor a) (xor_self b) ∙ xor_zero_r a
-
--- X ((a1 + t a0) + a0 X) = a0 + a1 X
-pub quotient_by_root : (k : ℕ) {a0 a1 : ℕ} → a0 < 2 ^ 2 ^ k → a1 < 2 ^ 2 ^ k
-    → tower_mul (suc k) (root (suc k)) (pair (2 ^ k) (bit_xor a1 (tower_mul k (root k) a0)) a0) ≡ pair (2 ^ k) a0 a1
-quotient_by_root k {a0} {a1} a0_fits a1_fits =
-    let r = tower_mul k (root k) a0 in
-    root_of_pair k (bit_xor a1 r) a0 (xor_lt (2 ^ k) a1 r a1_fits ((tower_ring k).below (root k) a0)) a0_fits
-    ∙ ap (pair (2 ^ k) a0) (twice_added a1 r)
-
--- a0 + a1 X is the square of r0 + r1 X where r1² is the quotient q of a1 by t, and r0² is a0 + q
-pub sqrt_of_pair : (k : ℕ) {r0 r1 : ℕ} (a0 a1 q : ℕ) → r0 < 2 ^ 2 ^ k → r1 < 2 ^ 2 ^ k → tower_mul k (root k) q ≡ a1
-    → tower_mul k r0 r0 ≡ bit_xor a0 q → tower_mul k r1 r1 ≡ q
-    → tower_mul (suc k) (pair (2 ^ k) r0 r1) (pair (2 ^ k) r0 r1) ≡ pair (2 ^ k) a0 a1
-sqrt_of_pair k {r0} {r1} a0 a1 q r0_fits r1_fits quotient low_square high_square =
-    tower_mul-square k (pair (2 ^ k) r0 r1)
-    ∙ ap₂ (λ (x y : ℕ). pair (2 ^ k) (bit_xor (tower_mul k x x) (tower_mul k y y)) (tower_mul k (root k) (tower_mul k y y)))
-    (low_half-pair (2 ^ k) r0 r1 r0_fits) (high_half-pair (2 ^ k) r0 r1 r0_fits r1_fits)
-    ∙ ap₂ (λ (x y : ℕ). pair (2 ^ k) (bit_xor x y) (tower_mul k (root k) y)) low_square high_square
-    ∙ ap₂ (pair (2 ^ k)) (twice_added a0 q) quotient

@@ -1,19 +1,19 @@
--- Products and squares of polynomials by their halves, in the forms in which they are computed.
+-- Products of polynomials by their halves, in the forms in which they are computed.
 use Rattle.std.proofs.Common.{◌≡◌, ℕ, suc, ◌+◌, ◌*◌, ◌/◌, ◌%◌, ◌^◌, ◌<◌, refl, sym, ◌∙◌, ap, ap₂, subst, arith}
 use Rattle.std.specs.Prelude.{bit_xor}
 use Rattle.std.proofs.lemmas.Nat.{pow-add, pow_pos, shr-shr, mod-pow-add, xor_comm, xor_lt, xor_mod, xor_shr}
 use Rattle.std.proofs.Math.Nat.{mul_assoc, mul-div_cancel, mul-mod_left}
 use native.Mathlib.Nat.{mod-eq_of_lt, mod-lt}
-use lib.Bits.{xor_assoc, xor_self, xor_zero_l}
+use lib.Bits.{xor_assoc, xor_zero_l}
 use Rattle.field_base.specs.Carryless.{carryless}
 use Rattle.field_base.specs.Quadratic.{pair}
 use Rattle.field_base.specs.Tower.{tower_mul}
-use Rattle.field_base.proofs.CarrylessProduct.{bit_carryless, carryless_comm, shl_carryless, sum_carryless, xor_shl}
+use Rattle.field_base.proofs.CarrylessProduct.{bit_carryless, shl_carryless, sum_carryless, xor_shl}
 use Rattle.field_base.proofs.QuadraticRing.{pair-lt}
 use Rattle.field_base.proofs.RingLemmas.{xor_left_comm}
 use Rattle.field_base.proofs.TowerRing.{bits_double}
 use Rattle.word_carryless.proofs.Halves.{split_xor}
-use Rattle.word_carryless.proofs.KaratsubaLemmas.{karatsuba, middle_product}
+use Rattle.word_carryless.proofs.KaratsubaLemmas.{karatsuba}
 use Rattle.bit_slices.specs.Tails.{tail_product}
 use Rattle.bit_slices.proofs.PairProducts.{sum_of_pairs}
 
@@ -83,31 +83,6 @@ polynomial_of_pairs k {x0} {y0} {a} {b} {c} {m} x1 y1 d n x_fits y_fits a_fits b
     (sym (pair_xor w m n m_fits) ∙ both ∙ ap₂ carryless x_is y_is)
     ∙ sym (karatsuba w x0 x1 y0 y1)
     ∙ ap₂ carryless (sym (pair_xor w x0 x1 x_fits)) (sym (pair_xor w y0 y1 y_fits))
-
--- nothing, shifted up and added
-nothing_added : (w n : ℕ) → bit_xor (0 * 2 ^ w) n ≡ n
-nothing_added w n =
-    let none : 0 * 2 ^ w ≡ 0 = omega arith in
-    ap (λ (z : ℕ). bit_xor z n) none ∙ xor_zero_l n
-
--- the square of a pair, from the squares of its halves
-pub polynomial_square : (k : ℕ) {x0 a b : ℕ} (x1 c d : ℕ) → x0 < 2 ^ 2 ^ k → a < 2 ^ 2 ^ k → b < 2 ^ 2 ^ k
-    → pair (2 ^ k) a b ≡ carryless x0 x0 → pair (2 ^ k) c d ≡ carryless x1 x1
-    → pair (2 ^ suc k) (pair (2 ^ k) a b) (pair (2 ^ k) c d) ≡ carryless (pair (2 ^ k) x0 x1) (pair (2 ^ k) x0 x1)
-polynomial_square k {x0} {a} {b} x1 c d x_fits a_fits b_fits low high =
-    let w = 2 ^ k in
-    pair_xor (2 ^ suc k) (pair w a b) (pair w c d)
-    (subst (λ (n : ℕ). pair w a b < 2 ^ n) (bits_double k) (pair-lt w a b a_fits b_fits))
-    ∙ ap₂ bit_xor low (twice_up k (pair w c d) ∙ ap (λ (n : ℕ). n * 2 ^ w * 2 ^ w) high)
-    ∙ ap (bit_xor (carryless x0 x0))
-    (sym (ap (λ (z : ℕ). bit_xor (z * 2 ^ w) (carryless x1 x1 * 2 ^ w * 2 ^ w)) mixed ∙ nothing_added w (carryless x1 x1 * 2 ^ w * 2 ^ w)))
-    ∙ sym (karatsuba w x0 x1 x0 x1)
-    ∙ ap₂ carryless (sym (pair_xor w x0 x1 x_fits)) (sym (pair_xor w x0 x1 x_fits))
-  where
-    mixed : bit_xor (bit_xor (carryless (bit_xor x0 x1) (bit_xor x0 x1)) (carryless x0 x0)) (carryless x1 x1) ≡ 0
-    mixed =
-        middle_product x0 x1 x0 x1 ∙ ap (λ (z : ℕ). bit_xor z (carryless x1 x0)) (carryless_comm x0 x1)
-        ∙ xor_self (carryless x1 x0)
 
 -- ---- the product by a tail, half by half
 

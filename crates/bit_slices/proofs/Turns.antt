@@ -1,22 +1,11 @@
 -- A turn of two halves: an exchange of the highest bit, and turns of both.
-use Rattle.std.proofs.Common.{◌≡◌, ℕ, suc, ◌+◌, ◌-◌, ◌*◌, ◌<◌, ◌≤◌, ◌^◌, ◌⊎◌, inl, inr, sym, ◌∙◌, ap, ap₂, arith}
+use Rattle.std.proofs.Common.{◌≡◌, ℕ, suc, ◌+◌, ◌-◌, ◌*◌, ◌<◌, ◌≤◌, ◌^◌, ◌⊎◌, inl, inr, sym, ◌∙◌, ap, arith}
 use Rattle.std.specs.Int.{bit_at}
 use Rattle.std.proofs.lemmas.Bool.{cases_lt}
 use Rattle.std.proofs.lemmas.Nat.Bits.{bit_at_cat_high, bit_at_cat_low}
 use native.Mathlib.Nat.{pow-suc, suc-mul, mul_assoc}
 use Rattle.field_base.specs.Quadratic.{pair}
 use Rattle.bit_slices.specs.Layout.{AreLanesExchanged, IsTurned}
-
--- halves exchanged are exchanged as one
-pub exchanged_pairs : (w j : ℕ) (a0 a1 b0 b1 c0 c1 d0 d1 : ℕ → ℕ) → AreLanesExchanged j a0 b0 c0 d0 → AreLanesExchanged j a1 b1 c1 d1
-    → AreLanesExchanged j (λ l. pair w (a0 l) (a1 l)) (λ l. pair w (b0 l) (b1 l)) (λ l. pair w (c0 l) (c1 l)) (λ l. pair w (d0 l) (d1 l))
-exchanged_pairs w j a0 a1 b0 b1 c0 c1 d0 d1 low high =
-    record {
-      low_even = λ h r fits. ap₂ (pair w) (low.low_even h r fits) (high.low_even h r fits);
-      low_odd = λ h r fits. ap₂ (pair w) (low.low_odd h r fits) (high.low_odd h r fits);
-      high_even = λ h r fits. ap₂ (pair w) (low.high_even h r fits) (high.high_even h r fits);
-      high_odd = λ h r fits. ap₂ (pair w) (low.high_odd h r fits) (high.high_odd h r fits);
-    }
 
 -- the exchange, and then both turns
 pub turned_pairs : (k : ℕ) (a b c d e f : ℕ → ℕ) → AreLanesExchanged k a b c d → IsTurned k c e → IsTurned k d f

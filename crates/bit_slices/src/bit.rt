@@ -110,16 +110,6 @@ impl<V: Vector> Sliced for Bit<V> {
     }
 
     #[inline(always)]
-    fn set_quotient_by_root(&mut self, x: &Bit<V>) {
-        *self = *x;
-    }
-
-    #[inline(always)]
-    fn set_sqrt(&mut self, x: &Bit<V>) {
-        *self = *x;
-    }
-
-    #[inline(always)]
     fn exchange(x: &mut Bit<V>, y: &mut Bit<V>, level: usize) {
         if level == 6 {
             let (even, odd) = x.words.exchange_words(y.words);
@@ -154,12 +144,6 @@ impl<V: Vector> SlicedPolynomials<V> for Bit<V> {
     #[inline(always)]
     fn set_carryless_product(low: &mut Bit<V>, high: &mut Bit<V>, x: &Bit<V>, y: &Bit<V>) {
         low.words = product_of(x.words, y.words);
-        *high = Bit::<V>::zeros();
-    }
-
-    #[inline(always)]
-    fn set_carryless_square(low: &mut Bit<V>, high: &mut Bit<V>, x: &Bit<V>) {
-        *low = *x;
         *high = Bit::<V>::zeros();
     }
 

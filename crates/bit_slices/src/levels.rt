@@ -1,7 +1,8 @@
 // Written by scripts/make_level_impls.py; do not edit.
-// The levels of 8 to 128 bits by slices of bits. Each is a type of its own whose products, squares, inverses, roots and transpositions are
+// The levels of 8 to 128 bits by slices of bits. Each is a type of its own whose products, squares, inverses and transpositions are
 // called and not put in line: so LLVM compiles, and the checker names, each level once.
-ghost use Rattle.bit_slices.specs.Called.{lanes_8, lanes_8-lt, lanes_16, lanes_16-lt, lanes_32, lanes_32-lt, lanes_64, lanes_64-lt, lanes_128, lanes_128-lt};
+ghost use Rattle.bit_slices.specs.Called.{lanes_8, lanes_16, lanes_32, lanes_64, lanes_128};
+ghost use Rattle.bit_slices.specs.Called.{lanes_8-lt, lanes_16-lt, lanes_32-lt, lanes_64-lt, lanes_128-lt};
 ghost use Rattle.std.specs.Prelude.{◌≡◌, ◌<◌, ◌^◌, ℕ, refl};
 
 use crate::bit::Bit;
@@ -86,18 +87,6 @@ impl<V: Vector> Sliced for Slices8<V> {
 
     #[inline(always)]
     #[tactic(auto, unfolding(crate::specs::Called::lanes_8))]
-    fn set_quotient_by_root(&mut self, x: &Slices8<V>) {
-        self.inner.set_quotient_by_root(&x.inner);
-    }
-
-    #[inline(never)]
-    #[tactic(auto, unfolding(crate::specs::Called::lanes_8))]
-    fn set_sqrt(&mut self, x: &Slices8<V>) {
-        self.inner.set_sqrt(&x.inner);
-    }
-
-    #[inline(always)]
-    #[tactic(auto, unfolding(crate::specs::Called::lanes_8))]
     fn exchange(x: &mut Slices8<V>, y: &mut Slices8<V>, level: usize) {
         Sliced::exchange(&mut x.inner, &mut y.inner, level);
     }
@@ -138,12 +127,6 @@ impl<V: Vector> SlicedPolynomials<V> for Slices8<V> {
             &x.inner,
             &y.inner,
         );
-    }
-
-    #[inline(always)]
-    #[tactic(auto, unfolding(crate::specs::Called::lanes_8))]
-    fn set_carryless_square(low: &mut Slices8<V>, high: &mut Slices8<V>, x: &Slices8<V>) {
-        SlicedPolynomials::set_carryless_square(&mut low.inner, &mut high.inner, &x.inner);
     }
 
     #[inline(never)]
@@ -232,18 +215,6 @@ impl<V: Vector> Sliced for Slices16<V> {
 
     #[inline(always)]
     #[tactic(auto, unfolding(crate::specs::Called::lanes_16))]
-    fn set_quotient_by_root(&mut self, x: &Slices16<V>) {
-        self.inner.set_quotient_by_root(&x.inner);
-    }
-
-    #[inline(never)]
-    #[tactic(auto, unfolding(crate::specs::Called::lanes_16))]
-    fn set_sqrt(&mut self, x: &Slices16<V>) {
-        self.inner.set_sqrt(&x.inner);
-    }
-
-    #[inline(always)]
-    #[tactic(auto, unfolding(crate::specs::Called::lanes_16))]
     fn exchange(x: &mut Slices16<V>, y: &mut Slices16<V>, level: usize) {
         Sliced::exchange(&mut x.inner, &mut y.inner, level);
     }
@@ -284,12 +255,6 @@ impl<V: Vector> SlicedPolynomials<V> for Slices16<V> {
             &x.inner,
             &y.inner,
         );
-    }
-
-    #[inline(always)]
-    #[tactic(auto, unfolding(crate::specs::Called::lanes_16))]
-    fn set_carryless_square(low: &mut Slices16<V>, high: &mut Slices16<V>, x: &Slices16<V>) {
-        SlicedPolynomials::set_carryless_square(&mut low.inner, &mut high.inner, &x.inner);
     }
 
     #[inline(always)]
@@ -378,18 +343,6 @@ impl<V: Vector> Sliced for Slices32<V> {
 
     #[inline(always)]
     #[tactic(auto, unfolding(crate::specs::Called::lanes_32))]
-    fn set_quotient_by_root(&mut self, x: &Slices32<V>) {
-        self.inner.set_quotient_by_root(&x.inner);
-    }
-
-    #[inline(never)]
-    #[tactic(auto, unfolding(crate::specs::Called::lanes_32))]
-    fn set_sqrt(&mut self, x: &Slices32<V>) {
-        self.inner.set_sqrt(&x.inner);
-    }
-
-    #[inline(always)]
-    #[tactic(auto, unfolding(crate::specs::Called::lanes_32))]
     fn exchange(x: &mut Slices32<V>, y: &mut Slices32<V>, level: usize) {
         Sliced::exchange(&mut x.inner, &mut y.inner, level);
     }
@@ -430,12 +383,6 @@ impl<V: Vector> SlicedPolynomials<V> for Slices32<V> {
             &x.inner,
             &y.inner,
         );
-    }
-
-    #[inline(always)]
-    #[tactic(auto, unfolding(crate::specs::Called::lanes_32))]
-    fn set_carryless_square(low: &mut Slices32<V>, high: &mut Slices32<V>, x: &Slices32<V>) {
-        SlicedPolynomials::set_carryless_square(&mut low.inner, &mut high.inner, &x.inner);
     }
 
     #[inline(always)]
@@ -524,18 +471,6 @@ impl<V: Vector> Sliced for Slices64<V> {
 
     #[inline(always)]
     #[tactic(auto, unfolding(crate::specs::Called::lanes_64))]
-    fn set_quotient_by_root(&mut self, x: &Slices64<V>) {
-        self.inner.set_quotient_by_root(&x.inner);
-    }
-
-    #[inline(never)]
-    #[tactic(auto, unfolding(crate::specs::Called::lanes_64))]
-    fn set_sqrt(&mut self, x: &Slices64<V>) {
-        self.inner.set_sqrt(&x.inner);
-    }
-
-    #[inline(always)]
-    #[tactic(auto, unfolding(crate::specs::Called::lanes_64))]
     fn exchange(x: &mut Slices64<V>, y: &mut Slices64<V>, level: usize) {
         Sliced::exchange(&mut x.inner, &mut y.inner, level);
     }
@@ -576,12 +511,6 @@ impl<V: Vector> SlicedPolynomials<V> for Slices64<V> {
             &x.inner,
             &y.inner,
         );
-    }
-
-    #[inline(always)]
-    #[tactic(auto, unfolding(crate::specs::Called::lanes_64))]
-    fn set_carryless_square(low: &mut Slices64<V>, high: &mut Slices64<V>, x: &Slices64<V>) {
-        SlicedPolynomials::set_carryless_square(&mut low.inner, &mut high.inner, &x.inner);
     }
 
     #[inline(always)]
@@ -670,18 +599,6 @@ impl<V: Vector> Sliced for Slices128<V> {
 
     #[inline(always)]
     #[tactic(auto, unfolding(crate::specs::Called::lanes_128))]
-    fn set_quotient_by_root(&mut self, x: &Slices128<V>) {
-        self.inner.set_quotient_by_root(&x.inner);
-    }
-
-    #[inline(never)]
-    #[tactic(auto, unfolding(crate::specs::Called::lanes_128))]
-    fn set_sqrt(&mut self, x: &Slices128<V>) {
-        self.inner.set_sqrt(&x.inner);
-    }
-
-    #[inline(always)]
-    #[tactic(auto, unfolding(crate::specs::Called::lanes_128))]
     fn exchange(x: &mut Slices128<V>, y: &mut Slices128<V>, level: usize) {
         Sliced::exchange(&mut x.inner, &mut y.inner, level);
     }
@@ -722,12 +639,6 @@ impl<V: Vector> SlicedPolynomials<V> for Slices128<V> {
             &x.inner,
             &y.inner,
         );
-    }
-
-    #[inline(always)]
-    #[tactic(auto, unfolding(crate::specs::Called::lanes_128))]
-    fn set_carryless_square(low: &mut Slices128<V>, high: &mut Slices128<V>, x: &Slices128<V>) {
-        SlicedPolynomials::set_carryless_square(&mut low.inner, &mut high.inner, &x.inner);
     }
 
     #[inline(always)]

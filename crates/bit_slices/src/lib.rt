@@ -23,8 +23,7 @@ pub use crate::pair::Pair;
 pub use crate::polynomials::SlicedPolynomials;
 pub use crate::sliced::Sliced;
 pub use crate::slices::{
-    PolynomialWord, SlicedWord, invert_each, multiply_each, multiply_polynomials_each, sqrt_each,
-    square_each, square_polynomials_each,
+    PolynomialWord, SlicedWord, invert_each, multiply_each, multiply_polynomials_each,
 };
 pub use crate::tails::Tail;
 pub use crate::vector::Vector;

@@ -1,4 +1,4 @@
-// Products and squares of blocks modulo two polynomials, each x^w and a tail of low degree.
+// Products of blocks modulo two polynomials, each x^w and a tail of low degree.
 #![tactic(auto, unfolding(crate::specs::Called::lanes_8, crate::specs::Called::lanes_16, crate::specs::Called::lanes_32, crate::specs::Called::lanes_64, crate::specs::Called::lanes_128))]
 
 ghost use Rattle.std.specs.Prelude.{◌≡◌, ◌<◌, ◌-◌, ◌/◌, ◌^◌, ℕ, bit_xor};
@@ -12,7 +12,7 @@ use crate::polynomials::{SlicedPolynomials, holds_elements};
 use crate::sliced::Sliced;
 use crate::tails::{GhashTail, Poly64Tail, Tail};
 use crate::vector::Vector;
-use word_carryless::{multiply_mod_64, multiply_mod_128, split_128, square_mod_64, square_mod_128};
+use word_carryless::{multiply_mod_64, multiply_mod_128, split_128};
 
 /// Blocks of polynomials modulo one of as high a degree as a block has slices.
 pub trait PolynomialBlock<V: Vector>: SlicedPolynomials<V> {
@@ -32,10 +32,6 @@ pub trait PolynomialBlock<V: Vector>: SlicedPolynomials<V> {
     /// The product of two numbers modulo the polynomial.
     fn multiply_numbers(x: u128, y: u128) -> u128
         ensures { result ≡ mul_mod (2 ^ Self.LEVEL) modulus x y };
-
-    /// The square of a number modulo the polynomial.
-    fn square_number(x: u128) -> u128
-        ensures { result ≡ mul_mod (2 ^ Self.LEVEL) modulus x x };
 
     ghost tail_law: { IsTail (2 ^ Self.LEVEL) modulus Self.Tail.number };
 }
@@ -69,12 +65,6 @@ impl<V: Vector> PolynomialBlock<V> for Slices64<V> {
         multiply_mod_64(left, right) as u128
     }
 
-    #[inline]
-    fn square_number(x: u128) -> u128 {
-        let (low, _) = split_128(x);
-        square_mod_64(low) as u128
-    }
-
     ghost tail_law = { tail_of_poly64 };
 }
 
@@ -99,11 +89,6 @@ impl<V: Vector> PolynomialBlock<V> for Slices128<V> {
     #[inline]
     fn multiply_numbers(x: u128, y: u128) -> u128 {
         multiply_mod_128(x, y)
-    }
-
-    #[inline]
-    fn square_number(x: u128) -> u128 {
-        square_mod_128(x)
     }
 
     ghost tail_law = { tail_of_ghash };
@@ -131,16 +116,5 @@ pub(crate) fn multiply_block<V: Vector, B: PolynomialBlock<V>>(block: &mut B, y:
     let x = *block;
     let mut high = *block;
     B::set_carryless_product(block, &mut high, &x, y);
-    reduce(block, &mut high);
-}
-
-/// Squares each lane, modulo the polynomial.
-#[inline(always)]
-pub(crate) fn square_block<V: Vector, B: PolynomialBlock<V>>(block: &mut B)
-    ensures { (l : ℕ) → B.lane block.new l ≡ mul_mod (2 ^ B.LEVEL) B.modulus (B.lane block.old l) (B.lane block.old l) }
-{
-    let x = *block;
-    let mut high = *block;
-    B::set_carryless_square(block, &mut high, &x);
     reduce(block, &mut high);
 }

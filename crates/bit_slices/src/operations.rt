@@ -6,7 +6,7 @@ ghost use Rattle.field_base.specs.Remainder.{mul_mod};
 ghost use Rattle.field_base.specs.Tower.{tower_mul};
 
 use crate::blocks::load;
-use crate::moduli::{PolynomialBlock, multiply_block, square_block};
+use crate::moduli::{PolynomialBlock, multiply_block};
 use crate::sliced::Sliced;
 use crate::vector::Vector;
 use crate::word::TowerWord;
@@ -76,34 +76,6 @@ impl<W: TowerWord, T: Sliced> Operation<W, T> for Product {
         is d ∙ ap (λ (w : W). tower_mul W.LEVEL x (W.number w)) (same reached d) };
 }
 
-/// The square.
-pub struct Square;
-
-impl<W: TowerWord, T: Sliced> Operation<W, T> for Square {
-    ghost reaches = { λ others k. Unit {0} };
-
-    ghost gives = { λ others k x y. y ≡ tower_mul W.LEVEL x x };
-
-    #[inline(always)]
-    fn change_block(block: &mut T, _others: &[W], _start: usize) {
-        block.square();
-    }
-
-    #[inline(always)]
-    fn result_at(word: W, _others: &[W], _place: usize) -> W {
-        word.square()
-    }
-
-    #[inline(always)]
-    fn pays(_count: usize) -> bool {
-        false
-    }
-
-    ghost full_law = { λ others k inside. tt };
-
-    ghost place_law = { λ others beside k n reached same x y is. is };
-}
-
 /// The inverse, and 0 for 0.
 pub struct Inverse;
 
@@ -126,35 +98,6 @@ impl<W: TowerWord, T: Sliced> Operation<W, T> for Inverse {
     #[inline(always)]
     fn pays(count: usize) -> bool {
         count >= 64 || W::BITS > 16 && count >= 32
-    }
-
-    ghost full_law = { λ others k inside. tt };
-
-    ghost place_law = { λ others beside k n reached same x y is. is };
-}
-
-/// The square root.
-pub struct SquareRoot;
-
-impl<W: TowerWord, T: Sliced> Operation<W, T> for SquareRoot {
-    ghost reaches = { λ others k. Unit {0} };
-
-    ghost gives = { λ others k x y. (y < 2 ^ 2 ^ W.LEVEL) × (tower_mul W.LEVEL y y ≡ x) };
-
-    #[inline(always)]
-    fn change_block(block: &mut T, _others: &[W], _start: usize) {
-        let element = *block;
-        block.set_sqrt(&element);
-    }
-
-    #[inline(always)]
-    fn result_at(word: W, _others: &[W], _place: usize) -> W {
-        word.sqrt()
-    }
-
-    #[inline(always)]
-    fn pays(_count: usize) -> bool {
-        false
     }
 
     ghost full_law = { λ others k inside. tt };
@@ -191,32 +134,4 @@ impl<V: Vector, W: TowerWord, T: PolynomialBlock<V>> Operation<W, T> for Polynom
 
     ghost place_law = { λ others beside k n reached same x y is d.
         is d ∙ ap (λ (w : W). mul_mod (2 ^ W.LEVEL) T.modulus x (W.number w)) (same reached d) };
-}
-
-/// The square of polynomials, modulo that of the block.
-pub struct PolynomialSquare<V>(PhantomData<V>);
-
-impl<V: Vector, W: TowerWord, T: PolynomialBlock<V>> Operation<W, T> for PolynomialSquare<V> {
-    ghost reaches = { λ others k. Unit {0} };
-
-    ghost gives = { λ others k x y. y ≡ mul_mod (2 ^ W.LEVEL) T.modulus x x };
-
-    #[inline(always)]
-    fn change_block(block: &mut T, _others: &[W], _start: usize) {
-        square_block(block);
-    }
-
-    #[inline(always)]
-    fn result_at(word: W, _others: &[W], _place: usize) -> W {
-        W::of_number(T::square_number(word.to_number()))
-    }
-
-    #[inline(always)]
-    fn pays(_count: usize) -> bool {
-        false
-    }
-
-    ghost full_law = { λ others k inside. tt };
-
-    ghost place_law = { λ others beside k n reached same x y is. is };
 }

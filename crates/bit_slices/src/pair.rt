@@ -102,23 +102,6 @@ impl<T: Sliced> Sliced for Pair<T> {
     }
 
     #[inline(always)]
-    fn set_quotient_by_root(&mut self, x: &Pair<T>) {
-        self.low = x.high;
-        self.low.add_by_root(&x.low);
-        self.high = x.low;
-    }
-
-    #[inline(always)]
-    fn set_sqrt(&mut self, x: &Pair<T>) {
-        let mut quotient = x.high;
-        quotient.set_quotient_by_root(&x.high);
-        let mut sum = x.low;
-        sum.add(&quotient);
-        self.low.set_sqrt(&sum);
-        self.high.set_sqrt(&quotient);
-    }
-
-    #[inline(always)]
     fn exchange(x: &mut Pair<T>, y: &mut Pair<T>, level: usize) {
         T::exchange(&mut x.low, &mut y.low, level);
         T::exchange(&mut x.high, &mut y.high, level);
@@ -164,12 +147,6 @@ impl<V: Vector, T: SlicedPolynomials<V>> SlicedPolynomials<V> for Pair<T> {
         mixed.high.add(&high.high);
         high.low.set_sum(&low.high, &mixed.high);
         low.high.add(&mixed.low);
-    }
-
-    #[inline(always)]
-    fn set_carryless_square(low: &mut Pair<T>, high: &mut Pair<T>, x: &Pair<T>) {
-        T::set_carryless_square(&mut low.low, &mut low.high, &x.low);
-        T::set_carryless_square(&mut high.low, &mut high.high, &x.high);
     }
 
     #[inline(always)]

@@ -16,11 +16,6 @@ pub trait SlicedPolynomials<V: Vector>: Sliced {
         ensures { (l : ℕ) → pair (2 ^ Self.LEVEL) (Self.lane low.new l) (Self.lane high.new l)
             ≡ carryless (Self.lane x.now l) (Self.lane y.now l) };
 
-    /// Sets each lane of `low` and of `high` to the low and the high half of the square.
-    fn set_carryless_square(low: &mut Self, high: &mut Self, x: &Self)
-        ensures { (l : ℕ) → pair (2 ^ Self.LEVEL) (Self.lane low.new l) (Self.lane high.new l)
-            ≡ carryless (Self.lane x.now l) (Self.lane x.now l) };
-
     /// Adds to each lane what the product by the tail, and what is carried in, have within the block, and leaves what is past it to be
     /// carried on.
     fn add_by_tail<M: Tail>(&mut self, x: &Self, carry: &mut Slices8<V>)

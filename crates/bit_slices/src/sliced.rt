@@ -56,14 +56,6 @@ pub trait Sliced: Copy {
     fn set_inverse(&mut self, x: &Self)
         ensures { (l : ℕ) → IsInverseOrZero (tower_mul LEVEL) (lane x.now l) (lane self.new l) };
 
-    /// Sets each lane to the quotient by the root that the level adjoins.
-    fn set_quotient_by_root(&mut self, x: &Self)
-        ensures { (l : ℕ) → tower_mul LEVEL (root LEVEL) (lane self.new l) ≡ lane x.now l };
-
-    /// Sets each lane to the square root.
-    fn set_sqrt(&mut self, x: &Self)
-        ensures { (l : ℕ) → tower_mul LEVEL (lane self.new l) (lane self.new l) ≡ lane x.now l };
-
     /// The lanes of x whose numbers have the bit `level` set, and those of y whose numbers have not, change places.
     fn exchange(x: &mut Self, y: &mut Self, level: usize)
         requires { level < 7 }

@@ -1,4 +1,4 @@
-// Products, squares, inverses and square roots of slices of words, in place.
+// Products and inverses of slices of words, in place.
 ghost use Rattle.std.specs.Prelude.{◌≡◌, ◌<◌, ◌≤◌, ◌^◌, ℕ, get_or, length, refl};
 ghost use Rattle.field_base.specs.Field.{IsInverseOrZero};
 ghost use Rattle.field_base.specs.Remainder.{mul_mod};
@@ -7,9 +7,7 @@ ghost use Rattle.field_base.specs.Tower.{tower_mul};
 use crate::blocks::change_each;
 use crate::levels::{Slices64, Slices128};
 use crate::moduli::PolynomialBlock;
-use crate::operations::{
-    Inverse, PolynomialProduct, PolynomialSquare, Product, Square, SquareRoot,
-};
+use crate::operations::{Inverse, PolynomialProduct, Product};
 use crate::sliced::Sliced;
 use crate::vector::Vector;
 use crate::word::TowerWord;
@@ -33,15 +31,6 @@ pub fn multiply_each<V: Vector, W: SlicedWord<V>>(words: &mut [W], factors: &[W]
     change_each::<W, W::Block, Product>(words, factors);
 }
 
-/// Squares each word.
-pub fn square_each<V: Vector, W: SlicedWord<V>>(words: &mut [W])
-    ensures long { length words.new ≡ length words.old }
-    ensures squares { (k : ℕ) → k < length words.new → (d : W) → W.number (get_or words.new k d)
-        ≡ tower_mul W.LEVEL (W.number (get_or words.old k d)) (W.number (get_or words.old k d)) }
-{
-    change_each::<W, W::Block, Square>(words, &[]);
-}
-
 /// Inverts each word, and leaves 0 at 0.
 pub fn invert_each<V: Vector, W: SlicedWord<V>>(words: &mut [W])
     ensures long { length words.new ≡ length words.old }
@@ -50,16 +39,6 @@ pub fn invert_each<V: Vector, W: SlicedWord<V>>(words: &mut [W])
         → IsInverseOrZero (tower_mul W.LEVEL) (W.number (get_or words.old k d)) (W.number (get_or words.new k d)) }
 {
     change_each::<W, W::Block, Inverse>(words, &[]);
-}
-
-/// Takes the square root of each word.
-pub fn sqrt_each<V: Vector, W: SlicedWord<V>>(words: &mut [W])
-    ensures long { length words.new ≡ length words.old }
-    ensures fit { (k : ℕ) → k < length words.new → (d : W) → W.number (get_or words.new k d) < 2 ^ 2 ^ W.LEVEL }
-    ensures roots { (k : ℕ) → k < length words.new → (d : W)
-        → tower_mul W.LEVEL (W.number (get_or words.new k d)) (W.number (get_or words.new k d)) ≡ W.number (get_or words.old k d) }
-{
-    change_each::<W, W::Block, SquareRoot>(words, &[]);
 }
 
 /// A word that is a polynomial over GF(2), and the slices that hold as many of its kind as a vector `V` has bits.
@@ -91,13 +70,4 @@ pub fn multiply_polynomials_each<V: Vector, W: PolynomialWord<V>>(words: &mut [W
         ≡ mul_mod (2 ^ W.LEVEL) W.Polynomials.modulus (W.number (get_or words.old k d)) (W.number (get_or factors.now k d)) }
 {
     change_each::<W, W::Polynomials, PolynomialProduct<V>>(words, factors);
-}
-
-/// Squares each polynomial.
-pub fn square_polynomials_each<V: Vector, W: PolynomialWord<V>>(words: &mut [W])
-    ensures long { length words.new ≡ length words.old }
-    ensures squares { (k : ℕ) → k < length words.new → (d : W) → W.number (get_or words.new k d)
-        ≡ mul_mod (2 ^ W.LEVEL) W.Polynomials.modulus (W.number (get_or words.old k d)) (W.number (get_or words.old k d)) }
-{
-    change_each::<W, W::Polynomials, PolynomialSquare<V>>(words, &[]);
 }

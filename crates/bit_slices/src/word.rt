@@ -38,19 +38,10 @@ pub trait TowerWord: Copy {
     fn multiply(self, other: Self) -> Self
         ensures { number result ≡ tower_mul LEVEL (number self) (number other) };
 
-    /// The square.
-    fn square(self) -> Self
-        ensures { number result ≡ tower_mul LEVEL (number self) (number self) };
-
     /// The inverse, and 0 for 0.
     fn invert(self) -> Self
         ensures fits { number result < 2 ^ 2 ^ LEVEL }
         ensures inverse { IsInverseOrZero (tower_mul LEVEL) (number self) (number result) };
-
-    /// The square root.
-    fn sqrt(self) -> Self
-        ensures fits { number result < 2 ^ 2 ^ LEVEL }
-        ensures root { tower_mul LEVEL (number result) (number result) ≡ number self };
 
     // Levels of at most 128 bits, of which a whole number of words has 128.
     ghost few_law: { LEVEL ≤ 7 };

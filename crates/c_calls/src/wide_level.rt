@@ -40,18 +40,8 @@ impl TowerWord for Wide {
     }
 
     #[inline]
-    fn square(self) -> Wide {
-        Wide::of_stored(Bits128::square(self.stored()))
-    }
-
-    #[inline]
     fn invert(self) -> Wide {
         Wide::of_stored(Bits128::invert(self.stored()))
-    }
-
-    #[inline]
-    fn sqrt(self) -> Wide {
-        Wide::of_stored(Bits128::sqrt(self.stored()))
     }
 
     ghost few_law = { lit≤ tt };

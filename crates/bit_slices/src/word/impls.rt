@@ -35,18 +35,8 @@ impl TowerWord for u8 {
     }
 
     #[inline]
-    fn square(self) -> u8 {
-        Bits8::square(self)
-    }
-
-    #[inline]
     fn invert(self) -> u8 {
         Bits8::invert(self)
-    }
-
-    #[inline]
-    fn sqrt(self) -> u8 {
-        Bits8::sqrt(self)
     }
 
     ghost few_law = { lit≤ tt };
@@ -87,18 +77,8 @@ impl TowerWord for u16 {
     }
 
     #[inline]
-    fn square(self) -> u16 {
-        Bits16::square(self)
-    }
-
-    #[inline]
     fn invert(self) -> u16 {
         Bits16::invert(self)
-    }
-
-    #[inline]
-    fn sqrt(self) -> u16 {
-        Bits16::sqrt(self)
     }
 
     ghost few_law = { lit≤ tt };
@@ -139,18 +119,8 @@ impl TowerWord for u32 {
     }
 
     #[inline]
-    fn square(self) -> u32 {
-        Bits32::square(self)
-    }
-
-    #[inline]
     fn invert(self) -> u32 {
         Bits32::invert(self)
-    }
-
-    #[inline]
-    fn sqrt(self) -> u32 {
-        Bits32::sqrt(self)
     }
 
     ghost few_law = { lit≤ tt };
@@ -191,18 +161,8 @@ impl TowerWord for u64 {
     }
 
     #[inline]
-    fn square(self) -> u64 {
-        Bits64::square(self)
-    }
-
-    #[inline]
     fn invert(self) -> u64 {
         Bits64::invert(self)
-    }
-
-    #[inline]
-    fn sqrt(self) -> u64 {
-        Bits64::sqrt(self)
     }
 
     ghost few_law = { lit≤ tt };
@@ -243,18 +203,8 @@ impl TowerWord for u128 {
     }
 
     #[inline]
-    fn square(self) -> u128 {
-        Bits128::square(self)
-    }
-
-    #[inline]
     fn invert(self) -> u128 {
         Bits128::invert(self)
-    }
-
-    #[inline]
-    fn sqrt(self) -> u128 {
-        Bits128::sqrt(self)
     }
 
     ghost few_law = { lit≤ tt };
