@@ -5,10 +5,10 @@
 
 LINES is a file of the calculator's lines, and ANSWERS one of the answers that another implementation of the same
 calculator gave to them, a line for a line. Of each of the calculator's fields and each operation the first 57 lines that
-were answered are kept, and of each error the first 20: with 8,000 lines drawn 3,540 in all, in their order. The three lines
-of the worked example stand behind them, the last without a line feed.
+were answered are kept, and of each error the first 20: with 8,000 lines drawn 3,540 in all, in their order. The worked lines of
+worked_lines.py stand behind them, and then the three lines of the worked example, the last without a line feed.
 
-With --check alone it reads both files back, and says whether they hold those 3,543 lines and nothing else.
+With --check alone it reads both files back, and says whether they hold those lines and nothing else.
 """
 
 import collections
@@ -18,6 +18,7 @@ import sys
 
 import fields
 import files
+import worked_lines
 
 FIELDS = [it.name for it in fields.FIELDS]
 OPERATIONS = ["add", "mul", "square", "inv", "sqrt"]
@@ -27,6 +28,9 @@ REFUSED = 20
 # The worked example, which has an empty line and no line feed at its end.
 EXAMPLE = b"t8 mul 10 10\n\nt8 inv 00"
 EXAMPLE_ANSWERS = "41\nerror 1\nnone\n"
+# What stands behind the lines that were drawn.
+END = b"".join(line + b"\n" for line, _ in worked_lines.rows()) + EXAMPLE
+END_ANSWERS = "".join(answer + "\n" for _, answer in worked_lines.rows()) + EXAMPLE_ANSWERS
 FOLDER = files.CRATES / "binfield"
 
 
@@ -71,9 +75,9 @@ def read(lines, answers):
 
 def check():
     lines, answers = read(FOLDER / "stdin", FOLDER / "stdout")
-    if not lines.endswith(EXAMPLE) or not answers.endswith(EXAMPLE_ANSWERS):
-        sys.exit("the worked example does not stand at the end")
-    rows = rows_of(lines.removesuffix(EXAMPLE), answers.removesuffix(EXAMPLE_ANSWERS))
+    if not lines.endswith(END) or not answers.endswith(END_ANSWERS):
+        sys.exit("the worked lines and the worked example do not stand at the end")
+    rows = rows_of(lines.removesuffix(END), answers.removesuffix(END_ANSWERS))
     counts = collections.Counter(kind_of(*row) for row in rows)
     if counts != wanted():
         sys.exit(f"there are {len(rows)} lines, and not as many of each kind as are kept")
@@ -87,8 +91,8 @@ def main():
         return check()
     lines, answers = sys.argv[1:]
     rows = chosen(rows_of(*read(lines, answers)))
-    (FOLDER / "stdin").write_bytes(b"".join(line + b"\n" for line, _ in rows) + EXAMPLE)
-    (FOLDER / "stdout").write_text("".join(answer + "\n" for _, answer in rows) + EXAMPLE_ANSWERS, encoding="ascii")
+    (FOLDER / "stdin").write_bytes(b"".join(line + b"\n" for line, _ in rows) + END)
+    (FOLDER / "stdout").write_text("".join(answer + "\n" for _, answer in rows) + END_ANSWERS, encoding="ascii")
 
 
 if __name__ == "__main__":

@@ -73,7 +73,26 @@ WORKED = [
     ("scaling_matrix 2", "2,4,8,10,20,40,80,1b"),
     ("eval 0,1,0,0,0,0,0,0 10", "1b"),
     ("to_matrix 0,1,0,0,0,0,0,0", "1,4,10,40,1b,6c,ab,9a"),
+    # The identity matrix, and one that reads bit 0 alone.
+    ("to_quadword 1,2,4,8,10,20,40,80", "102040810204080"),
+    ("to_quadword 80,0,0,0,0,0,0,0", "1"),
+    ("byte_lanes apply ff,fe,0,0,0,0,0,0,0,0,0,0,0,0,0,0 1", "80" + ",0" * 15),
 ]
+
+
+def one_at(place, count=16):
+    """A 1 at one place and 0 at the others."""
+    return ",".join("1" if it == place else "0" for it in range(count))
+
+
+def counted(first, end):
+    """Numbers one after the other."""
+    return ",".join(f"{it:x}" for it in range(first, end))
+
+
+HIGHEST = "8" + "0" * 31
+# Cantor vector 1 of the field of GHASH.
+SECOND = "295ac0b1f4731af9676aac9fa4b20b08"
 # The same of the C library.
 WORKED_CALLS = [
     # Values at x of no coefficients, of one, of the highest alone, and of 128 times x^127; and of 1 + x^130 + x^599, where x^128 is 87 and
@@ -85,6 +104,29 @@ WORKED_CALLS = [
     f"g128_evaluate 1,{'0,' * 129}1,{'0,' * 468}1 2 8000088800000000000000000021d",
     # Images of the tower's elements in the byte field of AES.
     "t8_to_r8 2,4,10,13 bc,c,35,88",
+    # A matrix that reads bit 0 alone.
+    "r8_linear_map ff,fe 80,0,0,0,0,0,0,0 80,0",
+    # The highest power times x, its square, and the square root of x.
+    f"g128_multiply {HIGHEST} 2 87",
+    f"g128_square {HIGHEST} c0000000000000000000000000001067",
+    "g128_square_root 2 24924924924924926db6db6db6db6da4",
+    # Slices of the highest power times x.
+    "g128_multiply_by - 2 -",
+    f"g128_multiply_by {HIGHEST} 2 87",
+    f"g128_multiply_by {','.join([HIGHEST] * 17)} 2 {','.join(['87'] * 17)}",
+    "g128_butterfly_forward 5/5 3/6 0",
+    "g128_butterfly_inverse 5/5 6/3 0",
+    # Runs with a 1 at place 1 hold their places, and with one at place 2 half of them; no run holds nothing.
+    f"g128_low_stages {one_at(1)}/{counted(0, 16)} 0,0,0,0 2,4,8,10,20 0",
+    f"g128_low_stages {one_at(1)},{one_at(1)}/{counted(16, 48)} 0,0,0,0 2,4,8,10,20 1",
+    f"g128_low_stages {one_at(2)}/{','.join(f'{it // 2:x}' for it in range(16))} 0,0,0,0 2,4,8,10,20 0",
+    "g128_low_stages -/- 0,0,0,0 2,4,8,10,20 ffffffffffffffff",
+    # Transforms: a constant, the polynomials of the subspaces of 16 and of 8 places, x with a shift of 2, and what a constant comes of.
+    f"g128_transform {one_at(0)}/{','.join(['1'] * 16)} 0",
+    f"g128_transform {one_at(16, 32)}/{','.join(['0'] * 16 + ['1'] * 16)} 0",
+    f"g128_transform {one_at(8, 32)}/{','.join(['0'] * 8 + ['1'] * 8 + [SECOND] * 8 + [SECOND[:-1] + '9'] * 8)} 0",
+    "g128_transform 0,1/2,3 2",
+    f"g128_inverse_transform {','.join(['1'] * 32)}/{one_at(0, 32)} 0",
 ]
 # How many calls stand under the heading of each field.
 CALLS = {"t16": 18, "g128": 27}

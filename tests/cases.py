@@ -9,6 +9,7 @@ import pathlib
 import random
 
 import definitions
+import published
 from definitions import FIELDS, c_library
 
 LONGEST = 257
@@ -17,8 +18,7 @@ REPLAYED = pathlib.Path(__file__).resolve().parent / "replayed_calls.txt"
 STATUS = {name: value for name, value, _ in c_library.STATUSES}
 FUNCTIONS = {name: parameters for name, parameters, _ in c_library.functions()}
 SIZES = {"u8": 1, "u16": 2, "u32": 4, "u64": 8, "u128": 16, "u192": 24, "usize": 8}
-# A place that no call writes, as the programs fill what is only written.
-UNWRITTEN = int.from_bytes(bytes([0xA5] * 8), "little")
+UNWRITTEN = published.UNWRITTEN
 
 
 @dataclasses.dataclass
@@ -491,7 +491,8 @@ def all_cases():
         cases += matrix_cases(field, draw)
     for them in (basis_cases, stage_cases, tag_cases, code_cases, erasure_cases, long_cases):
         cases += them(draw)
-    cases = list(with_second_forms(cases + list(status_cases(cases))))
+    worked = [case(name, *values) for name, *values in published.rows()]
+    cases = list(with_second_forms(cases + list(status_cases(cases)) + worked))
     missing = FUNCTIONS.keys() - {it.name for it in cases}
     assert not missing, f"no case calls {sorted(missing)}"
     return [*cases, *replayed_cases()]

@@ -1,4 +1,5 @@
-//! Tests of what works on bytes: lines of the calculator, byte challengers, Reed-Solomon codes, GHASH and POLYVAL. The crate has nothing to
+//! Tests of what works on bytes: runs of lines over readers, writers and allocators that fail, byte challengers, with doubles that refuse and on the
+//! digests of FIPS 180-4, the memory of Reed-Solomon codes, and the hash of AES-GCM-SIV on the examples of RFC 8452. The crate has nothing to
 //! call.
 #![tactic(auto)]
 

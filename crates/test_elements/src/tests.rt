@@ -1,8 +1,10 @@
-mod arrays;
 mod bits;
+mod fields;
 mod matrices;
-mod matrices_of_bits;
 mod packings;
-mod provers;
 mod slices;
+mod spaces;
+mod texts;
+mod transforms;
+mod types;
 mod zeros;

@@ -1,3 +1,4 @@
+mod challengers;
 mod cheats;
 mod code_words;
 mod openings;

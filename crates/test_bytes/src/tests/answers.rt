@@ -2,7 +2,6 @@ use std::alloc::{AllocError, Global};
 
 mod ends;
 mod faults;
-mod lines;
 mod memory;
 mod runs;
 

@@ -1,4 +1,5 @@
 mod closures;
+mod matrices;
 mod memory;
 mod rows;
 mod text;

@@ -1,37 +1,31 @@
-// Slices as packings: a worked row, and growths that are refused in turn.
+// Slices of elements, and slices as packings. `batch_multiplicative_inverse`, `powers_vec`, `shifted_powers_vec` and `eq_poly` of two or three
+// elements, each granted in a heap with room, and refused in one without; nothing is left behind. `pack_slice` and `packed_powers_vec` of 0 to 9
+// values, each growth refused in turn.
 use field_base::traits::PrimeCharacteristicRing;
 use field_element::Ghash128;
-use field_slices::{pack_slice, packed_powers_vec, sum_of_lanes, unpack_slice};
+use field_slices::{
+    batch_multiplicative_inverse, eq_poly, pack_slice, packed_powers_vec, powers_vec,
+    shifted_powers_vec,
+};
 use linked_list_allocator::LocalHeap;
-use std::alloc::{AllocError, Global};
+use std::alloc::{AllocError, Allocator, Global};
 use std::test::Fail;
 use test_support::{Ending, Growing, Rest, is_refused_in_turn};
 
-/// Whether 1, 2, 3, 4, 5 are the packings of (1, 2) and (3, 4) and the suffix 5, and come back. The lanes of the latter sum to 7.
-fn five_are_packed(alloc: Global) -> Result<bool, AllocError> {
-    let values = [
-        Ghash128::new(1),
-        Ghash128::new(2),
-        Ghash128::new(3),
-        Ghash128::new(4),
-        Ghash128::new(5),
-    ];
-    let (packings, suffix) = pack_slice::<Ghash128, 2, Global>(alloc, &values)?;
-    let mut again = [Ghash128::new(0); 4];
-    unpack_slice(packings.as_slice(), &mut again);
-    Ok(
-        packings.len() == 2
-            && suffix.len() == 1
-            && suffix[0].to_bits() == 5
-            && again[0].to_bits() == 1
-            && again[3].to_bits() == 4
-            && sum_of_lanes(packings[1]).to_bits() == 7,
-    )
+/// Whether every call that takes memory is granted it, or every one refused.
+fn all_are<A: Allocator>(alloc: &A, granted: bool) -> bool {
+    let point = [Ghash128::new(2), Ghash128::new(3)];
+    batch_multiplicative_inverse(alloc, &point).is_ok() == granted
+        && eq_poly(alloc, &point).is_ok() == granted
+        && powers_vec(alloc, point[0], 3).is_ok() == granted
+        && shifted_powers_vec(alloc, point[0], point[1], 3).is_ok() == granted
 }
 
 #[test]
-fn a_slice_of_five(rt: HostRuntime) -> Result<(), Fail> {
-    assert!(rt; five_are_packed(rt.alloc())?);
+fn memory_is_granted_or_refused(rt: HostRuntime) -> Result<(), Fail> {
+    let large = LocalHeap::new(rt.alloc(), 1024)?;
+    let small = LocalHeap::new(rt.alloc(), 16)?;
+    assert!(rt; all_are(&large, true) && all_are(&small, false) && large.used() == 0);
     Ok(())
 }
 

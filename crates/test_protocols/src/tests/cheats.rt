@@ -1,12 +1,9 @@
 // Provers of sum-check that cheat, over SHA-256. A proof is accepted if the claim that `verify` leaves is the value of the terms at the
-// point, by the tables that the verifier has.
-//
-// - Honest messages for another claim; a message that gives another sum, of the first, the second and the third round; tables that differ
-//   at one corner; terms of which one coefficient differs; a proof that is replayed in another transcript: refused.
-// - Over a field of 256 elements, a message for a false sum whose challenge is a root of what it differs by from the honest one: accepted,
-//   as about one message of 256 is.
+// point, by the tables that the verifier has. Honest messages are accepted. Refused are they for another claim; a message that gives another
+// sum, of the first, the second and the third round; tables that differ at one corner; terms of which one coefficient differs; a proof that is
+// replayed in another transcript.
 use field_base::traits::{PrimeCharacteristicRing, TowerLevel};
-use field_element::{BinaryField8, BinaryField128};
+use field_element::BinaryField128;
 use field_slices::evaluate_multilinear;
 use protocols::ProtocolError;
 use protocols::sumcheck::{prove, verify};
@@ -17,8 +14,6 @@ use transcript_elements::BinaryChallenger;
 use transcripts::{HashChallenger, Sha256Hasher};
 
 type Wide = BinaryField128;
-
-type Byte = BinaryField8;
 
 type Hashed<F> = BinaryChallenger<F, HashChallenger<Sha256Hasher>>;
 
@@ -152,46 +147,4 @@ fn only_an_honest_proof_is_accepted(rt: HostRuntime) -> Result<(), Fail> {
         );
     }
     Ok(())
-}
-
-// Of the one table with the values 5 and 9, whose sum is 12: whether a message for the sum `claim`, which gives the table's value at 0 as
-// `first`, is accepted.
-fn is_saved(
-    alloc: Global,
-    terms: &[Term<Byte>],
-    claim: u8,
-    first: u8,
-) -> Result<bool, ProtocolError> {
-    let mut verifier: Hashed<Byte> = BinaryChallenger::from_hasher(Vec::new(alloc), Sha256Hasher);
-    let (claim, first) = (Byte::from_repr(claim), Byte::from_repr(first));
-    let reduced = verify(alloc, &mut verifier, 1, 1, terms, claim, &[first])?;
-    let point = reduced.point.as_slice();
-    if point.len() != 1 {
-        return Ok(false);
-    }
-    let table = [Byte::from_repr(5), Byte::from_repr(9)];
-    Ok(reduced.claim == evaluate_multilinear(&table, point))
-}
-
-// How many of all the messages for the sums 0 to 7, which are false, are accepted.
-fn saved_count(alloc: Global) -> Result<usize, ProtocolError> {
-    let Some(term) = Term::new(Byte::ONE, &[0]) else {
-        return Err(ProtocolError::Shape);
-    };
-    let terms = [term];
-    let mut count: usize = 0;
-    for claim in 0..8u8 {
-        for first in 0..=255u8 {
-            if is_saved(alloc, &terms, claim, first)? {
-                count = count.saturating_add(1);
-            }
-        }
-    }
-    Ok(count)
-}
-
-#[test]
-fn a_challenge_that_is_a_root_saves_a_lie(rt: HostRuntime) {
-    let saved = saved_count(rt.alloc());
-    assert!(rt; saved.is_ok_and(|count| 0 < count && count < 40));
 }

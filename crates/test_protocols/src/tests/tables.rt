@@ -1,7 +1,7 @@
-// A table of four rows of four elements that is committed to by the columns of its rows' code words at the rate 1/2, over fields of 16 and
-// 128 bits, and what a cheating prover sends of it. The table and the point are drawn from the seeds 20261127 and 20261128.
+// A table of four rows of four elements that is committed to by the columns of its rows' code words at the rate 1/2, over a field of 16
+// bits, and what a cheating prover sends of it. The table and the point are drawn from the seeds 20261127 and 20261128.
 use additive_transforms::element_point;
-use field_element::{BinaryField16, Ghash128};
+use field_element::BinaryField16;
 use field_slices::evaluate_multilinear;
 use protocols::tables::{column_values, commit_table, open_columns, verify_columns};
 use std::alloc::{AllocError, Global};
@@ -104,5 +104,4 @@ fn each_column_decides<F: ByteLevel>(alloc: Global) -> Result<bool, AllocError> 
 #[test]
 fn rows_of_committed_tables_by_each_column(rt: HostRuntime) {
     assert!(rt; each_column_decides::<BinaryField16>(rt.alloc()) == Ok(true));
-    assert!(rt; each_column_decides::<Ghash128>(rt.alloc()) == Ok(true));
 }

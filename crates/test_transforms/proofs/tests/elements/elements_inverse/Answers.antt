@@ -1,8 +1,0 @@
-use Rattle.std.proofs.Common.{length}
-use Rattle.test_transforms.proofs.Sizes.{few_places}
-use Rattle.test_transforms.proofs.tests.elements.elements_inverse.Goals as goal
-
-pub inverse_with-requires : goal.inverse_with-requires
-inverse_with-requires c =
-    few_places c.args.m (length c.args.elements.now) c.args.kernel.now.products c.if-m-gt12.false c.if-elements-m.false
-    c.if-kernel-gt1000.false

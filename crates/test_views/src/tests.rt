@@ -1,5 +1,0 @@
-mod bytes;
-mod cut;
-mod spaces;
-mod texts;
-mod types;

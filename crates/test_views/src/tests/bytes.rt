@@ -1,2 +1,0 @@
-mod short;
-mod side_by_side;
