@@ -27,7 +27,8 @@ ghost use Rattle.std.proofs.Common.{lit≤};
 ghost use Rattle.many_words.specs.Places.{level_in_planes};
 
 use super::FieldInPlanes;
-use additive_transforms::{ByteMultiples, HalfMultiples, Holds, Pair};
+use additive_transforms::{ByteMultiples, HalfMultiples, Pair};
+use field_base::Holds;
 use std::simd::prelude::*;
 use word_tower::{Bits8, Bits16, Bits32, Bits64, Bits128, Tower};
 """

@@ -53,6 +53,9 @@ impl Stored for u$bits {
         $of_index
     }
 
+    #[inline(always)]
+    fn words_fit(words: &[u$bits]) {}
+
     ghost eq_law = { Prim.search rules };
 
     ghost room_law = { few_fit 1024 $bytes (lit< tt) };

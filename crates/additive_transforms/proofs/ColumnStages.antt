@@ -11,7 +11,7 @@ use Rattle.field_base.specs.Ring.{IsRing}
 use Rattle.ghash_slices.specs.Cantor.{AreCantorTwiddles}
 use Rattle.ghash_slices.specs.LowStages.{values_from}
 use Rattle.ghash_slices.specs.Stages.{factor, stages}
-use Rattle.ghash_slices.proofs.WordValues.{values_fit}
+use Rattle.field_base.proofs.WordValues.{values_fit}
 use Rattle.additive_transforms.specs.Columns.{column_of, FitsColumns, HasRows, InEachColumn}
 use Rattle.additive_transforms.specs.Stages.{AreLeft, IsButterfly, TakesBlock, TakesBlocks, TakesStage}
 use Rattle.additive_transforms.specs.Transform.{HasStages, TakesTransform}

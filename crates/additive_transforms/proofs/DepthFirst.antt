@@ -7,7 +7,7 @@ use Rattle.field_base.specs.LinearMaps.{linear_image}
 use Rattle.field_base.specs.Orders.{AreCantorVectors}
 use Rattle.field_base.specs.Ring.{IsRing}
 use Rattle.ghash_slices.specs.Cantor.{AreCantorTwiddles}
-use Rattle.ghash_slices.proofs.WordValues.{values_fit}
+use Rattle.field_base.proofs.WordValues.{values_fit}
 use Rattle.additive_transforms.specs.Elements.{level_shifts, twiddle_basis}
 use Rattle.additive_transforms.specs.Stages.{AreLeft, IsButterfly, IsStage, TakesStage}
 use Rattle.additive_transforms.specs.Transform.{HasStages, HoldValuesAtPoints, TakesTransform}

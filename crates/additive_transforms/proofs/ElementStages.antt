@@ -9,7 +9,7 @@ use Rattle.field_base.specs.Ring.{IsRing}
 use Rattle.field_base.proofs.RemainderRing.{ghash_ring}
 use Rattle.ghash_slices.specs.Cantor.{AreCantorTwiddles, subspace_value}
 use Rattle.ghash_slices.proofs.GhashVectors.{ghash_vectors}
-use Rattle.ghash_slices.proofs.WordValues.{values_fit}
+use Rattle.field_base.proofs.WordValues.{values_fit}
 use Rattle.additive_transforms.specs.Stages.{AreLeft, TakesStage}
 use Rattle.additive_transforms.specs.Transform.{AreOnlyCoefficients, AreTheCoefficients, HasStages, HoldPolynomialValues, HoldValuesAtPoints, TakesTransform}
 use Rattle.additive_transforms.proofs.Counts.{block_count}

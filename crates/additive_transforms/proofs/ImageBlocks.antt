@@ -1,5 +1,5 @@
 -- Butterflies, shifts and changes of basis of elements of the tower, as those of their images.
-use Rattle.std.proofs.Common.{◌≡◌, ℕ, zero, suc, ◌+◌, ◌<◌, ◌≤◌, Bool, true, false, List, [], ◌∷◌, ◌++◌, length, map, take, drop, set, get_or, refl, sym, ◌∙◌, ap, ap₂, subst, arith}
+use Rattle.std.proofs.Common.{◌≡◌, ℕ, zero, suc, ◌+◌, ◌%◌, ◌^◌, ◌<◌, ◌≤◌, Bool, true, false, List, [], ◌∷◌, ◌++◌, length, map, take, drop, set, get_or, refl, sym, ◌∙◌, ap, ap₂, subst, arith}
 use Rattle.std.specs.Prelude.{bit_xor, slice_index}
 use Rattle.std.proofs.Math.ListN.{get_or-map}
 use Rattle.std.proofs.lemmas.List.{append-nil, drop_all, map-append, map-id, take_all}
@@ -12,6 +12,9 @@ use Rattle.ghash_slices.specs.Cantor.{subspace_value}
 use Rattle.ghash_slices.specs.LowStages.{ghash_product}
 use Rattle.additive_transforms.specs.Images.{after_change, before_change, tower_image}
 use Rattle.word_tables.proofs.Isomorphisms.{isomorphic_128}
+use Rattle.field_base.proofs.RemainderRing.{ghash_ring}
+use Rattle.field_base.proofs.TowerRing.{tower_ring}
+use native.Mathlib.Nat.{mod-eq_of_lt}
 
 pub zero_image : tower_image 0 ≡ 0
 zero_image = isomorphic_128.homomorphism.zero_image
@@ -21,6 +24,13 @@ sum_image = isomorphic_128.homomorphism.sum_image
 
 pub product_image : (x y : ℕ) → tower_image (tower_mul 7 x y) ≡ ghash_product (tower_image x) (tower_image y)
 product_image = isomorphic_128.homomorphism.product_image
+
+-- of a number the image has the low bits
+pub low_image : (n : ℕ) → tower_image (n % 2 ^ 128) ≡ tower_image n
+low_image n =
+    ap tower_image (sym ((tower_ring 7).one n)) ∙ product_image 1 n
+    ∙ ap (λ (unit : ℕ). ghash_product unit (tower_image n)) isomorphic_128.homomorphism.one_image
+    ∙ ghash_ring.one (tower_image n) ∙ mod-eq_of_lt (isomorphic_128.homomorphism.below n)
 
 -- each s_j of the image is the image of that of the element
 pub shift_image : (j z : ℕ) → tower_image (subspace_value (tower_mul 7) j z) ≡ subspace_value ghash_product j (tower_image z)
@@ -45,10 +55,10 @@ image_butterfly t half a b a' b' of_a of_b is = record {
       ∙ ap₂ bit_xor (sym (of_a (half + r))) (sym (of_b r));
 }
 
-module _ {A : Type 0} (element value : A → ℕ) (same : (x : A) → element x ≡ value x) where
+module _ {A : Type 0} (element value : A → ℕ) (same : (x : A) → tower_image (element x) ≡ tower_image (value x)) where
   images : (xs : List A) → map (λ x. tower_image (value x)) xs ≡ map tower_image (map element xs)
   images [] = refl
-  images (x ∷ xs) = ap₂ (λ (y : ℕ) (ys : List ℕ). y ∷ ys) (ap tower_image (sym (same x))) (images xs)
+  images (x ∷ xs) = ap₂ (λ (y : ℕ) (ys : List ℕ). y ∷ ys) (sym (same x)) (images xs)
 
   -- what stands at a place of two slices is the image of what the words hold
   image_at : (lo hi : List A) (r : ℕ) → slice_index (map (λ x. tower_image (value x)) lo ++ map (λ x. tower_image (value x)) hi) r

@@ -1,47 +1,30 @@
--- The bytes in the lanes of a vector that is read from a row and written to it.
-use Rattle.std.proofs.Common.{◌≡◌, ◌⊎◌, inl, inr, ℕ, ◌+◌, ◌*◌, ◌/◌, ◌%◌, ◌^◌, ◌<◌, ◌≤◌, List, length, get_or, map, sym, ◌∙◌, ap, ap₂, arith, lit<, w8, Fits}
+-- The bytes in the lanes of a vector, their sums and products.
+use Rattle.std.proofs.Common.{◌≡◌, ℕ, ◌+◌, ◌*◌, ◌/◌, ◌%◌, ◌^◌, ◌<◌, List, length, get_or, map, sym, ◌∙◌, ap, ap₂, arith, lit<, w8, Fits}
 use Rattle.std.specs.Prelude.{bit_xor, slice_index}
-use Rattle.std.specs.Simd.Lanes.{Each1, put_chunk, zip2}
+use Rattle.std.specs.Simd.Lanes.{Each1, zip2}
 use Rattle.std.proofs.lemmas.List.{get_or-map}
-use Rattle.std.proofs.lemmas.Nat.{xor_lt}
-use Rattle.std.proofs.lemmas.Simd.{Each1-get_or, get_or-put_chunk_above, get_or-put_chunk_below, get_or-zip2}
+use Rattle.std.proofs.lemmas.Nat.{xor_block, xor_lt}
+use Rattle.std.proofs.lemmas.Simd.{Each1-get_or, get_or-zip2}
 use native.Mathlib.Nat.{mod-eq_of_lt, mod-lt}
 use lib.Bits.{xor_comm, xor_shifted}
 use Rattle.word_tables.specs.Nibbles.{entry_sum}
+use Rattle.field_base.specs.Quadratic.{pair}
 use Rattle.field_base.specs.Tower.{tower_mul}
 use Rattle.field_base.proofs.TowerRing.{tower_ring}
 use Rattle.additive_transforms.specs.Products.{AreMultiples}
-use Rattle.additive_transforms.specs.Rows.{byte_of_lane, element_of}
+use Rattle.additive_transforms.specs.Rows.{byte_of_lane}
 use Rattle.additive_transforms.specs.declared.multiples.ByteMultiples.{ByteMultiples}
-use Rattle.additive_transforms.proofs.RowHalves.{element-byte}
 
 -- the byte in a lane is its number
 pub lane-byte : (bytes : List ℕ) (l : ℕ) → Each1 (Fits w8) bytes → l < length bytes → byte_of_lane bytes l ≡ slice_index bytes l
 lane-byte bytes l fit inside = mod-eq_of_lt ((Each1-get_or (Fits w8) bytes l 0 inside fit).fits)
 
--- that of a vector that was read
-pub lane_read : (bytes row : List ℕ) (l i : ℕ) → slice_index bytes l ≡ slice_index row i → slice_index row i < 256
-    → byte_of_lane bytes l ≡ element_of 0 row i
-lane_read bytes row l i is fits = ap (λ (x : ℕ). x % 2 ^ 8) is ∙ mod-eq_of_lt fits ∙ sym (element-byte row i)
-
--- an element of a row to which a vector was written
-pub lane_put : (bytes row : List ℕ) (l i : ℕ) → Each1 (Fits w8) bytes → l < length bytes → slice_index row i ≡ slice_index bytes l
-    → element_of 0 row i ≡ byte_of_lane bytes l
-lane_put bytes row l i fit inside is = element-byte row i ∙ is ∙ sym (lane-byte bytes l fit inside)
-
--- one that was kept
-pub lane_kept : (row now : List ℕ) (i : ℕ) → slice_index now i ≡ slice_index row i → element_of 0 now i ≡ element_of 0 row i
-lane_kept row now i is = element-byte now i ∙ is ∙ sym (element-byte row i)
-
--- so are all but those of the block that a vector was written to
-pub block_kept : (start n : ℕ) (row bytes now : List ℕ) (i : ℕ) → length bytes ≡ n → now ≡ put_chunk start row bytes
-    → (i < start) ⊎ (start + n ≤ i) → element_of 0 now i ≡ element_of 0 row i
-block_kept start n row bytes now i long is (inl before) =
-    lane_kept row now i (ap (λ (r : List ℕ). get_or r i 0) is ∙ get_or-put_chunk_below start row bytes i 0 before)
-block_kept start n row bytes now i long is (inr past) =
-    lane_kept row now i (ap (λ (r : List ℕ). get_or r i 0) is ∙ get_or-put_chunk_above start row bytes i 0 (omega (arith, past, long)))
-
 -- ---- sums and products
+
+-- the sum of two pairs is that of their halves
+pub sum_of_pairs : (k a0 a1 b0 b1 : ℕ) → a0 < 2 ^ 2 ^ k → b0 < 2 ^ 2 ^ k
+    → pair (2 ^ k) (bit_xor a0 b0) (bit_xor a1 b1) ≡ bit_xor (pair (2 ^ k) a0 a1) (pair (2 ^ k) b0 b1)
+sum_of_pairs k a0 a1 b0 b1 a_fits b_fits = sym (xor_block (2 ^ k) a1 b1 a0 b0 a_fits b_fits)
 
 -- the byte in a lane of a sum
 pub lane_sum : (xs ys zs : List ℕ) (n l : ℕ) → zs ≡ zip2 bit_xor xs ys → length xs ≡ n → length ys ≡ n → Each1 (Fits w8) xs → Each1 (Fits w8) ys

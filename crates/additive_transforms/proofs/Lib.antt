@@ -22,8 +22,6 @@ pub mod NumberValues
 pub mod OneOrigin
 pub mod PairLoops
 pub mod PointSums
-mod RowHalves
-mod RowSteps
 mod ScalarHalves
 mod Scalars
 mod Tables

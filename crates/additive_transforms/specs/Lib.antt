@@ -1,4 +1,3 @@
-pub mod Butterflies
 pub mod ChunkLemmas
 pub mod Chunks
 pub mod Columns

@@ -10,6 +10,10 @@ pub use Rattle.word_tables.specs.Cantor.{cantor_vector}
 abbrev pub level_element : {W : Type 0} → (W → ℕ) → ℕ → W → ℕ
 level_element number k word = number word % 2 ^ 2 ^ k
 
+-- the low 128 bits of a word's number
+abbrev pub low_word : {W : Type 0} → (W → ℕ) → W → ℕ
+low_word number word = number word % 2 ^ 128
+
 -- from where the pairs of places before `first` are done, those before `last` are done, whatever the lists were at the beginning
 abbrev pub TakesPairs : (ℕ → ℕ → ℕ → ℕ → Type 0) → ℕ → ℕ → List ℕ → List ℕ → List ℕ → List ℕ → Type 0
 TakesPairs pair first last lo hi now_lo now_hi =

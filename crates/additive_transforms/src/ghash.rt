@@ -4,12 +4,10 @@ ghost use Rattle.additive_transforms.specs.Transform.{AreOnlyCoefficients, Count
 ghost use Rattle.additive_transforms.specs.Images.{IsWideShift};
 
 use crate::images::{OfImages, change_basis};
-use crate::words::GhashWord;
-use crate::{
-    PolyKernel, forward_by, forward_with, forward_words, half_of, inverse_by, inverse_words,
-    stages_of,
-};
-use ghash_slices::{Width, numbers_are_values};
+use crate::whole::{forward_words, inverse_words};
+use crate::{PolyKernel, forward_by, forward_with, half_of, inverse_by, stages_of};
+use field_base::Holds;
+use ghash_slices::Width;
 use std::alloc::{AllocError, Allocator};
 use std::simd::prelude::*;
 use word_tables::to_tower_128;
@@ -34,7 +32,6 @@ pub fn forward<A: Allocator>(
     ensures large { IfErr result (λ _. 16 ≤ length values.old) }
     ensures wide { IfErr result (λ _. IsWideShift z) }
 {
-    numbers_are_values(values);
     if is_narrow(to_tower_128(z)) {
         *products += pairs_of(values.len());
         transform_ghash::<u64x2, u128>(values, z, false);
@@ -56,7 +53,6 @@ pub fn inverse(values: &mut [u128], z: u128, products: &mut u64)
     ensures coefficients { AreOnlyCoefficients z values.old values.new }
     ensures count { CountsPairs (length values.old) products.old products.new }
 {
-    numbers_are_values(values);
     *products += pairs_of(values.len());
     transform_ghash::<u64x2, u128>(values, z, true);
 }
@@ -98,11 +94,11 @@ pub fn inverse_numbers(values: &mut [u128], z: u128)
 ///
 /// Where the element of the tower whose image is `z` has at most 32 bits, so have all twiddles of up to 2^32 words, and the words take the way
 /// through the tower; other shifts go by `forward_words` and `inverse_words`.
-pub fn transform_ghash<V: Width, W: GhashWord>(words: &mut [W], z: u128, is_inverse: bool)
+pub fn transform_ghash<V: Width, W: Holds<u128>>(words: &mut [W], z: u128, is_inverse: bool)
     requires { (m : ℕ) × HasStages m (length words.old) }
     ensures length { length words.new ≡ length words.old }
-    ensures values { ¬ IsTrue is_inverse → HoldPolynomialValues z (map W.WideWord.value words.old) (map W.WideWord.value words.new) }
-    ensures coefficients { IsTrue is_inverse → AreOnlyCoefficients z (map W.WideWord.value words.old) (map W.WideWord.value words.new) }
+    ensures values { ¬ IsTrue is_inverse → HoldPolynomialValues z (map W.number words.old) (map W.number words.new) }
+    ensures coefficients { IsTrue is_inverse → AreOnlyCoefficients z (map W.number words.old) (map W.number words.new) }
 {
     let shift = to_tower_128(z);
     if is_narrow(shift) {

@@ -7,8 +7,8 @@ ghost use Rattle.additive_transforms.specs.Images.{after_change, before_change, 
 
 use crate::StageArithmetic;
 use crate::arithmetic::{run_block, shift_of};
-use crate::words::GhashWord;
-use ghash_slices::{WideWord, number_at, put_number};
+use field_base::Holds;
+use ghash_slices::{number_at, put_number};
 use std::marker::PhantomData;
 use word_tables::{to_polynomial_128, to_tower_128};
 use word_tower::Bits128;
@@ -16,7 +16,7 @@ use word_tower::Bits128;
 /// The arithmetic of the tower's level of 128 bits, where a word stands for the image of the element that it holds.
 pub(crate) struct OfImages<W>(PhantomData<W>);
 
-impl<W: GhashWord> StageArithmetic for OfImages<W> {
+impl<W: Holds<u128>> StageArithmetic for OfImages<W> {
     type Value = W;
 
     type Twiddle = u128;
@@ -27,7 +27,7 @@ impl<W: GhashWord> StageArithmetic for OfImages<W> {
 
     ghost vector = { ghash_cantor_vector };
 
-    ghost value = { λ x. tower_image (W.WideWord.value x) };
+    ghost value = { λ x. tower_image (W.number x) };
 
     ghost number = { tower_image };
 
@@ -55,12 +55,12 @@ impl<W: GhashWord> StageArithmetic for OfImages<W> {
 
     ghost vector_law = { ghash_vector_laws };
 
-    ghost range_law = { λ x. image_fits (W.WideWord.value x) };
+    ghost range_law = { λ x. image_fits (W.number x) };
 }
 
 /// Replaces each polynomial by the element of the tower whose image it is, or, where `back` is true, each element by its image.
-pub(crate) fn change_basis<W: WideWord>(words: &mut [W], back: bool)
-    ensures changed { map (after_change back) (map W.value words.new) ≡ map (before_change back) (map W.value words.old) }
+pub(crate) fn change_basis<W: Holds<u128>>(words: &mut [W], back: bool)
+    ensures changed { map (after_change back) (map W.number words.new) ≡ map (before_change back) (map W.number words.old) }
     ensures length { length words.new ≡ length words.old }
 {
     for place in 0..words.len() {

@@ -1,12 +1,16 @@
 // What computes on the values of a transform.
-ghost use Rattle.std.specs.Prelude.{◌≡◌, ◌≢◌, ℕ, ◌+◌, ◌-◌, ◌*◌, ◌%◌, ◌/◌, ◌^◌, ◌<◌, ◌≤◌, [], length, map};
-ghost use Rattle.ghash_slices.specs.LowStages.{HoldSums};
+ghost use Rattle.std.specs.Prelude.{◌≡◌, ◌≢◌, ℕ, ◌+◌, ◌-◌, ◌*◌, ◌%◌, ◌/◌, ◌^◌, ◌<◌, ◌≤◌, [], bit_xor, length, map};
+ghost use Rattle.ghash_slices.specs.LowStages.{HoldSums, ghash_product};
 ghost use Rattle.ghash_slices.specs.Slices.{IsForward, IsInverse};
+ghost use Rattle.ghash_slices.specs.Stages.{add_multiple};
 ghost use Rattle.ghash_slices.specs.Twiddles.{basis_of, shifts_of};
+ghost use Rattle.additive_transforms.specs.Words.{low_word};
+ghost use Rattle.std.specs.Simd.Lanes.{zip2};
 ghost use native.Mathlib.Nat.{mod-lt};
 ghost use Rattle.std.proofs.lemmas.Nat.{pow_pos};
 
-use ghash_slices::{LowStageTwiddles, WideWord, Width, add_each, add_multiples, run_low_stages};
+use field_base::Holds;
+use ghash_slices::{LowStageTwiddles, Width, add_each, add_multiples, run_low_stages};
 use std::alloc::Allocator;
 use std::marker::PhantomData;
 use std::simd::prelude::*;
@@ -79,14 +83,14 @@ impl Kernel for PolyKernel {
 
     fn butterfly_forward(&mut self, lo: &mut [u128], hi: &mut [u128], s: u128) {
         self.products += lo.len() as u64;
-        add_multiples::<u64x2, u128>(lo, hi, s);
-        add_each(hi, lo);
+        add_products::<u64x2, u128>(lo, hi, s);
+        add_words(hi, lo);
     }
 
     fn butterfly_inverse(&mut self, lo: &mut [u128], hi: &mut [u128], s: u128) {
         self.products += lo.len() as u64;
-        add_each(hi, lo);
-        add_multiples::<u64x2, u128>(lo, hi, s);
+        add_words(hi, lo);
+        add_products::<u64x2, u128>(lo, hi, s);
     }
 
     fn low_forward<A: Allocator>(
@@ -97,7 +101,7 @@ impl Kernel for PolyKernel {
     ) {
         self.products += 2 * values.len() as u64;
         let (shifts, basis) = (twiddles.shifts(), twiddles.basis());
-        run_low_stages::<u64x2, u128>(shifts, basis, values, first_run as u128);
+        run_low_words::<u64x2, u128>(shifts, basis, values, first_run as u128);
     }
 }
 
@@ -110,7 +114,7 @@ pub struct WordKernel<V, W> {
     words: PhantomData<W>,
 }
 
-impl<V: Width, W: WideWord> WordKernel<V, W> {
+impl<V: Width, W: Holds<u128>> WordKernel<V, W> {
     /// The kernel, before it has counted a pair.
     pub fn new() -> WordKernel<V, W>
         ensures { result.products ≡ 0 }
@@ -123,25 +127,25 @@ impl<V: Width, W: WideWord> WordKernel<V, W> {
     }
 }
 
-impl<V: Width, W: WideWord> Kernel for WordKernel<V, W> {
+impl<V: Width, W: Holds<u128>> Kernel for WordKernel<V, W> {
     type Elem = W;
 
-    ghost value = { W.value };
+    ghost value = { low_word W.number };
 
     ghost count = { λ kernel. kernel.products };
 
-    ghost range_law = { W.range_law };
+    ghost range_law = { λ x. mod-lt (W.number x) (pow_pos 128) };
 
     fn butterfly_forward(&mut self, lo: &mut [W], hi: &mut [W], s: u128) {
         self.products += lo.len() as u64;
-        add_multiples::<V, W>(lo, hi, s);
-        add_each(hi, lo);
+        add_products::<V, W>(lo, hi, s);
+        add_words(hi, lo);
     }
 
     fn butterfly_inverse(&mut self, lo: &mut [W], hi: &mut [W], s: u128) {
         self.products += lo.len() as u64;
-        add_each(hi, lo);
-        add_multiples::<V, W>(lo, hi, s);
+        add_words(hi, lo);
+        add_products::<V, W>(lo, hi, s);
     }
 
     fn low_forward<A: Allocator>(
@@ -152,6 +156,48 @@ impl<V: Width, W: WideWord> Kernel for WordKernel<V, W> {
     ) {
         self.products += 2 * values.len() as u64;
         let (shifts, basis) = (twiddles.shifts(), twiddles.basis());
-        run_low_stages::<V, W>(shifts, basis, values, first_run as u128);
+        run_low_words::<V, W>(shifts, basis, values, first_run as u128);
     }
+}
+
+// Adds to each word the product of the scalar and the other word at its place. The slices are of one length.
+fn add_products<V: Width, W: Holds<u128>>(words: &mut [W], others: &[W], s: u128)
+    requires { length words.old ≡ length others.now }
+    ensures { map (low_word W.number) words.new
+        ≡ zip2 (add_multiple ghash_product s) (map (low_word W.number) words.old) (map (low_word W.number) others.now) }
+{
+    W::numbers_fit(words);
+    W::numbers_fit(others);
+    add_multiples::<V, W>(words, others, s);
+    W::numbers_fit(words);
+}
+
+// Adds to each word the other word at its place. The slices are of one length.
+fn add_words<W: Holds<u128>>(words: &mut [W], others: &[W])
+    requires { length words.old ≡ length others.now }
+    ensures { map (low_word W.number) words.new ≡ zip2 bit_xor (map (low_word W.number) words.old) (map (low_word W.number) others.now) }
+{
+    W::numbers_fit(words);
+    W::numbers_fit(others);
+    add_each(words, others);
+    W::numbers_fit(words);
+}
+
+/// The four lowest stages over each run of sixteen words, as `run_low_stages` runs them.
+pub(crate) fn run_low_words<V: Width, W: Holds<u128>>(
+    shifts: &[u128; 4],
+    basis: &[u128],
+    words: &mut [W],
+    first_run: u128,
+)
+    requires basis { 3 ≤ length basis.now }
+    requires whole { length words.old % 16 ≡ 0 }
+    requires numbered { words.old ≢ [] → first_run + length words.old / 16 ≤ 2 ^ (length basis.now - 3) }
+    requires fits { first_run + length words.old / 16 ≤ 2 ^ 127 }
+    ensures length { length words.new ≡ length words.old }
+    ensures sums { HoldSums shifts.now basis.now first_run (map (low_word W.number) words.old) (map (low_word W.number) words.new) }
+{
+    W::numbers_fit(words);
+    run_low_stages::<V, W>(shifts, basis, words, first_run);
+    W::numbers_fit(words);
 }

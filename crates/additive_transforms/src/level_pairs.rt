@@ -5,8 +5,7 @@ ghost use Rattle.additive_transforms.specs.Stages.{TakesBlock};
 ghost use Rattle.additive_transforms.specs.Words.{TakesWordPairs, TakesWords, level_element};
 
 use crate::products::Multiplies;
-use crate::words::Holds;
-use field_base::Unsigned;
+use field_base::{Holds, Unsigned};
 
 /// The forward butterfly of each pair of two slices, or, where `inverse` is true, the inverse one. Both slices, the halves of a block, have
 /// to be of one length.

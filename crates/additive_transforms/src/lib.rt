@@ -19,7 +19,6 @@
 #![tactic(auto)]
 
 mod arithmetic;
-mod blocks;
 mod chunks;
 mod columns;
 mod elements;
@@ -39,7 +38,6 @@ mod points;
 mod prepared;
 mod product_laws;
 mod products;
-mod row_butterflies;
 mod scaled_words;
 mod stages;
 mod twiddles;
@@ -48,9 +46,7 @@ mod whole;
 mod word_bytes;
 mod word_planes;
 mod word_rows;
-mod words;
 
-pub use crate::blocks::{ByteBlock, SliceVector};
 pub use crate::chunks::{Paired, Scales, times_number};
 pub use crate::columns::{forward_level_columns, inverse_level_columns};
 pub use crate::elements::arithmetic::StageArithmetic;
@@ -69,11 +65,9 @@ pub use crate::planes::Planes;
 pub use crate::points::point;
 pub use crate::prepared::Transform;
 pub use crate::product_laws::three_products_multiply;
-pub use crate::row_butterflies::{butterflies_8, butterflies_16, butterflies_32};
 pub use crate::scaled_words::{add_multiples, multiply_words};
 pub use crate::stages::{half_of, start_of};
 pub use crate::vectors::ChunkVector;
-pub use crate::whole::{forward_with, forward_words, inverse_with, inverse_words, stages_of};
+pub use crate::whole::{forward_with, inverse_with, stages_of};
 pub use crate::word_bytes::{StoredBytes, WordBytes};
 pub use crate::word_planes::WordPlanes;
-pub use crate::words::{GhashWord, Holds};

@@ -32,27 +32,6 @@ impl<M, P: Planes<M>> Planes<HalfMultiples<M>> for Pair<P> {
     }
 
     #[inline(always)]
-    fn elements_of(length: usize) -> usize {
-        P::elements_of(length / 2)
-    }
-
-    #[inline(always)]
-    fn read(row: &[u8], start: usize, rest: bool) -> Pair<P> {
-        let (low, high) = row.split_at(row.len() / 2);
-        Pair {
-            low: P::read(low, start, rest),
-            high: P::read(high, start, rest),
-        }
-    }
-
-    #[inline(always)]
-    fn write(&self, row: &mut [u8], start: usize, rest: bool) {
-        let (low, high) = row.split_at_mut(row.len() / 2);
-        self.low.write(low, start, rest);
-        self.high.write(high, start, rest);
-    }
-
-    #[inline(always)]
     fn add(&mut self, other: &Pair<P>) {
         self.low.add(&other.low);
         self.high.add(&other.high);

@@ -5,10 +5,10 @@ ghost use Rattle.field_base.specs.Tower.{root, tower_mul};
 ghost use Rattle.additive_transforms.specs.Products.{HasHalves};
 ghost use Rattle.additive_transforms.specs.Rows.{level_of};
 
-use crate::blocks::ByteBlock;
 use crate::multiples::{ByteMultiples, HalfMultiples, multiples_8, times_root_8};
 use crate::pair::Pair;
 use crate::planes::Planes;
+use word_tables::ByteVector;
 
 /// Planes whose elements are multiplied by the multiples of a scalar, which are made of it.
 pub trait PlaneScalars<M>: Planes<M> {
@@ -27,7 +27,7 @@ pub trait PlaneScalars<M>: Planes<M> {
         ensures { result ≡ tower_mul (level_of Self.Planes.depth) (root (level_of Self.Planes.depth)) scalar };
 }
 
-impl<V: ByteBlock> PlaneScalars<ByteMultiples> for V {
+impl<V: ByteVector> PlaneScalars<ByteMultiples> for V {
     #[inline]
     fn multiples(scalar: u128, bits: u32) -> ByteMultiples {
         multiples_8(scalar as u8)

@@ -5,7 +5,8 @@ ghost use Rattle.ghash_slices.specs.Twiddles.{basis_of, shifts_of};
 use crate::kernel::{Kernel, PolyKernel};
 use crate::twiddles::Twiddles;
 use crate::whole::{every_stage, forward_stages};
-use ghash_slices::{LOW_STAGES, LowStageTwiddles, numbers_are_values};
+use field_base::Stored;
+use ghash_slices::{LOW_STAGES, LowStageTwiddles};
 use std::alloc::{AllocError, Allocator};
 
 /// The transforms of 2^m values from one shift on, for one m from 0 to 40: the twiddles are made once, so that a call takes no
@@ -46,8 +47,9 @@ impl<A: Allocator> Transform<A> {
         ensures length { length values.new ≡ length values.old }
         ensures values { HoldPolynomialValues self.now.twiddles.z values.old values.new }
     {
-        numbers_are_values(values);
+        u128::words_fit(values);
         self.forward_with(&mut self.kernel(), values);
+        u128::words_fit(values);
     }
 
     /// Replaces the values at the points by the coefficients of their polynomial, as `inverse_with` does. There have to be 2 to the power of the
@@ -57,8 +59,9 @@ impl<A: Allocator> Transform<A> {
         ensures length { length values.new ≡ length values.old }
         ensures coefficients { AreOnlyCoefficients self.now.twiddles.z values.old values.new }
     {
-        numbers_are_values(values);
+        u128::words_fit(values);
         self.inverse_with(&mut self.kernel(), values);
+        u128::words_fit(values);
     }
 
     // The kernel over plain numbers, before it has counted a pair: all pairs have room in its count.

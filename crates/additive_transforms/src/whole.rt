@@ -5,11 +5,13 @@ ghost use Rattle.additive_transforms.specs.Transform.{HoldPolynomialValues, Take
 ghost use Rattle.ghash_slices.specs.LowStages.{ghash_cantor_vector, ghash_product};
 ghost use Rattle.ghash_slices.specs.Twiddles.{basis_of, shifts_of};
 ghost use Rattle.additive_transforms.specs.Stages.{AreLeft};
+ghost use Rattle.additive_transforms.specs.Words.{low_word};
 
-use crate::kernel::{Kernel, WordKernel};
+use crate::kernel::{Kernel, WordKernel, run_low_words};
 use crate::stages::run_stage;
 use crate::twiddles::Twiddles;
-use ghash_slices::{LOW_STAGES, LowStageTwiddles, WideWord, Width, run_low_stages};
+use field_base::Holds;
+use ghash_slices::{LOW_STAGES, LowStageTwiddles, Width};
 use std::alloc::{AllocError, Allocator};
 
 /// Leaves at each place p the value, at point p, of the polynomial with the coefficients `values` in the basis of the products of
@@ -43,10 +45,21 @@ pub fn forward_with<K: Kernel, A: Allocator>(
 
 /// The transform `forward_with` of words that hold numbers, where they lie, without a count. The length of `words` has to be 2^m for an m
 /// from 0 to 40. It takes no memory.
-pub fn forward_words<V: Width, W: WideWord>(words: &mut [W], z: u128)
+pub(crate) fn forward_words<V: Width, W: Holds<u128>>(words: &mut [W], z: u128)
     requires { (m : ℕ) × HasStages m (length words.old) }
     ensures length { length words.new ≡ length words.old }
-    ensures values { HoldPolynomialValues z (map W.value words.old) (map W.value words.new) }
+    ensures values { HoldPolynomialValues z (map W.number words.old) (map W.number words.new) }
+{
+    W::numbers_fit(words);
+    forward_low_words::<V, W>(words, z);
+    W::numbers_fit(words);
+}
+
+// The same of the low bits of the numbers.
+fn forward_low_words<V: Width, W: Holds<u128>>(words: &mut [W], z: u128)
+    requires { (m : ℕ) × HasStages m (length words.old) }
+    ensures length { length words.new ≡ length words.old }
+    ensures values { HoldPolynomialValues z (map (low_word W.number) words.old) (map (low_word W.number) words.new) }
 {
     let stages = stages_of(words.len());
     let twiddles = Twiddles::new(z);
@@ -57,17 +70,19 @@ pub fn forward_words<V: Width, W: WideWord>(words: &mut [W], z: u128)
     }
     stages_down_to(&mut kernel, words, stages, LOW_STAGES, &twiddles);
     let basis = &twiddles.basis[..stages - 1];
-    run_low_stages::<V, W>(&twiddles.low_shifts(), basis, words, 0);
+    run_low_words::<V, W>(&twiddles.low_shifts(), basis, words, 0);
 }
 
 /// The transform `inverse_with` of words that hold numbers, where they lie, without a count: it takes back what `forward_words` did with the
 /// same `z`. The length of `words` has to be 2^m for an m from 0 to 40. It takes no memory.
-pub fn inverse_words<V: Width, W: WideWord>(words: &mut [W], z: u128)
+pub(crate) fn inverse_words<V: Width, W: Holds<u128>>(words: &mut [W], z: u128)
     requires { (m : ℕ) × HasStages m (length words.old) }
     ensures length { length words.new ≡ length words.old }
-    ensures coefficients { AreOnlyCoefficients z (map W.value words.old) (map W.value words.new) }
+    ensures coefficients { AreOnlyCoefficients z (map W.number words.old) (map W.number words.new) }
 {
+    W::numbers_fit(words);
     inverse_with(&mut WordKernel::<V, W>::new(), words, z);
+    W::numbers_fit(words);
 }
 
 /// Replaces the values at the points by the coefficients of their polynomial, of which there is one list: with the same `z` it takes back

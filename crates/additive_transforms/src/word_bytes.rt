@@ -4,8 +4,7 @@ ghost use Rattle.additive_transforms.specs.Rows.{level_of};
 ghost use Rattle.additive_transforms.specs.ChunkLemmas.{four_halves};
 ghost use Rattle.additive_transforms.specs.Units.{ArePut, AreUnits};
 
-use crate::words::Holds;
-use field_base::{Stored, Unsigned};
+use field_base::{Holds, Stored, Unsigned};
 use std::simd::prelude::*;
 use word_carryless::{bytes_of_128, number_of_bytes};
 

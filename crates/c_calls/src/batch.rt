@@ -8,9 +8,8 @@ use crate::many::invert;
 use crate::scalars::{Words, truncate_all};
 use crate::slices::are_elements;
 use crate::status;
-use additive_transforms::Holds;
 use bit_slices::Vector;
-use field_base::Stored;
+use field_base::{Holds, Stored};
 use ghash_slices::Width;
 use many_words::Many;
 

@@ -5,8 +5,7 @@ ghost use Rattle.many_words.specs.Fields.{field_of};
 
 use crate::slices::are_elements;
 use crate::status;
-use additive_transforms::Holds;
-use field_base::{FieldKernel, Stored};
+use field_base::{FieldKernel, Holds, Stored};
 use many_words::operations::{OnOne, OnTwo};
 use many_words::{change_all, change_all_by};
 

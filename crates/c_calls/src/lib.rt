@@ -52,7 +52,7 @@ pub use crate::transforms::{
 };
 pub use crate::wide::Wide;
 pub use crate::words::Cubic;
-pub use additive_transforms::Holds;
+pub use field_base::Holds;
 pub use many_words::{ChangeOfBasis, FromTower, ToTower};
 pub use word_polynomial::{CubicKernel, GhashKernel, Poly64Kernel, RijndaelKernel, Triple};
 pub use word_tower::{Bits1, Bits2, Bits4, Bits8, Bits16, Bits32, Bits64, Bits128, Tower};

@@ -5,7 +5,7 @@ ghost use Rattle.many_words.specs.Fields.{itself};
 
 use crate::numbers::numbers_of;
 use crate::{Wide, status};
-use ghash_slices::WideWord;
+use field_base::Holds;
 use word_tables::{ByteMap, ByteMatrix};
 
 /// Writes for each byte the sum of the images at its set bits: eight images, that of bit 0 first.
@@ -31,7 +31,7 @@ pub fn map_wide(values: &[Wide], images: &[Wide], mapped: &mut [Wide]) -> u32
     }
     let map = ByteMap::new(&numbers_of::<128>(images));
     for place in 0..mapped.len() {
-        mapped[place] = Wide::of_number(map.apply(values[place].number()));
+        mapped[place] = Wide::of_stored(map.apply(values[place].stored()));
     }
     status::OK
 }

@@ -5,9 +5,8 @@ ghost use Rattle.many_words.specs.Fields.{field_of};
 
 use crate::slices::{are_elements, write_each, write_each_of_two};
 use crate::status;
-use additive_transforms::Holds;
 use bit_slices::Vector;
-use field_base::Stored;
+use field_base::{Holds, Stored};
 use ghash_slices::Width;
 use many_words::operations::{Inverse, Product, Scaled};
 use many_words::{Many, fields};

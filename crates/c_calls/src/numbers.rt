@@ -3,7 +3,7 @@ ghost use Rattle.std.specs.Prelude.{◌≡◌, ◌≤◌, length, map, take};
 ghost use Rattle.c_calls.specs.Fields.{wide_number};
 
 use crate::Wide;
-use ghash_slices::WideWord;
+use field_base::Holds;
 
 /// The numbers of up to N words, and zeros.
 pub(crate) fn numbers_of<const N: usize>(words: &[Wide]) -> [u128; N]
@@ -14,7 +14,7 @@ pub(crate) fn numbers_of<const N: usize>(words: &[Wide]) -> [u128; N]
 {
     let mut numbers = [0; N];
     for place in 0..words.len() {
-        numbers[place] = words[place].number();
+        numbers[place] = words[place].stored();
     }
     numbers
 }

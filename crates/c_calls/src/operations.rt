@@ -3,8 +3,7 @@ ghost use Rattle.std.specs.Prelude.{◌≡◌, ◌<◌, ◌^◌, bit_xor};
 ghost use Rattle.field_base.specs.Powers.{power};
 
 use crate::slices::power_of;
-use additive_transforms::Holds;
-use field_base::{FieldKernel, Stored};
+use field_base::{FieldKernel, Holds, Stored};
 use many_words::fields;
 use many_words::operations::{OnOne, OnTwo};
 

@@ -8,9 +8,8 @@ ghost use Rattle.many_words.specs.Words.{AreElements, IsElement};
 use crate::scalars::{Words, truncated};
 use crate::slices::are_elements;
 use crate::status;
-use additive_transforms::Holds;
 use bit_slices::Vector;
-use field_base::Stored;
+use field_base::{Holds, Stored};
 use ghash_slices::Width;
 use many_words::Many;
 

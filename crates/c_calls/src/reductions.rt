@@ -6,9 +6,8 @@ ghost use Rattle.c_calls.specs.Matrices.{ReducesRows, TakesRank};
 use crate::shapes::has_shape;
 use crate::slices::are_elements;
 use crate::{Words, status, truncate_all};
-use additive_transforms::Holds;
 use bit_slices::Vector;
-use field_base::Stored;
+use field_base::{Holds, Stored};
 use ghash_slices::Width;
 use many_words::Many;
 

@@ -3,9 +3,8 @@ ghost use Rattle.std.specs.Prelude.{◌≡◌, ◌%◌, ◌^◌, ◌<◌, ℕ, g
 ghost use Rattle.c_calls.specs.Low.{low_number};
 ghost use Rattle.c_calls.specs.LowLemmas.{low_number-lt};
 
-use additive_transforms::Holds;
 use bit_slices::Vector;
-use field_base::{FieldKernel, Stored};
+use field_base::{FieldKernel, Holds, Stored};
 use field_slices::Scalars;
 use ghash_slices::Width;
 use many_words::{Many, fields};

@@ -8,8 +8,7 @@ ghost use Rattle.many_words.specs.Fields.{field_of};
 ghost use Rattle.many_words.specs.Words.{AreElements};
 
 use crate::status;
-use additive_transforms::Holds;
-use field_base::{FieldKernel, Stored};
+use field_base::{FieldKernel, Holds, Stored};
 use many_words::operations::{OnOne, OnTwo};
 use many_words::{ChangeOfBasis, fields};
 

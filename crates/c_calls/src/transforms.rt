@@ -10,7 +10,7 @@ use crate::numbers::{four_numbers, numbers_of};
 use crate::{Wide, status};
 use additive_transforms::{WordBytes, forward_level, inverse_level, stages_of, transform_ghash};
 use field_base::{FieldKernel, Unsigned};
-use ghash_slices::{WideWord, Width, add_each, add_multiples, run_low_stages};
+use ghash_slices::{Width, add_each, add_multiples, run_low_stages};
 use word_tower::{Level, Tower};
 
 /// At each place `low += scalar * high`, and then `high += low`.
@@ -20,7 +20,7 @@ pub fn butterfly_forward<V: Width>(low: &mut [Wide], high: &mut [Wide], scalar: 
     if low.len() != high.len() {
         return status::LENGTH;
     }
-    add_multiples::<V, Wide>(low, high, scalar.number());
+    add_multiples::<V, Wide>(low, high, scalar.stored());
     add_each(high, low);
     status::OK
 }
@@ -33,7 +33,7 @@ pub fn butterfly_inverse<V: Width>(low: &mut [Wide], high: &mut [Wide], scalar: 
         return status::LENGTH;
     }
     add_each(high, low);
-    add_multiples::<V, Wide>(low, high, scalar.number());
+    add_multiples::<V, Wide>(low, high, scalar.stored());
     status::OK
 }
 
@@ -82,7 +82,7 @@ fn transform_whole<V: Width>(values: &mut [Wide], shift: Wide, is_inverse: bool)
     if !has_stages(values.len()) {
         return status::LENGTH;
     }
-    transform_ghash::<V, Wide>(values, shift.number(), is_inverse);
+    transform_ghash::<V, Wide>(values, shift.stored(), is_inverse);
     status::OK
 }
 

@@ -1,7 +1,7 @@
 // Two words of 64 bits that are a number of 128.
 ghost use Rattle.c_calls.specs.Fits.{FitsTwo};
 
-use ghash_slices::WideWord;
+use field_base::Holds;
 
 /// A word of 128 bits as two of 64, low half first.
 #[repr(C)]
@@ -12,24 +12,24 @@ pub struct Wide {
     ghost in_range: { FitsTwo low high },
 }
 
-impl WideWord for Wide {
+impl Holds<u128> for Wide {
     ghost use Rattle.c_calls.specs.Fields.{wide_number};
-    ghost use Rattle.c_calls.specs.WideLemmas.{wide_number-lt};
 
-    ghost value = { wide_number };
-
-    ghost range_law = { wide_number-lt };
+    ghost number = { wide_number };
 
     #[inline]
-    fn number(self) -> u128 {
+    fn stored(self) -> u128 {
         u128::from(self.high) * 0x10000000000000000 + u128::from(self.low)
     }
 
     #[inline]
-    fn of_number(number: u128) -> Wide {
+    fn of_stored(number: u128) -> Wide {
         Wide {
             low: (number % 0x10000000000000000) as u64,
             high: (number / 0x10000000000000000) as u64,
         }
     }
+
+    #[inline(always)]
+    fn numbers_fit(words: &[Wide]) {}
 }

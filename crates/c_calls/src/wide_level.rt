@@ -5,8 +5,8 @@ ghost use Rattle.c_calls.specs.Fields.{wide_number};
 ghost use Rattle.field_base.specs.Room.{few_fit};
 
 use crate::Wide;
-use additive_transforms::Holds;
 use bit_slices::{SlicedWord, Slices128, TowerWord, Vector};
+use field_base::Holds;
 use many_words::{SlicedWide, invert_images, invert_words, multiply_words};
 use word_polynomial::GhashModulus;
 use word_tower::{Bits128, Level, Tower};
@@ -60,8 +60,6 @@ impl<V: Vector> SlicedWord<V> for Wide {
 }
 
 impl SlicedWide for Wide {
-    fn numbers_are_values(words: &[Wide]) {}
-
     fn multiply_in_slices<V: Vector>(products: &mut [Wide], words: &[Wide]) {
         multiply_words::<u128, Wide, Tower<Bits128>, V>(products, words);
     }

@@ -1,34 +1,12 @@
-// The words of more than one word in which elements cross to other languages, and the words of a field's arithmetic that they hold.
-ghost use Rattle.std.specs.Prelude.{◌≡◌, ◌<◌, ℕ};
-ghost use native.Mathlib.Nat.{mod-eq_of_lt};
-ghost use Rattle.c_calls.specs.Fields.{cubic_number, wide_number};
-ghost use Rattle.c_calls.specs.WideLemmas.{wide_number-lt};
+// The words of 192 bits in which elements cross to other languages, and the words of a field's arithmetic that they hold.
+ghost use Rattle.c_calls.specs.Fields.{cubic_number};
 ghost use Rattle.field_base.specs.Room.{few_fit};
+ghost use Rattle.word_polynomial.specs.Fits.{FitsThree};
 ghost use Rattle.std.proofs.Common.{lit<};
 
-use crate::wide::Wide;
-use additive_transforms::{GhashWord, Holds};
-use ghash_slices::WideWord;
+use field_base::Holds;
 use many_words::Many;
 use word_polynomial::{CubicKernel, Triple};
-
-impl Holds<u128> for Wide {
-    ghost number = { wide_number };
-
-    #[inline]
-    fn stored(self) -> u128 {
-        self.number()
-    }
-
-    #[inline]
-    fn of_stored(x: u128) -> Wide {
-        Wide::of_number(x)
-    }
-}
-
-impl GhashWord for Wide {
-    ghost same_law = { λ x. mod-eq_of_lt (wide_number-lt x) };
-}
 
 /// A word of 192 bits as three of 64, the coefficient of 1 first, then that of y and of y².
 #[repr(C)]
@@ -37,6 +15,7 @@ pub struct Cubic {
     c0: u64,
     c1: u64,
     c2: u64,
+    ghost in_range: { FitsThree c0 c1 c2 },
 }
 
 impl Holds<Triple> for Cubic {
@@ -59,6 +38,9 @@ impl Holds<Triple> for Cubic {
             c2: x.c2,
         }
     }
+
+    #[inline(always)]
+    fn numbers_fit(words: &[Cubic]) {}
 }
 
 impl Many<Triple, Cubic> for CubicKernel {

@@ -46,4 +46,5 @@ pub mod TowerRing
 pub mod TowerSqrt
 pub mod TowerTraces
 pub mod ValueLemmas
+pub mod WordValues
 pub mod Written

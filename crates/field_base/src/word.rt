@@ -1,7 +1,7 @@
 // Words: what an element of a field is stored in.
 ghost use prog.Memory.{size};
 ghost use denote.Param.{layout};
-ghost use Rattle.std.specs.Prelude.{◌≡◌, ◌↔◌, ◌<◌, ◌≤◌, ◌*◌, ◌%◌, ◌^◌, ℕ, IsTrue, bit_xor};
+ghost use Rattle.std.specs.Prelude.{◌≡◌, ◌↔◌, ◌<◌, ◌≤◌, ◌*◌, ◌%◌, ◌^◌, ℕ, IsTrue, bit_xor, map, slice_index};
 ghost use Rattle.field_base.specs.Bit.{bit_number};
 
 mod impls;
@@ -54,6 +54,10 @@ pub trait Stored: Copy + Debug + Ord + Hash {
     {
         if bit.is_set() { Self::ONE } else { Self::ZERO }
     }
+
+    /// States that words have so many bits. It computes nothing.
+    fn words_fit(words: &[Self])
+        ensures { (p : ℕ) → slice_index (map number words.now) p < 2 ^ bits };
 
     ghost eq_law: { (x y : Self) → IsTrue (Self.PartialEq.eq x y) ↔ (number x ≡ number y) };
 

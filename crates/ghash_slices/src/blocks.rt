@@ -3,14 +3,15 @@ ghost use Rattle.std.specs.Prelude.{◌≡◌, ℕ, ◌+◌, ◌-◌, ◌*◌, �
 ghost use Rattle.std.specs.Simd.Lanes.{chunk, put_chunk};
 ghost use Rattle.ghash_slices.specs.Blocks.{HoldBytes};
 
-use crate::words::{WideWord, number_at};
+use crate::words::number_at;
+use field_base::Holds;
 use std::simd::prelude::*;
 use word_carryless::{bytes_of_128, number_of_bytes};
 
 /// The bytes of the values from `start` on, value by value. Past the last value they are 0.
-pub(crate) fn bytes_from<W: WideWord>(values: &[W], start: usize) -> [u8; 256]
+pub(crate) fn bytes_from<W: Holds<u128>>(values: &[W], start: usize) -> [u8; 256]
     requires { start ≤ length values.now }
-    ensures { HoldBytes result (λ e. slice_index (map W.value values.now) (start + e)) }
+    ensures { HoldBytes result (λ e. slice_index (map W.number values.now) (start + e)) }
 {
     W::numbers_fit(values);
     let mut bytes = [0; 256];

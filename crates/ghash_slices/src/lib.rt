@@ -27,7 +27,7 @@ pub use crate::slices::{
     butterfly_inverse, mul_slice,
 };
 pub use crate::width::Width;
-pub use crate::words::{WideWord, number_at, numbers_are_values, put_number};
+pub use crate::words::{number_at, put_number};
 use word_carryless::{multiply_mod_128, square_mod_128};
 pub use word_carryless::{masked_product, masked_products};
 

@@ -6,7 +6,8 @@ ghost use Rattle.ghash_slices.specs.Stages.{stage};
 ghost use Rattle.ghash_slices.specs.Runs.{AreLowSums, AreWithImages, HoldsRunStage, HoldsRunSums, run_factor, with_pair};
 
 use crate::width::Width;
-use crate::words::{WideWord, number_at, numbers_are_values, put_number};
+use crate::words::{number_at, put_number};
+use field_base::Holds;
 use std::alloc::{AllocError, Allocator};
 use std::simd::prelude::*;
 use word_tables::sum_of_images;
@@ -91,15 +92,13 @@ impl<A: Allocator> LowStageTwiddles<A> {
         ensures sums { HoldSums (shifts_of self.now) (basis_of self.now) first_run values.old values.new }
         ensures values { HoldValuesAtCantorPoints (shifts_of self.now) (basis_of self.now) first_run values.old values.new }
     {
-        numbers_are_values(values);
         run_low_stages::<V, u128>(&self.shifts, &self.basis, values, first_run as u128);
-        numbers_are_values(values);
     }
 }
 
 /// What `LowStageTwiddles::forward` does, by four shifts and a basis of at least three elements, over words that hold numbers. The numbers
 /// of the runs have at most 127 bits. In vectors of 128 bits two products share the lanes, and in vectors of 256 bits four.
-pub fn run_low_stages<V: Width, W: WideWord>(
+pub fn run_low_stages<V: Width, W: Holds<u128>>(
     shifts: &[u128; 4],
     basis: &[u128],
     values: &mut [W],
@@ -110,8 +109,8 @@ pub fn run_low_stages<V: Width, W: WideWord>(
     requires numbered { values.old ≢ [] → first_run + length values.old / 16 ≤ 2 ^ (length basis.now - 3) }
     requires fits { first_run + length values.old / 16 ≤ 2 ^ 127 }
     ensures length { length values.new ≡ length values.old }
-    ensures sums { HoldSums shifts.now basis.now first_run (map W.value values.old) (map W.value values.new) }
-    ensures values { HoldValuesAtCantorPoints shifts.now basis.now first_run (map W.value values.old) (map W.value values.new) }
+    ensures sums { HoldSums shifts.now basis.now first_run (map W.number values.old) (map W.number values.new) }
+    ensures values { HoldValuesAtCantorPoints shifts.now basis.now first_run (map W.number values.old) (map W.number values.new) }
 {
     let low = sums_of_three(basis);
     let mut number = first_run;
@@ -152,7 +151,7 @@ fn with_images(twiddles: &[u128; 4], basis: &[u128], bits: u128) -> [u128; 4]
 }
 
 // The four stages of the run of sixteen values from `start` on, by its twiddles and the sums of three elements of the basis.
-fn transform_run<V: Width, W: WideWord>(
+fn transform_run<V: Width, W: Holds<u128>>(
     values: &mut [W],
     start: usize,
     twiddles: &[u128; 4],
@@ -160,9 +159,9 @@ fn transform_run<V: Width, W: WideWord>(
 )
     requires { start + 16 ≤ length values.old }
     ensures length { length values.new ≡ length values.old }
-    ensures run { HoldsRunSums (run_factor twiddles.now low.now) start (map W.value values.old) (map W.value values.new) }
-    ensures before { (p : ℕ) → p < start → slice_index (map W.value values.new) p ≡ slice_index (map W.value values.old) p }
-    ensures behind { (p : ℕ) → start + 16 ≤ p → slice_index (map W.value values.new) p ≡ slice_index (map W.value values.old) p }
+    ensures run { HoldsRunSums (run_factor twiddles.now low.now) start (map W.number values.old) (map W.number values.new) }
+    ensures before { (p : ℕ) → p < start → slice_index (map W.number values.new) p ≡ slice_index (map W.number values.old) p }
+    ensures behind { (p : ℕ) → start + 16 ≤ p → slice_index (map W.number values.new) p ≡ slice_index (map W.number values.old) p }
 {
     run_stage::<V, W>(values, start, 3, twiddles, low);
     run_stage::<V, W>(values, start, 2, twiddles, low);
@@ -173,7 +172,7 @@ fn transform_run<V: Width, W: WideWord>(
 
 // One stage of that run, pair by pair: two places whose numbers differ in the bit of the stage alone are a pair.
 #[inline]
-fn run_stage<V: Width, W: WideWord>(
+fn run_stage<V: Width, W: Holds<u128>>(
     values: &mut [W],
     start: usize,
     bit: usize,
@@ -183,9 +182,9 @@ fn run_stage<V: Width, W: WideWord>(
     requires bit { bit < 4 }
     requires whole { start + 16 ≤ length values.old }
     ensures length { length values.new ≡ length values.old }
-    ensures run { HoldsRunStage (run_factor twiddles.now low.now) bit start (map W.value values.old) (map W.value values.new) }
-    ensures before { (p : ℕ) → p < start → slice_index (map W.value values.new) p ≡ slice_index (map W.value values.old) p }
-    ensures behind { (p : ℕ) → start + 16 ≤ p → slice_index (map W.value values.new) p ≡ slice_index (map W.value values.old) p }
+    ensures run { HoldsRunStage (run_factor twiddles.now low.now) bit start (map W.number values.old) (map W.number values.new) }
+    ensures before { (p : ℕ) → p < start → slice_index (map W.number values.new) p ≡ slice_index (map W.number values.old) p }
+    ensures behind { (p : ℕ) → start + 16 ≤ p → slice_index (map W.number values.new) p ≡ slice_index (map W.number values.old) p }
 {
     W::numbers_fit(values);
     let half = half_of(bit);
@@ -220,10 +219,10 @@ fn run_stage<V: Width, W: WideWord>(
 
 // Adds a product to the lower value of a pair, and then the lower value to the upper one.
 #[inline]
-fn add_to_pair<W: WideWord>(values: &mut [W], lower: usize, upper: usize, product: u128)
+fn add_to_pair<W: Holds<u128>>(values: &mut [W], lower: usize, upper: usize, product: u128)
     requires apart { lower < upper }
     requires inside { upper < length values.old }
-    ensures { map W.value values.new ≡ with_pair (map W.value values.old) lower upper product }
+    ensures { map W.number values.new ≡ with_pair (map W.number values.old) lower upper product }
 {
     let hi = number_at(values, upper);
     let lo = number_at(values, lower) ^ product;

@@ -12,7 +12,6 @@ ghost use Rattle.ghash_slices.specs.Blocks.{HoldBytes, HoldLanes, HoldRows};
 ghost use Rattle.ghash_slices.specs.LowStages.{ghash_product};
 
 use crate::blocks::{bytes_from, lanes_at, put_lanes, transposed};
-use crate::words::numbers_are_values;
 use std::simd::prelude::*;
 use word_carryless::{multiply_by_power_128, reduce_128};
 use word_tables::{ByteVector, entry_sums, halves, joined};
@@ -189,7 +188,6 @@ fn bytes_of_both(rows: &[u8x32; 16]) -> ([u8; 256], [u8; 256])
 fn rows_of(numbers: &[u128; 16]) -> [u8; 256]
     ensures { HoldRows result (slice_index numbers.now) }
 {
-    numbers_are_values(numbers);
     transposed(&bytes_from(numbers, 0))
 }
 

@@ -16,7 +16,8 @@ use crate::multiples::Multiples;
 use crate::scalar_products::{ScalarProducts, TabledScalar};
 use crate::split_scalar::SplitScalar;
 use crate::width::Width;
-use crate::words::{WideWord, number_at, numbers_are_values, put_number};
+use crate::words::{number_at, put_number};
+use field_base::Holds;
 use std::simd::prelude::*;
 
 /// The least number of values for which a slice, or what is left of it behind whole blocks of sixteen, is multiplied in lanes by tables in
@@ -28,9 +29,7 @@ pub const LEAST_IN_LANES: usize = 10;
 pub fn mul_slice(values: &mut [u128], scalar: u128)
     ensures { values.new ≡ map (λ x. mul_mod 128 ghash_modulus scalar x) values.old }
 {
-    numbers_are_values(values);
     multiply_all(values, scalar);
-    numbers_are_values(values);
 }
 
 /// The butterfly of the forward transform, place by place: `lo += scalar * hi`, and then `hi += lo`. Both slices have to be of
@@ -40,12 +39,8 @@ pub fn butterfly_forward(lo: &mut [u128], hi: &mut [u128], scalar: u128)
     ensures low { lo.new ≡ zip2 (add_multiple ghash_product scalar) lo.old hi.old }
     ensures high { hi.new ≡ zip2 bit_xor hi.old lo.new }
 {
-    numbers_are_values(lo);
-    numbers_are_values(hi);
     add_multiples::<u64x2, u128>(lo, hi, scalar);
     add_each(hi, lo);
-    numbers_are_values(lo);
-    numbers_are_values(hi);
 }
 
 /// The butterfly of the inverse transform, place by place: `hi += lo`, and then `lo += scalar * hi`. With the same scalar it
@@ -56,12 +51,8 @@ pub fn butterfly_inverse(lo: &mut [u128], hi: &mut [u128], scalar: u128)
     ensures high { hi.new ≡ zip2 bit_xor hi.old lo.old }
     ensures low { lo.new ≡ zip2 (add_multiple ghash_product scalar) lo.old hi.new }
 {
-    numbers_are_values(lo);
-    numbers_are_values(hi);
     add_each(hi, lo);
     add_multiples::<u64x2, u128>(lo, hi, scalar);
-    numbers_are_values(lo);
-    numbers_are_values(hi);
 }
 
 /// States that the inverse butterfly after the forward one with the same scalar restores both slices.
@@ -70,8 +61,8 @@ pub fn butterflies_restore()
 {}
 
 // Multiplies each value by the scalar, as `mul_slice` does.
-fn multiply_all<W: WideWord>(values: &mut [W], scalar: u128)
-    ensures { map W.value values.new ≡ map (λ x. mul_mod 128 ghash_modulus scalar x) (map W.value values.old) }
+fn multiply_all<W: Holds<u128>>(values: &mut [W], scalar: u128)
+    ensures { map W.number values.new ≡ map (λ x. mul_mod 128 ghash_modulus scalar x) (map W.number values.old) }
 {
     if values.len() < LEAST_IN_LANES {
         multiply_few(values, 0, scalar);
@@ -84,9 +75,9 @@ fn multiply_all<W: WideWord>(values: &mut [W], scalar: u128)
 
 /// Adds to each value the product of `scalar` and the other value at its place. The slices are of one length. From 10 values on it works in
 /// lanes, and from `LEAST_TABLED` of the width on by tables in memory.
-pub fn add_multiples<V: Width, W: WideWord>(values: &mut [W], others: &[W], scalar: u128)
+pub fn add_multiples<V: Width, W: Holds<u128>>(values: &mut [W], others: &[W], scalar: u128)
     requires { length values.old ≡ length others.now }
-    ensures { map W.value values.new ≡ zip2 (add_multiple ghash_product scalar) (map W.value values.old) (map W.value others.now) }
+    ensures { map W.number values.new ≡ zip2 (add_multiple ghash_product scalar) (map W.number values.old) (map W.number others.now) }
 {
     if values.len() < LEAST_IN_LANES {
         add_few(values, others, 0, scalar);
@@ -98,10 +89,10 @@ pub fn add_multiples<V: Width, W: WideWord>(values: &mut [W], others: &[W], scal
 }
 
 // Multiplies the values from `start` on, of which there are few. Of none the scalar is not split.
-fn multiply_few<W: WideWord>(values: &mut [W], start: usize, scalar: u128)
+fn multiply_few<W: Holds<u128>>(values: &mut [W], start: usize, scalar: u128)
     requires { start ≤ length values.old }
-    ensures { HoldsPlaces (multiplied_at scalar (map W.value values.old)) start (length values.old) (map W.value values.old)
-        (map W.value values.new) }
+    ensures { HoldsPlaces (multiplied_at scalar (map W.number values.old)) start (length values.old) (map W.number values.old)
+        (map W.number values.new) }
 {
     if start < values.len() {
         multiply_each(values, start, &SplitScalar::new(scalar));
@@ -110,10 +101,10 @@ fn multiply_few<W: WideWord>(values: &mut [W], start: usize, scalar: u128)
 
 // Multiplies the values from `start` on, one after another.
 #[inline]
-fn multiply_each<W: WideWord, S: ScalarProducts>(values: &mut [W], start: usize, products: &S)
+fn multiply_each<W: Holds<u128>, S: ScalarProducts>(values: &mut [W], start: usize, products: &S)
     requires { start ≤ length values.old }
-    ensures { HoldsPlaces (multiplied_at (S.scalar products.now) (map W.value values.old)) start (length values.old)
-        (map W.value values.old) (map W.value values.new) }
+    ensures { HoldsPlaces (multiplied_at (S.scalar products.now) (map W.number values.old)) start (length values.old)
+        (map W.number values.old) (map W.number values.new) }
 {
     for place in start..values.len() {
         let product = products.product(number_at(values, place));
@@ -122,8 +113,8 @@ fn multiply_each<W: WideWord, S: ScalarProducts>(values: &mut [W], start: usize,
 }
 
 // Multiplies the values in blocks of sixteen, and what is left behind them.
-fn multiply_in_lanes<W: WideWord>(values: &mut [W], multiples: &Multiples)
-    ensures { map W.value values.new ≡ map (λ x. mul_mod 128 ghash_modulus (scalar_of multiples.now) x) (map W.value values.old) }
+fn multiply_in_lanes<W: Holds<u128>>(values: &mut [W], multiples: &Multiples)
+    ensures { map W.number values.new ≡ map (λ x. mul_mod 128 ghash_modulus (scalar_of multiples.now) x) (map W.number values.old) }
 {
     let whole = values.len() / 16;
     for block in 0..whole {
@@ -138,10 +129,10 @@ fn multiply_in_lanes<W: WideWord>(values: &mut [W], multiples: &Multiples)
 }
 
 // Multiplies the block of sixteen values from `start` on, or what there is of it.
-fn multiply_block<W: WideWord>(values: &mut [W], start: usize, multiples: &Multiples)
+fn multiply_block<W: Holds<u128>>(values: &mut [W], start: usize, multiples: &Multiples)
     requires { start ≤ length values.old }
-    ensures { HoldsPlaces (multiplied_at (scalar_of multiples.now) (map W.value values.old)) start (start + 16) (map W.value values.old)
-        (map W.value values.new) }
+    ensures { HoldsPlaces (multiplied_at (scalar_of multiples.now) (map W.number values.old)) start (start + 16) (map W.number values.old)
+        (map W.number values.new) }
 {
     let products = multiples.products(&bytes_from(values, start));
     for place in 0..count_from(values.len(), start) {
@@ -152,18 +143,18 @@ fn multiply_block<W: WideWord>(values: &mut [W], start: usize, multiples: &Multi
 // Multiplies each value by tables in memory. It is apart and never inlined, since a function clears its locals when it is called, and
 // the tables take 8 KiB.
 #[inline(never)]
-fn multiply_by_tables<W: WideWord>(values: &mut [W], scalar: u128)
-    ensures { map W.value values.new ≡ map (λ x. mul_mod 128 ghash_modulus scalar x) (map W.value values.old) }
+fn multiply_by_tables<W: Holds<u128>>(values: &mut [W], scalar: u128)
+    ensures { map W.number values.new ≡ map (λ x. mul_mod 128 ghash_modulus scalar x) (map W.number values.old) }
 {
     multiply_each(values, 0, &TabledScalar::new(scalar));
 }
 
 // Adds the products of the other values from `start` on, of which there are few.
-fn add_few<W: WideWord>(values: &mut [W], others: &[W], start: usize, scalar: u128)
+fn add_few<W: Holds<u128>>(values: &mut [W], others: &[W], start: usize, scalar: u128)
     requires same { length values.old ≡ length others.now }
     requires inside { start ≤ length values.old }
-    ensures { HoldsPlaces (added_at scalar (map W.value values.old) (map W.value others.now)) start (length values.old)
-        (map W.value values.old) (map W.value values.new) }
+    ensures { HoldsPlaces (added_at scalar (map W.number values.old) (map W.number others.now)) start (length values.old)
+        (map W.number values.old) (map W.number values.new) }
 {
     if start < values.len() {
         add_products(values, others, start, &SplitScalar::new(scalar));
@@ -172,7 +163,7 @@ fn add_few<W: WideWord>(values: &mut [W], others: &[W], start: usize, scalar: u1
 
 // Adds the products of the other values from `start` on, one after another.
 #[inline]
-fn add_products<W: WideWord, S: ScalarProducts>(
+fn add_products<W: Holds<u128>, S: ScalarProducts>(
     values: &mut [W],
     others: &[W],
     start: usize,
@@ -180,8 +171,8 @@ fn add_products<W: WideWord, S: ScalarProducts>(
 )
     requires same { length values.old ≡ length others.now }
     requires inside { start ≤ length values.old }
-    ensures { HoldsPlaces (added_at (S.scalar products.now) (map W.value values.old) (map W.value others.now)) start (length values.old)
-        (map W.value values.old) (map W.value values.new) }
+    ensures { HoldsPlaces (added_at (S.scalar products.now) (map W.number values.old) (map W.number others.now)) start (length values.old)
+        (map W.number values.old) (map W.number values.new) }
 {
     for place in start..values.len() {
         add_number(values, place, products.product(number_at(others, place)));
@@ -190,10 +181,10 @@ fn add_products<W: WideWord, S: ScalarProducts>(
 
 /// Adds to each value the product of the scalar and the other value at its place, by two blocks of sixteen while there are two, as the
 /// width multiplies them, and then what is left behind them. No address depends on a value. The slices are of one length.
-pub fn add_in_lanes<V: Width, W: WideWord>(values: &mut [W], others: &[W], multiples: &Multiples)
+pub fn add_in_lanes<V: Width, W: Holds<u128>>(values: &mut [W], others: &[W], multiples: &Multiples)
     requires { length values.old ≡ length others.now }
-    ensures { map W.value values.new
-        ≡ zip2 (add_multiple ghash_product (scalar_of multiples.now)) (map W.value values.old) (map W.value others.now) }
+    ensures { map W.number values.new
+        ≡ zip2 (add_multiple ghash_product (scalar_of multiples.now)) (map W.number values.old) (map W.number others.now) }
 {
     let pairs = values.len() / 32;
     for pair in 0..pairs {
@@ -208,11 +199,11 @@ pub fn add_in_lanes<V: Width, W: WideWord>(values: &mut [W], others: &[W], multi
 }
 
 // Adds the products of the other values in the blocks from number `first` on, and behind them.
-fn add_blocks<W: WideWord>(values: &mut [W], others: &[W], first: usize, multiples: &Multiples)
+fn add_blocks<W: Holds<u128>>(values: &mut [W], others: &[W], first: usize, multiples: &Multiples)
     requires same { length values.old ≡ length others.now }
     requires inside { 16 * first ≤ length values.old }
-    ensures { HoldsPlaces (added_at (scalar_of multiples.now) (map W.value values.old) (map W.value others.now)) (16 * first)
-        (length values.old) (map W.value values.old) (map W.value values.new) }
+    ensures { HoldsPlaces (added_at (scalar_of multiples.now) (map W.number values.old) (map W.number others.now)) (16 * first)
+        (length values.old) (map W.number values.old) (map W.number values.new) }
 {
     let whole = values.len() / 16;
     for block in first..whole {
@@ -227,11 +218,11 @@ fn add_blocks<W: WideWord>(values: &mut [W], others: &[W], first: usize, multipl
 }
 
 // Adds the products of the block of sixteen other values from `start` on, or of what there is of it.
-fn add_block<W: WideWord>(values: &mut [W], others: &[W], start: usize, multiples: &Multiples)
+fn add_block<W: Holds<u128>>(values: &mut [W], others: &[W], start: usize, multiples: &Multiples)
     requires same { length values.old ≡ length others.now }
     requires inside { start ≤ length values.old }
-    ensures { HoldsPlaces (added_at (scalar_of multiples.now) (map W.value values.old) (map W.value others.now)) start (start + 16)
-        (map W.value values.old) (map W.value values.new) }
+    ensures { HoldsPlaces (added_at (scalar_of multiples.now) (map W.number values.old) (map W.number others.now)) start (start + 16)
+        (map W.number values.old) (map W.number values.new) }
 {
     add_bytes(
         values,
@@ -241,11 +232,11 @@ fn add_block<W: WideWord>(values: &mut [W], others: &[W], start: usize, multiple
 }
 
 // Adds the sixteen values of a block to those from `start` on, or to what there is of them.
-fn add_bytes<W: WideWord>(values: &mut [W], start: usize, bytes: &[u8; 256])
+fn add_bytes<W: Holds<u128>>(values: &mut [W], start: usize, bytes: &[u8; 256])
     requires { start ≤ length values.old }
     ensures { (added : ℕ → ℕ) → HoldBytes bytes.now added
-        → HoldsPlaces (λ p. bit_xor (slice_index (map W.value values.old) p) (added (p - start))) start (start + 16)
-        (map W.value values.old) (map W.value values.new) }
+        → HoldsPlaces (λ p. bit_xor (slice_index (map W.number values.old) p) (added (p - start))) start (start + 16)
+        (map W.number values.old) (map W.number values.new) }
 {
     for place in 0..count_from(values.len(), start) {
         add_number(values, start + place, value_at(bytes, place));
@@ -254,17 +245,17 @@ fn add_bytes<W: WideWord>(values: &mut [W], start: usize, bytes: &[u8; 256])
 
 // Adds the products of the other values by tables in memory, apart as `multiply_by_tables` is.
 #[inline(never)]
-fn add_by_tables<W: WideWord>(values: &mut [W], others: &[W], scalar: u128)
+fn add_by_tables<W: Holds<u128>>(values: &mut [W], others: &[W], scalar: u128)
     requires { length values.old ≡ length others.now }
-    ensures { map W.value values.new ≡ zip2 (add_multiple ghash_product scalar) (map W.value values.old) (map W.value others.now) }
+    ensures { map W.number values.new ≡ zip2 (add_multiple ghash_product scalar) (map W.number values.old) (map W.number others.now) }
 {
     add_products(values, others, 0, &TabledScalar::new(scalar));
 }
 
 /// Adds to each value the other value at its place. The slices are of one length.
-pub fn add_each<W: WideWord>(values: &mut [W], others: &[W])
+pub fn add_each<W: Holds<u128>>(values: &mut [W], others: &[W])
     requires { length values.old ≡ length others.now }
-    ensures { map W.value values.new ≡ zip2 bit_xor (map W.value values.old) (map W.value others.now) }
+    ensures { map W.number values.new ≡ zip2 bit_xor (map W.number values.old) (map W.number others.now) }
 {
     for place in 0..values.len() {
         add_number(values, place, number_at(others, place));
@@ -273,10 +264,10 @@ pub fn add_each<W: WideWord>(values: &mut [W], others: &[W])
 
 // Adds a number to the value at a place.
 #[inline(always)]
-fn add_number<W: WideWord>(values: &mut [W], place: usize, number: u128)
+fn add_number<W: Holds<u128>>(values: &mut [W], place: usize, number: u128)
     requires { place < length values.old }
-    ensures { map W.value values.new
-        ≡ slice_set (map W.value values.old) place (bit_xor (slice_index (map W.value values.old) place) number) }
+    ensures { map W.number values.new
+        ≡ slice_set (map W.number values.old) place (bit_xor (slice_index (map W.number values.old) place) number) }
 {
     let sum = number_at(values, place) ^ number;
     put_number(values, place, sum);

@@ -41,9 +41,3 @@ module _ {A : Type 0} (value : A → ℕ) where
       ∙ ap (λ (n : ℕ). bit_xor n (ghash_product s (value (get_or words k d)))) (nothing k within d)
       ∙ xor_zero_l (ghash_product s (value (get_or words k d)))
       ∙ ghash_ring.comm s (value (get_or words k d))
-
--- where the words of a list have these numbers and these values, so has each
-pub same_at : {A : Type 0} (number value : A → ℕ) (xs : List A) → map number xs ≡ map value xs → (k : ℕ) → k < length xs → (d : A)
-    → number (get_or xs k d) ≡ value (get_or xs k d)
-same_at number value xs same k inside d =
-    sym (get_or-map number xs k d 0 inside) ∙ ap (λ (l : List ℕ). get_or l k 0) same ∙ get_or-map value xs k d 0 inside

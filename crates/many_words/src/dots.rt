@@ -8,8 +8,7 @@ ghost use Rattle.many_words.specs.Words.{EachOfTwo};
 
 use crate::fields;
 use crate::in_slices::LEAST_IN_SLICES;
-use additive_transforms::Holds;
-use field_base::{FieldKernel, Stored};
+use field_base::{FieldKernel, Holds, Stored};
 
 // How many products are made at once.
 const BLOCK: usize = 128;

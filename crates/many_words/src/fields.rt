@@ -3,8 +3,7 @@ ghost use Rattle.std.specs.Prelude.{◌≡◌, ◌<◌, ◌^◌, ◌↔◌, IsTr
 ghost use Rattle.field_base.specs.Field.{IsInverseOrZero};
 ghost use Rattle.field_base.specs.Powers.{dot_of};
 
-use additive_transforms::Holds;
-use field_base::{FieldKernel, Stored};
+use field_base::{FieldKernel, Holds, Stored};
 
 /// The word 0.
 #[inline]

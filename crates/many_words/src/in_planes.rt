@@ -8,10 +8,8 @@ ghost use Rattle.many_words.specs.Places.{IsInPlanes};
 mod impls;
 
 use crate::fields;
-use additive_transforms::{
-    Holds, PlaneScalars, WordBytes, WordPlanes, add_multiples, multiply_words,
-};
-use field_base::{FieldKernel, Unsigned};
+use additive_transforms::{PlaneScalars, WordBytes, WordPlanes, add_multiples, multiply_words};
+use field_base::{FieldKernel, Holds, Unsigned};
 
 /// A field that is a level of the tower, and the planes that it multiplies them in.
 pub(crate) trait FieldInPlanes<R: Unsigned, W: WordBytes<R>>: FieldKernel<R> {

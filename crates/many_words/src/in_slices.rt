@@ -10,11 +10,10 @@ ghost use Rattle.many_words.specs.Fields.{field_of};
 ghost use Rattle.many_words.specs.Places.{IsInSlices};
 
 use crate::bases::{ChangeOfBasis, FromTower, ToTower};
-use additive_transforms::Holds;
 use bit_slices::{
     PolynomialWord, SlicedWord, Vector, invert_each, multiply_each, multiply_polynomials_each,
 };
-use field_base::{FieldKernel, Stored, Unsigned};
+use field_base::{FieldKernel, Holds, Stored, Unsigned};
 use word_polynomial::{Modulus, Polynomials};
 use word_tower::Level;
 

@@ -8,15 +8,16 @@ ghost use Rattle.ghash_slices.specs.LowStages.{ghash_product};
 ghost use Rattle.ghash_slices.specs.Fours.{product_at};
 
 use bit_slices::Vector;
-use ghash_slices::{WideWord, Width, number_at, put_number};
+use field_base::Holds;
+use ghash_slices::{Width, number_at, put_number};
 use word_carryless::{
     multiply_128, multiply_128_twice, multiply_mod_128, multiply_mod_128_twice, reduce_128,
 };
 
 /// Multiplies each word by the other word at its place, four at once, and what is left behind them two at once. The slices have one length.
-pub(crate) fn multiply_each<V: Width, W: WideWord>(words: &mut [W], others: &[W])
+pub(crate) fn multiply_each<V: Width, W: Holds<u128>>(words: &mut [W], others: &[W])
     requires { length words.old ≡ length others.now }
-    ensures { map W.value words.new ≡ zip2 ghash_product (map W.value words.old) (map W.value others.now) }
+    ensures { map W.number words.new ≡ zip2 ghash_product (map W.number words.old) (map W.number others.now) }
 {
     let four_count = words.len() / 4;
     'fours: for four in 0..four_count {
@@ -31,11 +32,11 @@ pub(crate) fn multiply_each<V: Width, W: WideWord>(words: &mut [W], others: &[W]
 }
 
 // From a place on, two at once.
-fn multiply_by_pairs<W: WideWord>(words: &mut [W], others: &[W], start: usize)
+fn multiply_by_pairs<W: Holds<u128>>(words: &mut [W], others: &[W], start: usize)
     requires same { length words.old ≡ length others.now }
     requires inside { start ≤ length words.old }
-    ensures { HoldsPlaces (product_at (map W.value words.old) (map W.value others.now)) start (length words.old)
-        (map W.value words.old) (map W.value words.new) }
+    ensures { HoldsPlaces (product_at (map W.number words.old) (map W.number others.now)) start (length words.old)
+        (map W.number words.old) (map W.number words.new) }
 {
     let pair_count = (words.len() - start) / 2;
     'pairs: for pair in 0..pair_count {
@@ -54,9 +55,9 @@ fn multiply_by_pairs<W: WideWord>(words: &mut [W], others: &[W], start: usize)
 
 /// The sum of the products at each place, which is 0 of none: of four at once in wide vectors, and of two behind them. The slices are of
 /// one length.
-pub(crate) fn dot_of_words<V: Width + Vector, W: WideWord>(left: &[W], right: &[W]) -> u128
+pub(crate) fn dot_of_words<V: Width + Vector, W: Holds<u128>>(left: &[W], right: &[W]) -> u128
     requires { length left.now ≡ length right.now }
-    ensures { result ≡ dot_of ghash_product (λ x. x) (map W.value left.now) (map W.value right.now) }
+    ensures { result ≡ dot_of ghash_product (λ x. x) (map W.number left.now) (map W.number right.now) }
 {
     let mut low = 0;
     let mut high = 0;
@@ -77,12 +78,14 @@ fn fours_added<V: Vector>(count: usize) -> usize
 }
 
 // The remainder of a sum of products, and the sum of the products from a place on: two at once, and reduced once.
-fn add_pairs<W: WideWord>(low: u128, high: u128, left: &[W], right: &[W], start: usize) -> u128
+fn add_pairs<W: Holds<u128>>(low: u128, high: u128, left: &[W], right: &[W], start: usize) -> u128
     requires same { length left.now ≡ length right.now }
     requires inside { start ≤ length left.now }
     ensures { result ≡ bit_xor (rem 128 ghash_modulus (high * 2 ^ 128 + low))
-        (dot_of ghash_product (λ x. x) (drop start (map W.value left.now)) (drop start (map W.value right.now))) }
+        (dot_of ghash_product (λ x. x) (drop start (map W.number left.now)) (drop start (map W.number right.now))) }
 {
+    W::numbers_fit(left);
+    W::numbers_fit(right);
     let mut sum_low = low;
     let mut sum_high = high;
     let pair_count = (left.len() - start) / 2;
@@ -106,20 +109,20 @@ fn add_pairs<W: WideWord>(low: u128, high: u128, left: &[W], right: &[W], start:
 
 // The numbers of two words from a place on.
 #[inline(always)]
-fn two_at<W: WideWord>(words: &[W], at: usize) -> (u128, u128)
+fn two_at<W: Holds<u128>>(words: &[W], at: usize) -> (u128, u128)
     requires { at + 2 ≤ length words.now }
-    ensures first { result.0 ≡ slice_index (map W.value words.now) at }
-    ensures second { result.1 ≡ slice_index (map W.value words.now) (at + 1) }
+    ensures first { result.0 ≡ slice_index (map W.number words.now) at }
+    ensures second { result.1 ≡ slice_index (map W.number words.now) (at + 1) }
 {
     (number_at(words, at), number_at(words, at + 1))
 }
 
 // The numbers of four words from a place on.
 #[inline(always)]
-fn four_at<W: WideWord>(words: &[W], at: usize) -> [u128; 4]
+fn four_at<W: Holds<u128>>(words: &[W], at: usize) -> [u128; 4]
     requires { at + 4 ≤ length words.now }
-    ensures { result ≡ slice_index (map W.value words.now) at ∷ slice_index (map W.value words.now) (at + 1)
-        ∷ slice_index (map W.value words.now) (at + 2) ∷ slice_index (map W.value words.now) (at + 3) ∷ [] }
+    ensures { result ≡ slice_index (map W.number words.now) at ∷ slice_index (map W.number words.now) (at + 1)
+        ∷ slice_index (map W.number words.now) (at + 2) ∷ slice_index (map W.number words.now) (at + 3) ∷ [] }
 {
     [
         number_at(words, at),

@@ -14,9 +14,8 @@ mod levels;
 use crate::fields;
 use crate::one_by_one::{change_all, change_all_by};
 use crate::operations::{Inverse, Product, Scaled, ScaledSum};
-use additive_transforms::Holds;
 use bit_slices::Vector;
-use field_base::{FieldKernel, Stored};
+use field_base::{FieldKernel, Holds, Stored};
 use ghash_slices::Width;
 use std::simd::prelude::*;
 

@@ -5,8 +5,7 @@ ghost use Rattle.many_words.specs.Fields.{field_of};
 ghost use Rattle.many_words.specs.Words.{AreElements, Each, EachOfTwo};
 
 use crate::operations::{OnOne, OnTwo};
-use additive_transforms::Holds;
-use field_base::{FieldKernel, Stored};
+use field_base::{FieldKernel, Holds, Stored};
 
 /// Leaves the result of the operation at each word, an element.
 #[inline]

@@ -3,8 +3,7 @@ ghost use Rattle.std.specs.Prelude.{◌≡◌, ◌<◌, ◌^◌, ℕ, bit_xor};
 ghost use Rattle.field_base.specs.Field.{IsInverseOrZero};
 
 use crate::fields;
-use additive_transforms::Holds;
-use field_base::{FieldKernel, Stored};
+use field_base::{FieldKernel, Holds, Stored};
 
 /// An operation on one element of the field of a kernel.
 pub trait OnOne<R: Stored, W: Holds<R>, K: FieldKernel<R>> {

@@ -16,10 +16,7 @@ pub(crate) fn multiply_all<V: Width, W: SlicedWide>(products: &mut [W], words: &
     ensures long { length products.new ≡ length products.old }
     ensures products { EachOfTwo (ghash_field_of W.Holds.number) (λ x y z. z ≡ ghash_product x y) products.old words.now products.new }
 {
-    W::numbers_are_values(products);
-    W::numbers_are_values(words);
     multiply_each::<V, W>(products, words);
-    W::numbers_are_values(products);
 }
 
 /// The sum of the products at each place, which is 0 of none: by two products at once, or by four in wide vectors. The slices are of one
@@ -28,7 +25,5 @@ pub(crate) fn dot_product<V: Width + Vector, W: SlicedWide>(left: &[W], right: &
     requires { length left.now ≡ length right.now }
     ensures { W.Holds.number result ≡ dot_of ghash_product W.Holds.number left.now right.now }
 {
-    W::numbers_are_values(left);
-    W::numbers_are_values(right);
     W::of_stored(dot_of_words::<V, W>(left, right))
 }

@@ -5,7 +5,8 @@ ghost use Rattle.many_words.specs.Fields.{ghash_field_of};
 ghost use Rattle.ghash_slices.specs.LowStages.{ghash_product};
 
 use crate::SlicedWide;
-use ghash_slices::{WideWord, Width, add_multiples};
+use field_base::Holds;
+use ghash_slices::{Width, add_multiples};
 
 /// Writes the product of each word and the scalar. The slices are of one length.
 pub(crate) fn write_multiples<V: Width, W: SlicedWide>(words: &[W], scalar: W, products: &mut [W])
@@ -14,8 +15,6 @@ pub(crate) fn write_multiples<V: Width, W: SlicedWide>(words: &[W], scalar: W, p
 {
     clear(products);
     add_multiples::<V, W>(products, words, scalar.stored());
-    W::numbers_are_values(products);
-    W::numbers_are_values(words);
 }
 
 // How many words are copied at once in place, of few words and of many: to clear the copy of many takes longer than to multiply few.
@@ -87,18 +86,15 @@ pub(crate) fn add_all<V: Width, W: SlicedWide>(sums: &mut [W], words: &[W], scal
     ensures { EachOfTwo (ghash_field_of W.Holds.number) (λ sum x next. next ≡ bit_xor sum (ghash_product (W.Holds.number scalar) x)) sums.old
         words.now sums.new }
 {
-    W::numbers_are_values(sums);
-    W::numbers_are_values(words);
     add_multiples::<V, W>(sums, words, scalar.stored());
-    W::numbers_are_values(sums);
 }
 
 // Makes every word 0.
-fn clear<W: WideWord>(words: &mut [W])
+fn clear<W: Holds<u128>>(words: &mut [W])
     ensures length { length words.new ≡ length words.old }
-    ensures zeros { (k : ℕ) → k < length words.new → (d : _) → W.value (get_or words.new k d) ≡ 0 }
+    ensures zeros { (k : ℕ) → k < length words.new → (d : _) → W.number (get_or words.new k d) ≡ 0 }
 {
     for place in 0..words.len() {
-        words[place] = W::of_number(0);
+        words[place] = W::of_stored(0);
     }
 }

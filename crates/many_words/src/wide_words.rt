@@ -1,7 +1,7 @@
 // Words of 128 bits that are elements of the field of GHASH and of the tower alike.
 ghost use prog.Memory.{size};
 ghost use denote.Param.{layout};
-ghost use Rattle.std.specs.Prelude.{◌≡◌, ◌<◌, ◌≤◌, ◌*◌, ◌^◌, ℕ, length, map};
+ghost use Rattle.std.specs.Prelude.{◌≡◌, ◌<◌, ◌≤◌, ◌*◌, ◌^◌, ℕ, length};
 ghost use Rattle.std.proofs.Common.{lit<};
 ghost use Rattle.field_base.specs.Tower.{tower_mul};
 ghost use Rattle.field_base.specs.TowerBasis.{tower_generator};
@@ -10,18 +10,14 @@ ghost use Rattle.field_base.specs.Room.{few_fit};
 ghost use Rattle.many_words.specs.Words.{EachOfTwo, HoldInverses};
 
 use crate::in_slices::{invert_images, invert_words, multiply_words};
-use additive_transforms::GhashWord;
 use bit_slices::Vector;
+use field_base::Holds;
 use word_polynomial::GhashModulus;
 use word_tower::{Bits128, Tower};
 
 /// A word that holds a number of 128 bits, and what is computed on many in slices of their bits: the number itself, or its halves as other
 /// languages have them. A type over which these are generic cannot name the slices of vectors of both widths, so that it names the calls.
-pub trait SlicedWide: GhashWord {
-    /// States that the numbers of words as elements are those that they hold.
-    fn numbers_are_values(words: &[Self])
-        ensures { map Self.Holds.number words.now ≡ map Self.WideWord.value words.now };
-
+pub trait SlicedWide: Holds<u128> {
     /// Multiplies each product, an element of the tower, by the word at its place. The slices are of one length.
     fn multiply_in_slices<V: Vector>(products: &mut [Self], words: &[Self])
         requires { length words.now ≡ length products.old }
@@ -44,10 +40,6 @@ pub trait SlicedWide: GhashWord {
 }
 
 impl SlicedWide for u128 {
-    fn numbers_are_values(words: &[u128]) {
-        ghash_slices::numbers_are_values(words);
-    }
-
     fn multiply_in_slices<V: Vector>(products: &mut [u128], words: &[u128]) {
         multiply_words::<u128, u128, Tower<Bits128>, V>(products, words);
     }

@@ -15,7 +15,7 @@ ghost use Rattle.tags.specs.Reversed.{ghash_times};
 
 use crate::blocks::{BLOCK_LENGTH, Powers, read_block, sum_of_products};
 use crate::encoding::Encoding;
-use ghash_slices::{Multiples, Width, add_in_lanes, numbers_are_values};
+use ghash_slices::{Multiples, Width, add_in_lanes};
 use word_carryless::square_mod_128;
 
 // The sums.
@@ -74,10 +74,7 @@ fn add_turn<E: Encoding, V: Width>(sums: &mut [u128; SUMS], multiples: &Multiple
     ensures { sums.new ≡ zip2 (add_multiple ghash_product (scalar_of multiples.now)) (map E.element (first_blocks 32 blocks.now)) sums.old }
 {
     let mut next = read_blocks::<E>(blocks);
-    numbers_are_values(&next);
-    numbers_are_values(sums);
     add_in_lanes::<V, u128>(&mut next, sums, multiples);
-    numbers_are_values(&next);
     *sums = next;
 }
 

@@ -51,6 +51,9 @@ impl Stored for Triple {
         Triple::of_low(i as u64)
     }
 
+    #[inline(always)]
+    fn words_fit(words: &[Triple]) {}
+
     ghost eq_law = { λ x y. words_law x y (Prim.search rules) };
 
     ghost room_law = { few_fit 1024 24 (lit< tt) };

@@ -3,7 +3,7 @@
 //
 // A look-up is one instruction (`pshufb`; `vpshufb` of 256 bits for thirty-two lanes on x86-64-v3, two of 128 bits on x86-64-v2), and
 // no address depends on what is looked up.
-ghost use Rattle.std.specs.Prelude.{◌≡◌, ◌/◌, ◌%◌, ◌++◌, ℕ, List, bit_xor, length, map, slice_index};
+ghost use Rattle.std.specs.Prelude.{◌≡◌, ◌<◌, ◌/◌, ◌%◌, ◌++◌, ℕ, List, bit_xor, length, map, slice_index};
 ghost use Rattle.std.specs.Simd.Lanes.{Each1, zip2};
 ghost use Rattle.std.proofs.Common.{Fits, w8};
 ghost use Rattle.word_tables.specs.Nibbles.{entry_sum};
@@ -16,6 +16,11 @@ pub trait ByteVector: Copy {
     ghost bytes: { Self → List ℕ };
 
     ghost lanes: { ℕ };
+
+    /// How many bytes it has.
+    fn lane_count() -> usize
+        ensures count { result ≡ lanes }
+        ensures some { 0 < result };
 
     /// States how many bytes a vector has, and that they have 8 bits. Of an element of an array of vectors this is not known.
     fn holds_bytes(self)
@@ -41,6 +46,11 @@ impl ByteVector for u8x16 {
     ghost lanes = { 16 };
 
     #[inline(always)]
+    fn lane_count() -> usize {
+        16
+    }
+
+    #[inline(always)]
     fn holds_bytes(self) {}
 
     #[inline(always)]
@@ -64,6 +74,11 @@ impl ByteVector for u8x32 {
     ghost bytes = { λ lanes. lanes };
 
     ghost lanes = { 32 };
+
+    #[inline(always)]
+    fn lane_count() -> usize {
+        32
+    }
 
     #[inline(always)]
     fn holds_bytes(self) {}

@@ -39,6 +39,9 @@ impl Stored for u8 {
         i as u8
     }
 
+    #[inline(always)]
+    fn words_fit(words: &[u8]) {}
+
     ghost eq_law = { Prim.search rules };
 
     ghost room_law = { few_fit 1024 1 (lit< tt) };
@@ -84,6 +87,9 @@ impl Stored for u16 {
     fn of_index(i: usize) -> u16 {
         i as u16
     }
+
+    #[inline(always)]
+    fn words_fit(words: &[u16]) {}
 
     ghost eq_law = { Prim.search rules };
 
@@ -131,6 +137,9 @@ impl Stored for u32 {
         i as u32
     }
 
+    #[inline(always)]
+    fn words_fit(words: &[u32]) {}
+
     ghost eq_law = { Prim.search rules };
 
     ghost room_law = { few_fit 1024 4 (lit< tt) };
@@ -177,6 +186,9 @@ impl Stored for u64 {
         i as u64
     }
 
+    #[inline(always)]
+    fn words_fit(words: &[u64]) {}
+
     ghost eq_law = { Prim.search rules };
 
     ghost room_law = { few_fit 1024 8 (lit< tt) };
@@ -222,6 +234,9 @@ impl Stored for u128 {
     fn of_index(i: usize) -> u128 {
         u128::from(i as u64)
     }
+
+    #[inline(always)]
+    fn words_fit(words: &[u128]) {}
 
     ghost eq_law = { Prim.search rules };
 

@@ -62,6 +62,9 @@ impl Stored for Coefficients {
         Coefficients::of_words(Triple::of_low(i as u64))
     }
 
+    #[inline(always)]
+    fn words_fit(words: &[Coefficients]) {}
+
     ghost eq_law = { λ x y. words_law (stored_words x) (stored_words y) (Prim.search rules) };
 
     ghost room_law = { few_fit 1024 24 (lit< tt) };

@@ -1,6 +1,6 @@
 use Rattle.std.proofs.Common.{◌-◌, ◌*◌, ◌^◌, length, map, ◌∙◌}
 use Rattle.std.proofs.lemmas.List.{length-map}
-use Rattle.ghash_slices.proofs.WordValues.{values_fit}
+use Rattle.field_base.proofs.WordValues.{values_fit}
 use Rattle.additive_transforms.proofs.LowStageRuns.{low_stages_hold, stage-count}
 use Rattle.additive_transforms.proofs.pairs.low_stages.Goals as goal
 

@@ -1,40 +1,8 @@
-use Rattle.std.proofs.Common.{◌≡◌, ℕ, ◌-◌, ◌^◌, ◌<◌, ◌≤◌, length, map, refl, sym, take, ◌∙◌, ap, subst, arith}
-use Rattle.std.proofs.lemmas.List.{length-map}
-use lib.Seq.{length-take-le}
 use Rattle.additive_transforms.specs.Transform.{HoldPolynomialValues}
-use Rattle.additive_transforms.proofs.Counts.{block_count, pairs_fit, whole_blocks}
-use Rattle.additive_transforms.proofs.OneOrigin.{forward_leaves}
+use Rattle.additive_transforms.proofs.NumberValues.{of_low}
 use Rattle.additive_transforms.proofs.whole.forward_words.Goals as goal
-
-pub stages_down_to-requires-clause-room : goal.stages_down_to-requires-clause-room
-stages_down_to-requires-clause-room g c =
-    let fits = pairs_fit c.stages_of-stages.result c.stages_of-stages.ensures.stages.0 in omega (arith, fits, c.new-kernel.ensures)
-
-pub run_low_stages-requires-clause-whole : goal.run_low_stages-requires-clause-whole
-run_low_stages-requires-clause-whole g c =
-    whole_blocks c.stages_of-stages.result 3 (length c.stages_down_to.new.values) (omega arith)
-    (c.stages_down_to.ensures.length ∙ c.stages_of-stages.ensures.stages.1)
-
-pub run_low_stages-requires-clause-numbered : goal.run_low_stages-requires-clause-numbered
-run_low_stages-requires-clause-numbered g c some =
-    let m = c.stages_of-stages.result in
-    let basis = c.new-twiddles.result.basis in
-    let above : 3 < m = omega arith in
-    let few : m - 1 ≤ length basis = omega (arith, c.new-twiddles.result.reach, c.stages_of-stages.ensures.stages.0) in
-    let elements = length-take-le (m - 1) basis few in
-    let same : length (take (m - 1) basis) - 3 ≡ m - 4 = omega (arith, elements) in
-    let runs = block_count m 3 (length c.stages_down_to.new.values) above (c.stages_down_to.ensures.length ∙ c.stages_of-stages.ensures.stages.1)
-    ∙ ap (λ (n : ℕ). 2 ^ n) (sym same) in
-    omega (arith, runs)
 
 pub returns-clause-values : goal.returns-clause-values
 returns-clause-values g c =
-    let value = g.W.WideWord.value in
-    let twiddles = c.new-twiddles.result in
-    let upper = c.stages_down_to.new.values in
-    let is = c.stages_of-stages.ensures.stages in
-    subst (λ (z : ℕ). HoldPolynomialValues z (map value c.args.words.now) (map value c.run_low_stages.new.values)) c.new-twiddles.ensures
-    (forward_leaves twiddles.shifts twiddles.basis twiddles.z twiddles.are twiddles.reach c.stages_of-stages.result is.0
-    (omega arith) _ _ (map value c.args.words.now) (map value upper) _ c.low_shifts.ensures refl
-    (length-map c.args.words.now value ∙ is.1) (length-map upper value ∙ c.stages_down_to.ensures.length ∙ is.1) c.stages_down_to.ensures.left
-    c.run_low_stages.ensures.sums)
+    of_low g.W.Holds.number (HoldPolynomialValues c.args.z) c.args.words.now c.forward_low_words.new.words c.numbers_fit.ensures
+    c.numbers_fit-2.ensures c.forward_low_words.ensures.values

@@ -1,16 +1,14 @@
-use Rattle.std.proofs.Common.{sym, ◌∙◌, ap₂}
-use Rattle.std.specs.Simd.Lanes.{zip2}
+use Rattle.std.proofs.Common.{sym}
 use Rattle.ghash_slices.specs.LowStages.{ghash_product}
 use Rattle.many_words.proofs.WordNumbers.{changed_at, changed_long}
 use Rattle.many_words.proofs.products.multiply_all.Goals as goal
 
 pub returns-clause-long : goal.returns-clause-long
 returns-clause-long g c =
-    changed_long g.W.WideWord.value ghash_product c.args.products.now c.args.words.now c.multiply_each.new.words (sym c.requires)
+    changed_long g.W.Holds.number ghash_product c.args.products.now c.args.words.now c.multiply_each.new.words (sym c.requires)
     c.multiply_each.ensures
 
 pub returns-clause-products : goal.returns-clause-products
 returns-clause-products g c =
     changed_at g.W.Holds.number ghash_product c.args.products.now c.args.words.now c.multiply_each.new.words (sym c.requires)
-    (c.numbers_are_values-3.ensures ∙ c.multiply_each.ensures
-    ∙ ap₂ (zip2 ghash_product) (sym c.numbers_are_values.ensures) (sym c.numbers_are_values-2.ensures))
+    c.multiply_each.ensures

@@ -1,4 +1,4 @@
-use Rattle.std.proofs.Common.{ℕ, map, sym, ◌∙◌, ap, ap₂}
+use Rattle.std.proofs.Common.{ℕ, map, sym, ◌∙◌, ap}
 use Rattle.std.specs.Simd.Lanes.{zip2}
 use Rattle.ghash_slices.specs.LowStages.{ghash_product}
 use Rattle.ghash_slices.specs.Stages.{add_multiple}
@@ -11,6 +11,4 @@ returns g c =
     let words = c.args.words.now in
     let sums = c.args.sums.now in
     changed_at number (add_multiple ghash_product (number c.args.scalar)) sums words c.add_multiples.new.values (sym c.requires)
-    (c.numbers_are_values-3.ensures ∙ c.add_multiples.ensures
-    ∙ ap₂ (zip2 (add_multiple ghash_product c.stored.result)) (sym c.numbers_are_values.ensures) (sym c.numbers_are_values-2.ensures)
-    ∙ ap (λ (s : ℕ). zip2 (add_multiple ghash_product s) (map number sums) (map number words)) c.stored.ensures)
+    (c.add_multiples.ensures ∙ ap (λ (s : ℕ). zip2 (add_multiple ghash_product s) (map number sums) (map number words)) c.stored.ensures)

@@ -1,6 +1,6 @@
 use Rattle.std.proofs.Common.{sym, ◌∙◌}
 use Rattle.std.proofs.lemmas.List.{length-map}
-use Rattle.ghash_slices.proofs.WordValues.{values_fit}
+use Rattle.field_base.proofs.WordValues.{values_fit}
 use Rattle.additive_transforms.proofs.ColumnStages.{column-fits, column_count}
 use Rattle.additive_transforms.proofs.ElementStages.{the_numbers}
 use Rattle.additive_transforms.proofs.elements.columns.inverse_columns_by.Goals as goal

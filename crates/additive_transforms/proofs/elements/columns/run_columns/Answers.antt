@@ -1,6 +1,6 @@
 use Rattle.std.proofs.Common.{refl, ◌∙◌, arith}
 use Rattle.std.proofs.lemmas.List.{length-map}
-use Rattle.ghash_slices.proofs.WordValues.{values_fit}
+use Rattle.field_base.proofs.WordValues.{values_fit}
 use Rattle.additive_transforms.specs.Elements.{level_shifts, twiddle_basis}
 use Rattle.additive_transforms.proofs.ColumnStages.{column-fits, column_count, so_far-end, so_far-start, so_far-step, stages_of-rows}
 use Rattle.additive_transforms.proofs.ElementStages.{basis_length, level_twiddles}

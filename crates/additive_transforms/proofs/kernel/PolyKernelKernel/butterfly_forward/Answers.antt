@@ -2,6 +2,6 @@ use Rattle.additive_transforms.proofs.kernel.PolyKernelKernel.butterfly_forward.
 
 pub returns-clause-values : goal.returns-clause-values
 returns-clause-values c = record {
-  low = c.add_multiples.ensures;
-  high = c.add_each.ensures;
+  low = c.add_products.ensures;
+  high = c.add_words.ensures;
 }

@@ -2,6 +2,6 @@ use Rattle.additive_transforms.proofs.kernel.PolyKernelKernel.butterfly_inverse.
 
 pub returns-clause-values : goal.returns-clause-values
 returns-clause-values c = record {
-  high = c.add_each.ensures;
-  low = c.add_multiples.ensures;
+  high = c.add_words.ensures;
+  low = c.add_products.ensures;
 }

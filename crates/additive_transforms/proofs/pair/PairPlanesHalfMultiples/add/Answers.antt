@@ -1,5 +1,5 @@
 use Rattle.additive_transforms.specs.Rows.{level_of}
-use Rattle.additive_transforms.proofs.RowHalves.{sum_of_pairs}
+use Rattle.additive_transforms.proofs.LaneFacts.{sum_of_pairs}
 use Rattle.additive_transforms.proofs.pair.PairPlanesHalfMultiples.add.Goals as goal
 
 pub returns : goal.returns

@@ -1,8 +1,12 @@
 use Rattle.additive_transforms.specs.Transform.{AreOnlyCoefficients}
-use Rattle.additive_transforms.proofs.NumberValues.{of_numbers}
+use Rattle.ghash_slices.proofs.WordValues.{of_own}
+use Rattle.additive_transforms.proofs.NumberValues.{of_low}
 use Rattle.additive_transforms.proofs.prepared.Transform.inverse.Goals as goal
 
 pub returns-clause-coefficients : goal.returns-clause-coefficients
 returns-clause-coefficients g c =
-    of_numbers (AreOnlyCoefficients c.args.self.now.twiddles.z) c.args.values.now c.inverse_with.new.values c.numbers_are_values.ensures
-    (λ p. (c.type_inv.values p).fits) c.inverse_with.ensures.coefficients
+    let z = c.args.self.now.twiddles.z in
+    let old = c.args.values.now in
+    let new = c.inverse_with.new.values in
+    of_own (AreOnlyCoefficients z) old new
+    (of_low (λ n. n) (AreOnlyCoefficients z) old new c.words_fit.ensures c.words_fit-2.ensures c.inverse_with.ensures.coefficients)
