@@ -3,13 +3,13 @@ use Rattle.std.proofs.Common.{◌≡◌, ◌⊎◌, inl, inr, ℕ, zero, suc, �
 use Rattle.std.specs.Prelude.{bit_xor}
 use Rattle.std.specs.Int.{bit_at}
 use Rattle.std.proofs.lemmas.Bool.{cases_lt}
-use Rattle.std.proofs.lemmas.Nat.{div-mul-add, mod-mul-add, pow_pos, xor_lt}
-use Rattle.std.proofs.lemmas.Nat.Bits.{bit_at-lt, bit_at-zero, bit_at_above}
+use Rattle.std.proofs.lemmas.Nat.{mod-mul-add, pow_pos, xor_lt}
+use Rattle.std.proofs.lemmas.Nat.Bits.{bit_at-lt, bit_at-zero, bit_at_above, bit_at_cat_high}
 use native.Mathlib.Nat.{one-mul, zero-mul}
 use lib.Bits.{xor_assoc, xor_comm, xor_zero_r}
 use Rattle.field_base.specs.Basis.{sum_below}
 use Rattle.field_base.specs.BitRingLemmas.{two_cases}
-use Rattle.field_base.proofs.BasisSums.{bit_at-add, bit_at-mod, sum_below-same}
+use Rattle.field_base.proofs.BasisSums.{bit_at-mod, sum_below-same}
 use Rattle.ghash_slices.specs.Cantor.{point}
 use Rattle.ghash_slices.proofs.StageSums.{sum_below-xor}
 
@@ -17,13 +17,6 @@ use Rattle.ghash_slices.proofs.StageSums.{sum_below-xor}
 low_bit : (k q p b : ℕ) → p < 2 ^ k → b < k → bit_at (q * 2 ^ k + p) b ≡ bit_at p b
 low_bit k q p b below lower =
     sym (bit_at-mod (q * 2 ^ k + p) k b lower) ∙ ap (λ (x : ℕ). bit_at x b) (mod-mul-add q (2 ^ k) p below)
-
--- and a high one that of its quotient
-high_bit : (k q p b : ℕ) → p < 2 ^ k → k ≤ b → bit_at (q * 2 ^ k + p) b ≡ bit_at q (b - k)
-high_bit k q p b below higher =
-    let parts : b ≡ k + (b - k) = omega (arith, higher) in
-    ap (bit_at (q * 2 ^ k + p)) parts ∙ bit_at-add (q * 2 ^ k + p) k (b - k)
-    ∙ ap (λ (x : ℕ). bit_at x (b - k)) (div-mul-add q (2 ^ k) p below)
 
 module _ (vector : ℕ → ℕ) (k q p : ℕ) (below : p < 2 ^ k) where
   -- the start of the block
@@ -44,7 +37,7 @@ module _ (vector : ℕ → ℕ) (k q p : ℕ) (below : p < 2 ^ k) where
       pick (inr higher) =
           ap₂ bit_xor
           (ap (λ (d : ℕ). d * vector b)
-          (ap (λ (x : ℕ). bit_at x b) start ∙ high_bit k q 0 b (pow_pos k) higher ∙ sym (high_bit k q p b below higher)))
+          (ap (λ (x : ℕ). bit_at x b) start ∙ bit_at_cat_high q k 0 b (pow_pos k) higher ∙ sym (bit_at_cat_high q k p b below higher)))
           (ap (λ (d : ℕ). d * vector b) (bit_at_above p k b below higher) ∙ zero-mul (vector b))
           ∙ xor_zero_r (bit_at (q * 2 ^ k + p) b * vector b)
 

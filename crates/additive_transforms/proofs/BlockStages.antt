@@ -1,12 +1,13 @@
 -- One stage, block by block.
 use Rattle.std.proofs.Common.{◌≡◌, ◌⊎◌, inl, inr, ℕ, suc, ◌+◌, ◌-◌, ◌*◌, ◌/◌, ◌^◌, ◌<◌, ◌≤◌, Bool, true, false, List, length, map, refl, sym, ◌∙◌, ap, ap₂, subst, arith}
 use Rattle.std.specs.Prelude.{bit_xor, slice_index}
-use Rattle.std.proofs.Math.Nat.{mul-le-mul_right, two-pow-succ}
+use Rattle.std.proofs.Math.Nat.{two-pow-succ}
 use Rattle.std.proofs.lemmas.Bool.{cases_lt}
 use borrow.Rule.Slice.PartMut.{mid_len, mid_of, put_mid, same_len_mid}
 use Rattle.ghash_slices.specs.LowStages.{values_from}
 use Rattle.additive_transforms.specs.Stages.{IsButterfly, TakesBlock}
 use Rattle.additive_transforms.proofs.Written.{read_before, read_behind, read_inside, read_lent}
+use lib.Arith.{digits_lt}
 
 -- arrays that are the same in a block
 pub butterfly-same : (times : ℕ → ℕ → ℕ) (t half : ℕ) (a b c d : ℕ → ℕ)
@@ -32,13 +33,6 @@ pub butterfly-at : (times : ℕ → ℕ → ℕ) (t t' half half' : ℕ) (a b : 
     → IsButterfly times t' half' a b
 butterfly-at times t t' half half' a b scalar length is =
     subst (λ (h : ℕ). IsButterfly times t' h a b) length (subst (λ (s : ℕ). IsButterfly times s half a b) scalar is)
-
--- a block's places are before those of a later one
-pub blocks_apart : (q n size r : ℕ) → q < n → r < size → q * size + r < n * size
-blocks_apart q n size r earlier within =
-    let room : suc q * size ≤ n * size = mul-le-mul_right size earlier in
-    let one : suc q * size ≡ q * size + size = omega arith in
-    omega (arith, room, one)
 
 -- ---- blocks so far
 
@@ -83,7 +77,7 @@ module _ {A : Type 0} (value : A → ℕ) (size : ℕ) (holds : ℕ → (ℕ →
       pick q below (inl earlier) =
           local.same q _ _ _ _ (λ r within. refl)
           (λ r within.
-          let before : q * size + r < start = let apart = blocks_apart q n size r earlier within in omega (arith, apart) in
+          let before : q * size + r < start = let apart = digits_lt earlier within in omega (arith, apart) in
           read_before value start k now block room as_long (q * size + r) before)
           (so_far.done q earlier)
       pick q below (inr last) =

@@ -5,13 +5,9 @@ use Rattle.std.specs.Simd.Lanes.{zip2}
 use Rattle.std.proofs.lemmas.Bool.{false≢true}
 use Rattle.std.proofs.lemmas.List.{get_or-append-add, get_or_append_left, length-map, map-append}
 use Rattle.std.proofs.lemmas.Simd.{get_or-zip2, length-zip2}
-use lib.Bits.{xor_assoc, xor_self, xor_zero_r}
 use Rattle.ghash_slices.specs.Stages.{add_multiple}
 use Rattle.additive_transforms.specs.Stages.{IsButterfly, TakesBlock}
-
--- what is added twice is gone
-pub twice : (x y : ℕ) → bit_xor (bit_xor x y) y ≡ x
-twice x y = xor_assoc x y y ∙ ap (bit_xor x) (xor_self y) ∙ xor_zero_r x
+use Rattle.field_base.proofs.RingLemmas.{xor_back}
 
 -- ---- which way
 
@@ -76,12 +72,12 @@ module _ (times : ℕ → ℕ → ℕ) (t n : ℕ) (lo hi lo' hi' : List ℕ) (l
             λ r below.
             read_lower n lo hi low r below
             ∙ sym (ap (λ (x : ℕ). bit_xor x (times t (slice_index hi' r))) (low_read r below)
-            ∙ twice (slice_index lo r) (times t (slice_index hi' r)))
+            ∙ xor_back (slice_index lo r) (times t (slice_index hi' r)))
             ∙ ap₂ (λ (x y : ℕ). bit_xor x (times t y)) (sym (read_lower n lo' hi' low' r below)) (sym (read_upper n lo' hi' low' r));
         upper =
             λ r below.
             read_upper n lo hi low r
-            ∙ sym (ap (λ (x : ℕ). bit_xor x (slice_index lo r)) (high_read r below) ∙ twice (slice_index hi r) (slice_index lo r))
+            ∙ sym (ap (λ (x : ℕ). bit_xor x (slice_index lo r)) (high_read r below) ∙ xor_back (slice_index hi r) (slice_index lo r))
             ∙ ap₂ bit_xor (sym (read_upper n lo' hi' low' r)) (sym (read_lower n lo hi low r below));
       }
     where

@@ -1,5 +1,5 @@
 -- Products of elements that stand one after another in sixteen bytes, by products of their halves and as the products of one number.
-use Rattle.std.proofs.Common.{◌≡◌, ◌⊎◌, inl, inr, ℕ, zero, suc, ◌+◌, ◌-◌, ◌*◌, ◌/◌, ◌^◌, ◌<◌, ◌≤◌, List, ◌++◌, drop, length, get_or, map, refl, take, sym, ◌∙◌, ap, ap₂, subst, arith, w8, Fits}
+use Rattle.std.proofs.Common.{◌≡◌, ◌⊎◌, inl, inr, ℕ, zero, suc, ◌+◌, ◌-◌, ◌*◌, ◌^◌, ◌<◌, ◌≤◌, List, ◌++◌, drop, length, get_or, map, refl, take, sym, ◌∙◌, ap, ap₂, subst, arith, w8, Fits}
 use Rattle.std.specs.Prelude.{bit_xor, slice_index}
 use Rattle.std.specs.Simd.Lanes.{Each1, digits_l, number_l, pick_l, zip2}
 use Rattle.std.specs.List.{range_with_len}
@@ -7,7 +7,7 @@ use Rattle.std.proofs.lemmas.Bool.{cases_lt}
 use Rattle.std.proofs.Math.Nat.{two-pow-succ}
 use Rattle.std.proofs.lemmas.List.{get_or-append-add, get_or-map, get_or_append_left, get_or_past, length-drop, length-map, length-take-le, take-append-drop}
 use Rattle.std.proofs.lemmas.Simd.{Each1-get_or, get_or-zip2, length-zip2, pick_l_whole}
-use native.Mathlib.Nat.{pow-suc, zero-add}
+use native.Mathlib.Nat.{zero-add}
 use lib.Bits.{xor_comm}
 use Rattle.word_tables.specs.Nibbles.{entry_sum}
 use Rattle.field_base.specs.Quadratic.{pair}
@@ -22,6 +22,7 @@ use Rattle.additive_transforms.specs.Rows.{level_of}
 use Rattle.additive_transforms.specs.declared.multiples.ByteMultiples.{ByteMultiples}
 use Rattle.additive_transforms.proofs.LaneFacts.{multiples_sum}
 use Rattle.additive_transforms.proofs.Scalars.{product_of_pairs}
+use Rattle.word_carryless.proofs.NibbleSquares.{number-digits}
 
 -- so many bytes
 pub record AreBytes (n : ℕ) (bytes : List ℕ) : Type 0 where
@@ -181,14 +182,6 @@ chunk-number bytes sixteen =
         (pair 32 (pair 16 (pair 8 i j) (pair 8 k l)) (pair 16 (pair 8 m n) (pair 8 o p)))
         ≡ a + 256 * (b + 256 * (c + 256 * (d + 256 * (e + 256 * (f + 256 * (g + 256 * (h + 256 * (i + 256 * (j + 256 * (k + 256 * (l + 256 * (m + 256 * (n + 256 * (o + 256 * (p + 256 * 0)))))))))))))))
     whole a b c d e f g h i j k l m n o p = omega arith
-
--- the number of the n lowest bytes of x is x, if x fits
-number-digits : (n x : ℕ) → x < 256 ^ n → number_l 256 (digits_l 256 n x) ≡ x
-number-digits zero x below = omega arith
-number-digits (suc n) x below =
-    let whole : 256 ^ suc n ≡ 256 ^ n * 256 = pow-suc 256 n in
-    let higher : x / 256 < 256 ^ n = omega arith in
-    let rest = number-digits n (x / 256) higher in omega arith
 
 -- the bytes of a number of 128 bits are one element, the number
 pub digits_number : (x : ℕ) (bytes : List ℕ) → length bytes ≡ 16 → x < 2 ^ 128 → bytes ≡ digits_l 256 16 x → chunk_of 4 bytes 0 ≡ x

@@ -15,9 +15,10 @@ use Rattle.field_base.proofs.WordValues.{values_fit}
 use Rattle.additive_transforms.specs.Columns.{column_of, FitsColumns, HasRows, InEachColumn}
 use Rattle.additive_transforms.specs.Stages.{AreLeft, IsButterfly, TakesBlock, TakesBlocks, TakesStage}
 use Rattle.additive_transforms.specs.Transform.{HasStages, TakesTransform}
-use Rattle.additive_transforms.proofs.BlockStages.{blocks_apart, taken_local}
+use Rattle.additive_transforms.proofs.BlockStages.{taken_local}
 use Rattle.additive_transforms.proofs.OneOrigin.{all_leave, undone_leave}
 use Rattle.additive_transforms.proofs.WholeStages.{AreUndone, left_step, undone_start, undone_step, whole_blocks}
+use lib.Arith.{digits_lt}
 
 -- ---- one column
 
@@ -108,11 +109,11 @@ module _ (times : ℕ → ℕ → ℕ) (t n columns c : ℕ) (below : c < column
       record {
         lower =
             λ r small.
-            is.lower (r * columns + c) (blocks_apart r n columns c small below)
+            is.lower (r * columns + c) (digits_lt small below)
             ∙ ap (λ (k : ℕ). bit_xor (a (r * columns + c)) (times t (a k))) (upper r);
         upper =
             λ r small.
-            ap b (sym (upper r)) ∙ is.upper (r * columns + c) (blocks_apart r n columns c small below)
+            ap b (sym (upper r)) ∙ is.upper (r * columns + c) (digits_lt small below)
             ∙ ap (λ (k : ℕ). bit_xor (a k) (b (r * columns + c))) (upper r);
       }
     where
@@ -153,7 +154,7 @@ column-stage inverse times s shift basis m j half columns count old new has same
         → values_from (column_of columns c l) (q * 2 ^ suc j) r ≡ row_of l r
     read l long r short =
         let size = two-pow-succ j in
-        let here = blocks_apart q (2 ^ (m - suc j)) (2 ^ suc j) r small (omega (arith, size, short)) in
+        let here = digits_lt {q = q} {m = (2 ^ (m - suc j))} {r = r} {c = (2 ^ suc j)} small (omega (arith, size, short)) in
         let all = whole_blocks m j below in
         let rows = row_count m columns (length l) (subst (HasRows m columns) (sym long) has) in
         let place : (q * (2 ^ j + 2 ^ j) + r) * columns + c ≡ q * (2 * (2 ^ j * columns)) + (r * columns + c) = omega arith in

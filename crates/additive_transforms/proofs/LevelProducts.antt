@@ -1,12 +1,11 @@
 -- Products by scalars of lower levels, in the bits of a level.
-use Rattle.std.proofs.Common.{◌≡◌, ℕ, suc, ◌+◌, ◌-◌, ◌/◌, ◌%◌, ◌^◌, ◌<◌, ◌≤◌, Bool, false, true, [], ◌∷◌, refl, sym, ◌∙◌, ap, subst, arith, lit<}
+use Rattle.std.proofs.Common.{◌≡◌, ℕ, suc, ◌+◌, ◌-◌, ◌%◌, ◌^◌, ◌<◌, ◌≤◌, Bool, false, true, [], ◌∷◌, refl, sym, ◌∙◌, ap, subst, arith, lit<}
 use Rattle.std.specs.Prelude.{bit_xor, slice_index}
 use Rattle.std.proofs.Math.Pow.{mod-mod-pow, pow_mono}
 use Rattle.std.proofs.lemmas.Nat.{pow_pos, xor_mod}
-use native.Mathlib.Nat.{div-one, mod-eq_of_lt, mul-zero}
+use native.Mathlib.Nat.{mod-eq_of_lt}
 use Rattle.additive_transforms.specs.Stages.{IsButterfly, TakesBlock}
 use Rattle.additive_transforms.proofs.PairLoops.{pair_on}
-use Rattle.field_base.specs.Chunks.{chunk}
 use Rattle.field_base.specs.Tower.{tower_mul}
 use Rattle.field_base.proofs.Coefficients.{scales_coefficients}
 use Rattle.field_base.proofs.RingLemmas.{times-mod}
@@ -14,6 +13,7 @@ use Rattle.field_base.proofs.TowerProducts.{level-lt}
 use Rattle.field_base.proofs.TowerRing.{tower_ring}
 use Rattle.ghash_slices.specs.Cantor.{subspace_value}
 use Rattle.ghash_slices.specs.Stages.{add_multiple}
+use Rattle.field_base.proofs.ChunkLists.{chunk-first}
 
 -- an element of a level fits each level above it
 fits_above : (j k s : ℕ) → j ≤ k → s < 2 ^ 2 ^ j → s < 2 ^ 2 ^ k
@@ -21,16 +21,12 @@ fits_above j k s within fits =
     let levels : k - j + j ≡ k = omega (arith, within) in
     subst (λ (n : ℕ). s < 2 ^ 2 ^ n) levels (level-lt (k - j) j s fits)
 
--- the lowest bits are the first chunk
-first_chunk : (width x : ℕ) → chunk width 0 x ≡ x % 2 ^ width
-first_chunk width x = ap (λ (k : ℕ). x / 2 ^ k % 2 ^ width) (mul-zero width) ∙ ap (λ (y : ℕ). y % 2 ^ width) (div-one x)
-
 -- a product at a level m by an element of a level is, in the bits of a level between, the product at that level
 product_in_level : (j k m s x : ℕ) → j ≤ k → k ≤ m → s < 2 ^ 2 ^ j → tower_mul m s x % 2 ^ 2 ^ k ≡ tower_mul k s x
 product_in_level j k m s x within few fits =
-    sym (first_chunk (2 ^ k) (tower_mul m s x))
+    sym (chunk-first (2 ^ k) (tower_mul m s x))
     ∙ scales_coefficients m k (2 ^ (m - k)) refl few 0 s x (pow_pos (m - k)) (fits_above j k s within fits)
-    ∙ ap (tower_mul k s) (first_chunk (2 ^ k) x)
+    ∙ ap (tower_mul k s) (chunk-first (2 ^ k) x)
     ∙ times-mod (2 ^ k) 1 (tower_mul k) (tower_ring k) s x
 
 -- the bits of a level are among those of a word

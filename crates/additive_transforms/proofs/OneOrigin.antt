@@ -12,14 +12,13 @@ use Rattle.field_base.specs.LinearMaps.{linear_image}
 use Rattle.field_base.specs.Orders.{AreCantorVectors}
 use Rattle.field_base.specs.Ring.{IsRing}
 use Rattle.field_base.proofs.RemainderRing.{ghash_ring}
-use Rattle.field_base.proofs.RingLemmas.{sum_times, xor_cancel}
+use Rattle.field_base.proofs.RingLemmas.{sum_times, xor_cancel, xor_back}
 use Rattle.additive_transforms.specs.Stages.{AreLeft}
 use Rattle.ghash_slices.specs.Stages.{factor, lower_place, stage, stages, upper_place}
 use Rattle.ghash_slices.specs.Cantor.{AreCantorTwiddles, point, polynomial_value}
 use Rattle.ghash_slices.proofs.GhashVectors.{ghash_vectors}
 use Rattle.ghash_slices.specs.LowStages.{ghash_cantor_vector, ghash_product, HoldSums}
 use Rattle.additive_transforms.specs.Transform.{AreTheCoefficients, HoldPolynomialValues, HoldValuesAtPoints}
-use Rattle.additive_transforms.proofs.Butterflies.{twice}
 use Rattle.additive_transforms.proofs.Counts.{one_exponent}
 use Rattle.additive_transforms.proofs.WholeStages.{AreUndone, SplitPlace, end_before, low_stages_are, split_place, stages_are_values, whole_blocks}
 
@@ -119,7 +118,7 @@ module _ (width : ℕ) (times : ℕ → ℕ → ℕ) (ring : IsRing width 1 time
       of_low c c_fits =
           ap (λ (x : ℕ). bit_xor x (times (bit_xor (slice_index shifts j) (linear_image basis q)) (c (q * 2 ^ suc j + (2 ^ j + r)))))
           (at_low width times ring shifts basis j q r below c c_fits)
-          ∙ twice (c (q * 2 ^ suc j + r)) (times (bit_xor (slice_index shifts j) (linear_image basis q)) (c (q * 2 ^ suc j + (2 ^ j + r))))
+          ∙ xor_back (c (q * 2 ^ suc j + r)) (times (bit_xor (slice_index shifts j) (linear_image basis q)) (c (q * 2 ^ suc j + (2 ^ j + r))))
 
       lower : a (q * 2 ^ suc j + r) ≡ b (q * 2 ^ suc j + r)
       lower =

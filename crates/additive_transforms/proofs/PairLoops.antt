@@ -9,7 +9,8 @@ use Rattle.std.proofs.lemmas.Simd.{length-zip2}
 use Rattle.ghash_slices.specs.LowStages.{ghash_product}
 use Rattle.ghash_slices.specs.Stages.{add_multiple}
 use Rattle.additive_transforms.specs.Stages.{IsButterfly, TakesBlock, TakesSlices}
-use Rattle.additive_transforms.proofs.Butterflies.{read_both, read_lower, read_upper, taken_back, taken_on, twice}
+use Rattle.additive_transforms.proofs.Butterflies.{read_both, read_lower, read_upper, taken_back, taken_on}
+use Rattle.field_base.proofs.RingLemmas.{xor_back}
 
 -- the forward butterfly takes a pair to a pair
 abbrev pub forward_of : (ℕ → ℕ → ℕ) → ℕ → ℕ → ℕ → ℕ → ℕ → Type 0
@@ -203,7 +204,7 @@ module _ (times : ℕ → ℕ → ℕ) (s x y x' y' : ℕ) where
   pair_back inverse chosen high low =
       taken_back times s 1 (slice_index (x ∷ y ∷ [])) (slice_index (x' ∷ y' ∷ [])) inverse chosen
       (of_pair times s x' y' x y
-      (sym (ap (λ (z : ℕ). bit_xor z (times s y')) low ∙ twice x (times s y')), sym (ap (λ (z : ℕ). bit_xor z x) high ∙ twice y x)))
+      (sym (ap (λ (z : ℕ). bit_xor z (times s y')) low ∙ xor_back x (times s y')), sym (ap (λ (z : ℕ). bit_xor z x) high ∙ xor_back y x)))
 
 -- where the forward butterfly takes each pair of places of two lists, it takes the block that they make
 of_places : (times : ℕ → ℕ → ℕ) (s n : ℕ) (lo hi lo' hi' : List ℕ) → length lo ≡ n → length lo' ≡ n

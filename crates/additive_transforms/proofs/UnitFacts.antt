@@ -8,6 +8,7 @@ use native.Mathlib.Nat.{mod-eq_of_lt}
 use Rattle.field_base.specs.Quadratic.{pair}
 use Rattle.additive_transforms.specs.Rows.{level_of}
 use Rattle.additive_transforms.specs.Units.{ArePut, AreUnits, AreUnwoven, byte_of, unit_of}
+use Rattle.field_base.proofs.ChunkLists.{pow-256}
 
 -- ---- two rows, one behind the other
 
@@ -199,13 +200,6 @@ half_units d size count n few whole total =
 
 -- ---- all units of the bytes of a number
 
--- a power of 256 is one of 2
-bytes-pow : (k : ℕ) → 256 ^ k ≡ 2 ^ (8 * k)
-bytes-pow zero = refl
-bytes-pow (suc k) =
-    let next : 8 * suc k ≡ 8 * k + 8 = omega arith in
-    pow-suc 256 k ∙ ap (λ (x : ℕ). x * 256) (bytes-pow k) ∙ sym (pow-add 2 (8 * k) 8) ∙ ap (λ (e : ℕ). 2 ^ e) (sym next)
-
 -- the bits of 2 ^ d bytes
 level-bits : (d : ℕ) → 2 ^ level_of d ≡ 8 * 2 ^ d
 level-bits zero = refl
@@ -258,11 +252,11 @@ unit-modulo size i numbers =
     bytes : (k : ℕ) → k < 2 ^ size → byte_of size numbers (i * 2 ^ size + k) ≡ slice_index numbers i / 2 ^ (8 * k) % 256
     bytes k below =
         ap₂ (λ (j r : ℕ). slice_index numbers j / 256 ^ r % 256) (div-mul-add i (2 ^ size) k below) (mod-mul-add i (2 ^ size) k below)
-        ∙ ap (λ (b : ℕ). slice_index numbers i / b % 256) (bytes-pow k)
+        ∙ ap (λ (b : ℕ). slice_index numbers i / b % 256) (pow-256 k)
 
 -- and the number, if it fits
 pub unit-whole : (size i : ℕ) (numbers : List ℕ) → slice_index numbers i < 256 ^ 2 ^ size
     → unit_of size (byte_of size numbers) i ≡ slice_index numbers i
 unit-whole size i numbers fits =
     unit-modulo size i numbers
-    ∙ mod-eq_of_lt (subst (λ (b : ℕ). slice_index numbers i < b) (bytes-pow (2 ^ size) ∙ ap (λ (e : ℕ). 2 ^ e) (sym (level-bits size))) fits)
+    ∙ mod-eq_of_lt (subst (λ (b : ℕ). slice_index numbers i < b) (pow-256 (2 ^ size) ∙ ap (λ (e : ℕ). 2 ^ e) (sym (level-bits size))) fits)

@@ -15,7 +15,8 @@ use Rattle.field_slices.specs.Matrices.{HaveSameRowSpace, IsReducedEchelon, IsRo
 use Rattle.field_slices.proofs.MatrixRows.{places-differ}
 use Rattle.bits_packed.specs.BitMatrices.{IsBitRowWritten, IsBitWritten, IsRangeWritten, bit_entry, kept_before, word_of}
 use Rattle.bits_packed.proofs.FourRowTables.{bit_of_product, bit_of_xor}
-use Rattle.bits_packed.proofs.WordRanges.{row_fits, rows_apart}
+use Rattle.bits_packed.proofs.WordRanges.{row_fits}
+use lib.Arith.{digits_lt}
 
 -- an entry is a bit
 pub entry-lt : (words : ℕ) (values : List ℕ) (i j : ℕ) → bit_entry words values i j < 2
@@ -58,7 +59,7 @@ module _ (words row first own : ℕ) (wanted : ℕ → ℕ) (old now : List ℕ)
       (elim (cases_order i row) [
         | inl same ↦ absurd (differs same)
         | inr order ↦ elim order [
-          | inl earlier ↦ inl (let less = rows_apart words i row v earlier inside in omega (arith, less, own_is))
+          | inl earlier ↦ inl (let less = digits_lt earlier inside in omega (arith, less, own_is))
           | inr later ↦ inr (let fits = row_fits words i row words later (omega arith) in omega (arith, fits, within, own_is))
         ]
       ])

@@ -33,11 +33,6 @@ unfolding sum_below
 sum_zero f zero none = refl
 sum_zero f (suc n) none = ap₂ bit_xor (sum_zero f n none) (none n) ∙ xor_zero_r 0
 
--- nothing is summed
-pub sum_nothing : (f : ℕ → ℕ) → sum_below f 0 ≡ 0
-unfolding sum_below
-sum_nothing f = refl
-
 -- a sum in groups of four terms
 sum_in_fours : (f : ℕ → ℕ) (n : ℕ) → sum_below (λ g. sum_below (λ b. f (4 * g + b)) 4) n ≡ sum_below f (4 * n)
 unfolding sum_below

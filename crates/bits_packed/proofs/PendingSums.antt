@@ -11,9 +11,10 @@ use Rattle.field_base.specs.Tower.{tower_mul}
 use Rattle.field_base.proofs.BasisSums.{sum_below-same}
 use Rattle.field_slices.specs.Matrices.{cleared_entry, identity_entry}
 use Rattle.field_slices.proofs.Elimination.{cleared-other, cleared-own}
-use Rattle.field_slices.proofs.RowSpaces.{sum_of_sums, sums_exchange}
+use Rattle.field_slices.proofs.RowSpaces.{sum_of_sums}
 use Rattle.bits_packed.specs.BitMatrices.{ArePivotPlaces, pending_sum, present_entry, entry_within}
 use Rattle.bits_packed.proofs.FourRowTables.{bit_times, sum_zero}
+use Rattle.field_base.proofs.RingLemmas.{xor_exchange}
 
 -- ---- sums
 
@@ -278,7 +279,7 @@ module _ (rows first columns rank row : ℕ) (place : ℕ → ℕ) (A B : ℕ �
       (λ b inside free. present-free rows first place B rank b inside free ∙ adds (first + b) (omega (arith, inside, within))
       ∙ sym (ap₂ bit_xor (present-free rows first place A rank b inside free) (present-free rows first place A row b inside free)))
       (λ j fits past. present-behind rows first place B rank j past ∙ ap₂ bit_xor (adds j fits) (sums j fits)
-      ∙ sums_exchange (A rank j) (A row j) (pending_sum rows first place A rank j) (pending_sum rows first place A row j)
+      ∙ xor_exchange (A rank j) (A row j) (pending_sum rows first place A rank j) (pending_sum rows first place A row j)
       ∙ sym (ap₂ bit_xor (present-behind rows first place A rank j past) (present-behind rows first place A row j past)))
     where
       sums : (j : ℕ) → j < columns → pending_sum rows first place B rank j

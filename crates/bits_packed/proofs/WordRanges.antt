@@ -3,11 +3,11 @@ use Rattle.std.proofs.Common.{◌≡◌, ◌≢◌, ◌⊎◌, inl, inr, ℕ, �
 use Rattle.std.specs.Prelude.{bit_xor, slice_index, slice_set}
 use Rattle.std.proofs.lemmas.Bool.{cases_lt, cases_order}
 use Rattle.std.proofs.lemmas.List.{length-set}
-use Rattle.std.proofs.lemmas.Nat.{mul-add-lt}
 use native.Mathlib.Nat.{add-mul, mul-le-mul_right}
 use lib.Bits.{xor_assoc, xor_zero_r}
 use Rattle.std.specs.Int.Bits.{xor_zero_l}
 use Rattle.bits_packed.specs.BitMatrices.{IsKeptOutside, IsRangeWritten, IsStrip, IsStripAdded, word_of}
+use lib.Arith.{digits_lt}
 
 -- ---- ranges
 
@@ -135,10 +135,6 @@ range_keeps first size start count wanted old now low high write p (inr behind) 
 
 -- ---- places of rows
 
--- words of an earlier row stand before those of a later one
-pub rows_apart : (words i n v : ℕ) → i < n → v < words → i * words + v < n * words
-rows_apart words i n v earlier inside = let fits = mul-add-lt i words v n earlier inside in omega (arith, fits)
-
 -- the words of a strip of a row are words of the matrix
 pub row_fits : (words rows row last : ℕ) → row < rows → last ≤ words → row * words + last ≤ rows * words
 row_fits words rows row last inside within =
@@ -159,7 +155,7 @@ module _ (words start width : ℕ) (strip : IsStrip words start width) (n i v : 
       elim (cases_order i n) [
         | inl same ↦ absurd (other same)
         | inr order ↦ elim order [
-          | inl earlier ↦ inl (let less = rows_apart words i n v earlier inside in omega (arith, less))
+          | inl earlier ↦ inl (let less = digits_lt earlier inside in omega (arith, less))
           | inr later ↦
               inr (let fits = row_fits words i n (start + width) later strip.within in omega (arith, fits))
         ]
@@ -268,7 +264,7 @@ words_start words rows len total old now whole cleared =
     record {
       done = λ i v inside within below. absurd (omega (arith, below));
       rest = λ i v inside within past.
-          front_read len (λ p. 0) old now cleared (i * words + v) (let less = rows_apart words i rows v inside within in omega (arith, less, whole));
+          front_read len (λ p. 0) old now cleared (i * words + v) (let less = digits_lt inside within in omega (arith, less, whole));
     }
 
 pub words_step : (words start width rows : ℕ) (total : ℕ → ℕ → ℕ) (now next : List ℕ) → IsStrip words start width

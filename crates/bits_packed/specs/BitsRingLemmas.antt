@@ -7,8 +7,8 @@ use Rattle.std.proofs.lemmas.Nat.{and_comm, and_assoc, and_mask, and_mod, pow_po
 use Rattle.std.proofs.lemmas.Nat.Bits.{bit_at_and, bit_at_xor, bit_at-lt, same_from_bits_below}
 use native.Mathlib.Nat.{mod-lt, mod-eq_of_lt}
 use Rattle.field_base.specs.Ring.{IsRing}
-use Rattle.bits_rows.proofs.LaneLemmas.{bit_at_mod}
 use Rattle.bits_packed.specs.Lanes.{bitwise_product}
+use Rattle.field_base.proofs.BasisSums.{bit_at-mod}
 
 -- of three bits, the first taken from the sum of the others
 min_over_sum : (a b c : ℕ) → a < 2 → b < 2 → c < 2 → min a ((b + c) % 2) ≡ (min a b + min a c) % 2
@@ -37,7 +37,7 @@ module _ (w : ℕ) where
       (product-lt a (bit_xor b c)) (xor_lt w (bitwise_product w a b) (bitwise_product w a c) (product-lt a b) (product-lt a c)) each
     where
       bit_of : (x y j : ℕ) → j < w → bit_at (bitwise_product w x y) j ≡ min (bit_at x j) (bit_at y j)
-      bit_of x y j less = bit_at_mod (bit_and x y) w j less ∙ bit_at_and x y j
+      bit_of x y j less = bit_at-mod (bit_and x y) w j less ∙ bit_at_and x y j
 
       each : (j : ℕ) → j < w → bit_at (bitwise_product w a (bit_xor b c)) j ≡ bit_at (bit_xor (bitwise_product w a b) (bitwise_product w a c)) j
       each j less =

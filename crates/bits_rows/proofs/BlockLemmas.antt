@@ -12,7 +12,8 @@ use Rattle.bits_rows.specs.JoinedLemmas.{joined-part, whole-below}
 use Rattle.field_base.specs.Chunks.{chunk, joined}
 use Rattle.bits_rows.specs.Parts.{HasEvenBlocks, HasFirstBlocks, HasSecondBlocks, IsBlockSize, IsWithPart, is_whole}
 use Rattle.bits_rows.proofs.BlockPlaces.{odd_is_above}
-use Rattle.bits_rows.proofs.LaneLemmas.{bit_at_mod, lane-part, power_some}
+use Rattle.bits_rows.proofs.LaneLemmas.{lane-part, power_some}
+use Rattle.field_base.proofs.BasisSums.{bit_at-mod}
 
 -- a number below b + 1 other than b is below b
 below_it : (a b : ℕ) → a < b + 1 → a ≢ b → a < b
@@ -182,7 +183,7 @@ module _ (w m count width left right x : ℕ) (wide : 0 < w) (some : 0 < m) (is 
 
 -- the low w bits of a mask of even blocks are such a mask
 pub even_in_word : (w block n m : ℕ) → w ≤ 64 → HasEvenBlocks 64 block n → m ≡ n % 2 ^ w → HasEvenBlocks w block m
-even_in_word w block n m narrow even is j less = ap (λ (x : ℕ). bit_at x j) is ∙ bit_at_mod n w j less ∙ even j (omega arith)
+even_in_word w block n m narrow even is j less = ap (λ (x : ℕ). bit_at x j) is ∙ bit_at-mod n w j less ∙ even j (omega arith)
 
 -- after a word of an even block there is one a block further
 pub room_for_words : (count log block i : ℕ) → count ≡ 2 ^ log → IsBlockSize count block → i < count → i / block % 2 ≡ 0 → i + block < count

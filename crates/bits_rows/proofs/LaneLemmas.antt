@@ -2,25 +2,22 @@
 use Rattle.std.proofs.Common.{◌≡◌, ℕ, ◌+◌, ◌*◌, ◌/◌, ◌%◌, ◌^◌, ◌<◌, ◌≤◌, ◌-◌, Bool, true, min, sym, ap, ap₂, ◌∙◌, arith, inl, inr, ◌⊎◌, subst}
 use Rattle.std.specs.Prelude.{bit_and, bit_xor}
 use Rattle.std.specs.Int.{bit_at}
-use Rattle.std.proofs.lemmas.Nat.{pow_pos, shr-shr, shr_split, xor_shr, xor_mod, and_shr, and_mod, and_mask, div_below}
+use Rattle.std.proofs.lemmas.Nat.{pow_pos, shr-shr, xor_shr, xor_mod, and_shr, and_mod, and_mask, div_below}
 use Rattle.std.proofs.lemmas.Nat.Bits.{bit_at_cat_low, bit_at_cat_high, bit_at_and, bit_at_xor, bit_at-zero, bit_at-lt, bit_at_above, ones_shr, same_from_bits_below}
 use native.Mathlib.Nat.{mod-lt}
 use Rattle.field_base.specs.Chunks.{chunk}
 use Rattle.bits_rows.specs.Parts.{HasEvenBlocks, HasFirstBlocks, HasSecondBlocks, IsRowOf, IsWithField, IsZipped, difference}
 use Rattle.bits_rows.proofs.BlockPlaces.{before_quotient, odd_is_above}
 use Rattle.std.proofs.lemmas.Bool.{cases_lt}
+use Rattle.field_base.proofs.BasisSums.{bit_at-mod}
 
 -- bit j of what is left after k bits is bit k + j
 pub bit_at_shr : (n k j : ℕ) → bit_at (n / 2 ^ k) j ≡ bit_at n (k + j)
 bit_at_shr n k j = ap (λ (x : ℕ). x % 2) (shr-shr n k j)
 
--- the low w bits are kept
-pub bit_at_mod : (n w j : ℕ) → j < w → bit_at (n % 2 ^ w) j ≡ bit_at n j
-bit_at_mod n w j less = sym (bit_at_cat_low (n / 2 ^ w) w (n % 2 ^ w) j less) ∙ ap (λ (x : ℕ). bit_at x j) (shr_split n w)
-
 -- lane j of a number lies in part j / w, at its place j % w
 pub lane-part : (w n i j : ℕ) → j < w → bit_at (chunk w i n) j ≡ bit_at n (w * i + j)
-lane-part w n i j less = bit_at_mod (n / 2 ^ (w * i)) w j less ∙ bit_at_shr n (w * i) j
+lane-part w n i j less = bit_at-mod (n / 2 ^ (w * i)) w j less ∙ bit_at_shr n (w * i) j
 
 -- a digit of an exclusive or is that of the digits
 pub part_xor : (w a b i : ℕ) → chunk w i (bit_xor a b) ≡ bit_xor (chunk w i a) (chunk w i b)
@@ -97,7 +94,7 @@ first_even : (w s kept left right j : ℕ) → 0 < s → HasEvenBlocks w s kept 
 first_even w s kept left right j some even less is =
     bit_at_xor left (difference s kept left right * 2 ^ s % 2 ^ w) j
     ∙ alone (bit_at left j) (bit_at (difference s kept left right * 2 ^ s % 2 ^ w) j) (bit_at-lt left j)
-    (bit_at_mod (difference s kept left right * 2 ^ s) w j less ∙ cases (cases_lt j s))
+    (bit_at-mod (difference s kept left right * 2 ^ s) w j less ∙ cases (cases_lt j s))
   where
     cases : (j < s) ⊎ (s ≤ j) → bit_at (difference s kept left right * 2 ^ s) j ≡ 0
     cases (inl below) = bit_at_shl_low (difference s kept left right) s j below
@@ -115,7 +112,7 @@ first_odd w s kept left right j some even less is =
     let place : s + (j - s) ≡ j = omega arith in
     bit_at_xor left (difference s kept left right * 2 ^ s % 2 ^ w) j
     ∙ ap (λ (x : ℕ). (bit_at left j + x) % 2)
-    (bit_at_mod (difference s kept left right * 2 ^ s) w j less ∙ bit_at_shl_high (difference s kept left right) s j more
+    (bit_at-mod (difference s kept left right * 2 ^ s) w j less ∙ bit_at_shl_high (difference s kept left right) s j more
     ∙ even_difference w s kept left right (j - s) even (omega arith) (omega arith)
     ∙ ap (λ (x : ℕ). (bit_at left x + bit_at right (j - s)) % 2) place)
     ∙ twice (bit_at left j) (bit_at right (j - s)) (bit_at-lt left j) (bit_at-lt right (j - s))
@@ -155,7 +152,7 @@ field_bits w s m word value fits = (inside, below, above)
     change = bit_and (bit_xor (word / 2 ^ s) value) (2 ^ m - 1)
 
     at : (j : ℕ) → j < w → bit_at (bit_xor word (change * 2 ^ s % 2 ^ w)) j ≡ (bit_at word j + bit_at (change * 2 ^ s) j) % 2
-    at j less = bit_at_xor word (change * 2 ^ s % 2 ^ w) j ∙ ap (λ (x : ℕ). (bit_at word j + x) % 2) (bit_at_mod (change * 2 ^ s) w j less)
+    at j less = bit_at_xor word (change * 2 ^ s % 2 ^ w) j ∙ ap (λ (x : ℕ). (bit_at word j + x) % 2) (bit_at-mod (change * 2 ^ s) w j less)
 
     inside : (j : ℕ) → j < m → bit_at (bit_xor word (change * 2 ^ s % 2 ^ w)) (s + j) ≡ bit_at value j
     inside j less =
@@ -164,7 +161,7 @@ field_bits w s m word value fits = (inside, below, above)
         ∙ ap (λ (x : ℕ). (bit_at word (s + j) + x) % 2)
         (bit_at_shl_high change s (s + j) (omega arith) ∙ ap (bit_at change) place
         ∙ ap (λ (x : ℕ). bit_at x j) (and_mask (bit_xor (word / 2 ^ s) value) m)
-        ∙ bit_at_mod (bit_xor (word / 2 ^ s) value) m j less ∙ bit_at_xor (word / 2 ^ s) value j
+        ∙ bit_at-mod (bit_xor (word / 2 ^ s) value) m j less ∙ bit_at_xor (word / 2 ^ s) value j
         ∙ ap (λ (x : ℕ). (x + bit_at value j) % 2) (bit_at_shr word s j))
         ∙ twice (bit_at word (s + j)) (bit_at value j) (bit_at-lt word (s + j)) (bit_at-lt value j)
 

@@ -2,9 +2,7 @@
 -- impls of blocks name, depend on them.
 use Rattle.std.proofs.Common.{◌≡◌, ℕ, zero, suc, ◌+◌, ◌*◌, ◌/◌, ◌%◌, ◌^◌, ◌<◌, List, [], ◌∷◌, ◌++◌, get_or, length, refl, sym, ap, ap₂, ◌∙◌, arith}
 use Rattle.std.proofs.Math.Nat.{div-one}
-use Rattle.std.proofs.lemmas.Nat.{pow_pos, shr-shr}
-use native.Mathlib.Nat.{mod-eq_of_lt, mod-lt}
-use native.Mathlib.Numerals.{add-one}
+use Rattle.std.proofs.lemmas.Nat.{shr-shr}
 use Rattle.field_base.specs.Chunks.{chunk, chunks}
 
 -- digit 0 is the remainder

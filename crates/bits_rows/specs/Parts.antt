@@ -1,6 +1,6 @@
 -- Rows of words, runs of bits, and blocks of bits. Bit i of a number, `bit_at n i` of std, is its lane i. The words of a number
 -- are its digits, by `chunk`, `chunks` and `joined` of field_base.
-use Rattle.std.specs.Prelude.{◌≡◌, ◌≢◌, ◌<◌, ◌≤◌, ◌-◌, bit_and, bit_xor, ℕ, ◌+◌, ◌*◌, ◌/◌, ◌%◌, ◌^◌, Bool, true, ◌&&◌, List, length, map, slice_index}
+use Rattle.std.specs.Prelude.{◌≡◌, ◌≢◌, ◌<◌, ◌≤◌, ◌-◌, bit_and, bit_xor, ℕ, ◌+◌, ◌/◌, ◌%◌, ◌^◌, Bool, true, ◌&&◌, List, length, map, slice_index}
 use Rattle.std.specs.Array.{FillsFrom}
 use Rattle.std.specs.Bool.{nat_eq, nat_lt}
 use Rattle.std.specs.Int.{bit_at}

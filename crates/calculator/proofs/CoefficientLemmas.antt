@@ -2,19 +2,19 @@
 use Rattle.std.proofs.Common.{◌≡◌, ℕ, zero, suc, ◌+◌, ◌*◌, ◌/◌, ◌%◌, ◌^◌, ◌<◌, ◌≤◌, List, [], ◌∷◌, ◌++◌, Some, refl, sym, subst, ◌∙◌, ap, arith, lit<}
 use Rattle.std.specs.Option.{option_map}
 use Rattle.std.specs.Int.{bytes_high_first}
-use Rattle.std.proofs.Math.Nat.{mod-eq_of_lt, pow-suc, pow-le-pow_right}
-use Rattle.std.proofs.lemmas.Nat.{pow-add}
+use Rattle.std.proofs.Math.Nat.{mod-eq_of_lt, pow-le-pow_right}
 use Rattle.hex.specs.Hex.{lower_digits, encode_with}
 use Rattle.field_base.specs.Chunks.{chunk}
 use Rattle.field_base.specs.Remainder.{aes_modulus, poly64_modulus, ghash_modulus}
 use Rattle.word_polynomial.specs.Cubic.{triple}
-use Rattle.word_polynomial.specs.TripleLemmas.{same₃, chunk_below, first-triple, second-triple, third-triple, triple-chunks, triple-lt}
+use Rattle.word_polynomial.specs.TripleLemmas.{same₃, first-triple, second-triple, third-triple, triple-chunks, triple-lt}
 use Rattle.calculator.specs.Digits.{low_digits}
 use Rattle.calculator.specs.Elements.{CoefficientsStandInOrder, ElementIsReadBack}
 use Rattle.calculator.specs.Fields.{WrittenField, bytes_of, lowest_first, tower_level, polynomials_modulo, cubic_extension, field_named}
 use Rattle.calculator.proofs.DigitLemmas.{encode_with-bytes, operand_value-hex_text}
 use Rattle.calculator.proofs.NamedFields.{all_named}
 use Rattle.calculator.proofs.NumberLemmas.{bytes-joined}
+use Rattle.field_base.proofs.ChunkLists.{pow-256, chunk-lt}
 
 -- ---- the number that is written and that of the element
 
@@ -28,7 +28,7 @@ lowest_first-triple c0 c1 c2 fits0 fits1 fits2 =
 -- it has 192 bits
 pub lowest_first-lt : (n : ℕ) → lowest_first n < 2 ^ 192
 lowest_first-lt n =
-    triple-lt 64 (chunk 64 2 n) (chunk 64 1 n) (chunk 64 0 n) (chunk_below 64 2 n) (chunk_below 64 1 n) (chunk_below 64 0 n)
+    triple-lt 64 (chunk 64 2 n) (chunk 64 1 n) (chunk 64 0 n) (chunk-lt 64 2 n) (chunk-lt 64 1 n) (chunk-lt 64 0 n)
 
 -- the element of the coefficients that a number writes
 pub element-written : (high low : ℕ) → high < 2 ^ 64 → low < 2 ^ 128
@@ -57,7 +57,7 @@ polynomials-back bits modulus x fits = (fits, refl)
 -- three coefficients turned round twice stand as before
 cubic-back : TurnsBack cubic_extension
 cubic-back x fits =
-    let below = λ (i : ℕ). chunk_below 64 i x in (
+    let below = λ (i : ℕ). chunk-lt 64 i x in (
       lowest_first-lt x,
       lowest_first-triple (chunk 64 2 x) (chunk 64 1 x) (chunk 64 0 x) (below 2) (below 1) (below 0)
           ∙ triple-chunks 64 x ∙ mod-eq_of_lt fits,
@@ -69,21 +69,13 @@ named-back =
     all_named TurnsBack tower-back (polynomials-back 8 aes_modulus) (polynomials-back 64 poly64_modulus)
     (polynomials-back 128 ghash_modulus) cubic-back
 
--- 256 ^ count = 2 ^ (8 * count)
-bytes-pow : (count : ℕ) → 256 ^ count ≡ 2 ^ (8 * count)
-bytes-pow zero = refl
-bytes-pow (suc count) =
-    let next : 8 * suc count ≡ 8 * count + 8 = omega arith in
-    pow-suc 256 count ∙ ap (λ (n : ℕ). n * 256) (bytes-pow count)
-    ∙ sym (ap (λ (n : ℕ). 2 ^ n) next ∙ pow-add 2 (8 * count) 8)
-
 -- in each field that a line may name, the text of an element writes that element
 pub element-read_back : ElementIsReadBack
 element-read_back name field is x fits =
     let back = named-back name field is x fits in
     let room : 2 ^ field.bits ≤ 2 ^ (8 * bytes_of field) = pow-le-pow_right {n = 2} (lit< tt) {i = field.bits} {j = 8 * bytes_of field} (omega arith) in
     let fits_bytes : field.order x < 256 ^ bytes_of field =
-    subst (λ (m : ℕ). field.order x < m) (sym (bytes-pow (bytes_of field))) (omega (arith, back.0, room)) in
+    subst (λ (m : ℕ). field.order x < m) (sym (pow-256 (bytes_of field))) (omega (arith, back.0, room)) in
     ap (option_map field.order) (operand_value-hex_text (bytes_of field) (field.order x) fits_bytes) ∙ ap Some back.1
 
 -- ---- the text of coefficients

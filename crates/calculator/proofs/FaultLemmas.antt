@@ -4,7 +4,7 @@ use Rattle.std.specs.Prelude.{All, codes}
 use Rattle.std.specs.List.{slice_get}
 use Rattle.std.specs.Option.{option_and_then, unwrap_or}
 use Rattle.std.specs.Str.{IsUtf8, is_utf8}
-use Rattle.std.proofs.lemmas.Bool.{eq-eqb, ne_eqb, cases_eq, cases_lt, lt-ltb, le-ltb, cond-true, cond-false}
+use Rattle.std.proofs.lemmas.Bool.{eq-eqb, ne_eqb, cases_eq, cases_lt, lt-ltb, le-ltb, cond-true, cond-false, false_from_ne_true}
 use Rattle.std.proofs.lemmas.List.Elements.{All-nil, All-cons, All-head, All-tail}
 use Rattle.std.proofs.lemmas.Str.{IsUtf8-from_is_utf8, is_utf8-from_IsUtf8}
 use Rattle.hex.specs.Hex.{hex_digit_value}
@@ -140,11 +140,6 @@ later_ranged : (in_range : Bool) (answer : List ℕ) → ((j : ℕ) → answer �
 later_ranged true answer none = inr none
 later_ranged false answer none = later_error 4 5 (lit< tt) (omega arith)
 
--- a test that cannot be true is false
-not_false : (b : Bool) → (b ≡ true → ⊥) → b ≡ false
-not_false true never = absurd (never refl)
-not_false false never = refl
-
 -- the operands are as many as the operation takes
 module _ (field : WrittenField) (operation : Operation) (operands : List (List ℕ)) (same : length operands ≡ operand_count operation) where
   -- the answer where nothing is wrong: what the operation gives at the numbers of the operands
@@ -167,7 +162,7 @@ module _ (field : WrittenField) (operation : Operation) (operands : List (List �
     range = λ same_count all. (
       λ told low. result_text-no_error field 5 (result_at field operation (map number_written operands))
           (sym (cond-true in_range wanted (error_text 5) (back low)) ∙ sym (read all) ∙ told),
-      λ never. read all ∙ cond-false in_range wanted (error_text 5) (not_false in_range (λ is. never (holds is))),
+      λ never. read all ∙ cond-false in_range wanted (error_text 5) (false_from_ne_true in_range (λ is. never (holds is))),
     );
     result = λ same_count all low. read all ∙ cond-true in_range wanted (error_text 5) (back low);
     later = later_weaker 2 3 answer (omega arith) later;
@@ -359,7 +354,7 @@ answer_of-text line text =
 answer_of-no_text : (line : List ℕ) → (IsUtf8 line → ⊥) → answer_of line ≡ error_text 6
 unfolding answer_of
 answer_of-no_text line broken =
-    cond-false (is_utf8 line) (answer_to_words (words line)) (error_text 6) (not_false (is_utf8 line) (λ is. broken (IsUtf8-from_is_utf8 line is)))
+    cond-false (is_utf8 line) (answer_to_words (words line)) (error_text 6) (false_from_ne_true (is_utf8 line) (λ is. broken (IsUtf8-from_is_utf8 line is)))
 
 -- the answer to a line of UTF-8 meets the sentences
 faults-text : (line : List ℕ) → IsUtf8 line → NameFaults (field_in line) (operation_in line) (operands_in line) (answer_of line)

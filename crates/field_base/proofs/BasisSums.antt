@@ -12,6 +12,17 @@ use Rattle.field_base.proofs.RingLemmas.{zero-times, sum_times}
 
 -- ---- sums and products
 
+-- nothing is summed
+pub sum_below-none : (f : ℕ → ℕ) → sum_below f 0 ≡ 0
+unfolding sum_below
+sum_below-none f = refl
+
+-- a sum of zeros is 0
+pub sum_below-zeros : (f : ℕ → ℕ) (n : ℕ) → ((j : ℕ) → j < n → f j ≡ 0) → sum_below f n ≡ 0
+unfolding sum_below
+sum_below-zeros f zero zeros = refl
+sum_below-zeros f (suc n) zeros = ap₂ bit_xor (sum_below-zeros f n (λ j below. zeros j (omega (arith, below)))) (zeros n (omega arith))
+
 -- the first m terms, and the n after them
 pub sum_below-add : (f : ℕ → ℕ) (m n : ℕ) → sum_below f (m + n) ≡ bit_xor (sum_below f m) (sum_below (λ j. f (m + j)) n)
 unfolding sum_below

@@ -5,17 +5,13 @@ use Rattle.std.specs.Prelude.{bit_xor}
 use Rattle.std.proofs.lemmas.Nat.{xor_comm, xor_lt, xor_shr, xor_mod, xor_block, pow_pos}
 use native.Mathlib.Nat.{mod-lt, zero-mul, one-mul, mul-one, add-zero, mul_assoc, mul-mod_left, mul-div_cancel, div-add-mod', pow-suc, le_refl, not-suc-le-zero, suc-add, lt_of_lt_of_le, pow-le-pow_right, le-add_left}
 use lib.Arith.{bin_ind, half_le, lt-one}
-use lib.Bits.{xor_assoc, xor_self, xor_zero_r, xor_shifted}
+use lib.Bits.{xor_self, xor_zero_r, xor_shifted}
 use native.Mathlib.Decide.{le_ind}
 use Rattle.field_base.specs.Carryless.{carryless_in, carryless, CarrylessIsProduct}
-use Rattle.field_base.proofs.RingLemmas.{xor_left_comm}
+use Rattle.field_base.proofs.RingLemmas.{xor_exchange}
 use Rattle.field_base.specs.BitRingLemmas.{two_cases}
 
 -- ---- sums
-
--- (a + b) + (c + d) = (a + c) + (b + d)
-pub xor_exchange : (a b c d : ℕ) → bit_xor (bit_xor a b) (bit_xor c d) ≡ bit_xor (bit_xor a c) (bit_xor b d)
-xor_exchange a b c d = simp (xor_assoc, xor_left_comm)
 
 -- a shift by k places keeps sums
 pub xor_shl : (k a b : ℕ) → bit_xor (a * 2 ^ k) (b * 2 ^ k) ≡ bit_xor a b * 2 ^ k
@@ -207,7 +203,7 @@ double_lt : (x k : ℕ) → x < 2 ^ k → x * 2 < 2 ^ suc k
 double_lt x k fits = omega arith
 
 -- a bit times a number of n bits has n bits
-bit_times_lt : (d b n : ℕ) → b < 2 ^ n → d % 2 * b < 2 ^ n
+pub bit_times_lt : (d b n : ℕ) → b < 2 ^ n → d % 2 * b < 2 ^ n
 bit_times_lt d b n fits = bit_cases (λ x. x * b < 2 ^ n) (rw zero-mul (pow_pos n)) (rw one-mul fits) d
 
 -- the product of m and n bits has m + n - 1 bits, if m and n are positive

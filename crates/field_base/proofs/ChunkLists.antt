@@ -1,11 +1,29 @@
 -- The chunks of a number, and the list of the first of them, from the back: what one chunk more makes of it.
 use Rattle.std.proofs.Common.{◌≡◌, ℕ, zero, suc, ◌+◌, ◌*◌, ◌-◌, ◌/◌, ◌%◌, ◌^◌, ◌<◌, ◌≤◌, List, [], ◌∷◌, ◌++◌, map, refl, sym, ◌∙◌, ap, ap₂, subst, arith}
-use Rattle.std.proofs.lemmas.Nat.{mod-pow-add, shr_high, pow-add, pow_pos}
+use Rattle.std.specs.Prelude.{bit_xor}
+use Rattle.std.proofs.lemmas.Nat.{xor_shr, xor_mod, mod-pow-add, shr_high, pow-add, pow_pos}
 use Rattle.std.proofs.lemmas.List.{append-nil, append_assoc, map-append}
-use native.Mathlib.Nat.{mul-add, mod-eq_of_lt, mod-lt, mul-suc, mul-zero, mul_assoc, div-one, add-mul-mod_self_right}
+use native.Mathlib.Nat.{pow-suc, mul-add, mod-eq_of_lt, mod-lt, mul-suc, mul-zero, mul_assoc, div-one, add-mul-mod_self_right}
 use native.Mathlib.Numerals.{add-one}
 use lib.Arith.{digits_lt}
 use Rattle.field_base.specs.Chunks.{chunk, chunks}
+
+-- a power of 256 is one of 2
+pub pow-256 : (n : ℕ) → 256 ^ n ≡ 2 ^ (8 * n)
+pow-256 zero = refl
+pow-256 (suc n) =
+    let next : 8 * suc n ≡ 8 * n + 8 = omega arith in
+    pow-suc 256 n ∙ ap (λ (x : ℕ). x * 256) (pow-256 n) ∙ sym (pow-add 2 (8 * n) 8) ∙ ap (λ (e : ℕ). 2 ^ e) (sym next)
+
+-- the lowest chunk is the low bits
+pub chunk-first : (width a : ℕ) → chunk width 0 a ≡ a % 2 ^ width
+chunk-first width a =
+    ap (λ (k : ℕ). a / 2 ^ k % 2 ^ width) (mul-zero width) ∙ ap (λ (x : ℕ). x % 2 ^ width) (div-one a)
+
+-- a chunk of a sum is the sum of the chunks
+pub chunk_xor : (width i a b : ℕ) → chunk width i (bit_xor a b) ≡ bit_xor (chunk width i a) (chunk width i b)
+chunk_xor width i a b =
+    ap (λ (x : ℕ). x % 2 ^ width) (xor_shr a b (width * i)) ∙ xor_mod (a / 2 ^ (width * i)) (b / 2 ^ (width * i)) width
 
 -- a chunk is that of the low bits up to its end
 chunk-low : (width i a : ℕ) → a % 2 ^ (width + width * i) / 2 ^ (width * i) ≡ chunk width i a

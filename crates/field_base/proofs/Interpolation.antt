@@ -12,21 +12,16 @@ use Rattle.field_base.proofs.PowerLemmas.{one-times, times-one}
 use Rattle.field_base.proofs.FieldLemmas.{no_zero_divisors, power-inverts}
 use Rattle.field_base.specs.Interpolation.{other_factors, lagrange, interpolated}
 use Rattle.field_base.proofs.Polynomials.{IsPolynomial, polynomial-same, polynomial-zero, polynomial-sum, polynomial-scale, polynomial-root, polynomial-unique}
+use Rattle.field_base.proofs.BasisSums.{sum_below-zeros}
 
 -- ---- sums with one term
-
-sum_none : (f : ℕ → ℕ) (n : ℕ) → ((j : ℕ) → j < n → f j ≡ 0) → sum_below f n ≡ 0
-unfolding sum_below
-sum_none f zero nothing = refl
-sum_none f (suc n) nothing =
-    ap₂ bit_xor (sum_none f n (λ j below. nothing j (omega (arith, below)))) (nothing n (omega arith))
 
 sum_one : (f : ℕ → ℕ) (n i : ℕ) → i < n → ((j : ℕ) → j < n → j ≢ i → f j ≡ 0) → sum_below f n ≡ f i
 unfolding sum_below
 sum_one f zero i within others = absurd (omega (arith, within))
 sum_one f (suc n) i within others =
     elim (eqb_tells n i) [
-      | inl same ↦ ap (λ (z : ℕ). bit_xor z (f n)) (sum_none f n (λ j below. others j (omega (arith, below)) (λ e. absurd (omega (arith, below, e, same.1)))))
+      | inl same ↦ ap (λ (z : ℕ). bit_xor z (f n)) (sum_below-zeros f n (λ j below. others j (omega (arith, below)) (λ e. absurd (omega (arith, below, e, same.1)))))
           ∙ xor_comm 0 (f n) ∙ xor_zero_r (f n) ∙ ap f same.1
       | inr other ↦ ap₂ bit_xor (sum_one f n i (apart n i within other.1) (λ j below. others j (omega (arith, below)))) (others n (omega arith) other.1)
           ∙ xor_zero_r (f i)

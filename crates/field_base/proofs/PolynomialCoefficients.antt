@@ -1,13 +1,13 @@
 -- The polynomials of k coefficients are the functions that lists of k coefficients give.
 use Rattle.std.proofs.Common.{◌≡◌, ◌≢◌, ℕ, zero, suc, ◌%◌, ◌^◌, ◌<◌, ◌≤◌, inl, inr, List, [], ◌∷◌, length, get_or, refl, sym, ◌∙◌, ap, ap₂, arith}
 use Rattle.std.specs.Prelude.{bit_xor}
-use lib.Bits.{xor_zero_r}
+use lib.Bits.{xor_zero_r, xor_zero_l}
 use Rattle.field_base.specs.Field.{IsField}
 use Rattle.field_base.specs.Ring.{IsRing}
 use Rattle.field_base.specs.Powers.{power, terms_from, value_of}
 use Rattle.field_base.proofs.RingLemmas.{times_left_comm, times-zero, zero-times}
 use Rattle.field_base.proofs.FieldLemmas.{no_zero_divisors}
-use Rattle.field_base.proofs.Polynomials.{IsPolynomial, nil_xor, polynomial-lt, polynomial-vanishes}
+use Rattle.field_base.proofs.Polynomials.{IsPolynomial, polynomial-lt, polynomial-vanishes}
 
 module _ (width : ℕ) (times : ℕ → ℕ → ℕ) (ring : IsRing width 1 times) where
   -- terms a place further on are those before them, times a
@@ -49,7 +49,7 @@ module _ (width : ℕ) (times : ℕ → ℕ → ℕ) (field : IsField width time
   value_of_rest c cs a none fits nonzero nothing =
       let product : times a (value_of 1 times (λ c. c) cs a) ≡ 0 =
       sym (ap (λ (z : ℕ). bit_xor z (times a (value_of 1 times (λ c. c) cs a))) none
-      ∙ nil_xor (times a (value_of 1 times (λ c. c) cs a)))
+      ∙ xor_zero_l (times a (value_of 1 times (λ c. c) cs a)))
       ∙ sym (value_of-cons width times field.ring c cs a) ∙ nothing in
       elim (no_zero_divisors width times field.ring field.inverses a (value_of 1 times (λ c. c) cs a) fits
       (polynomial-lt width times field.ring (length cs) (value_of 1 times (λ c. c) cs) (of_coefficients width times field.ring cs) a) product) [

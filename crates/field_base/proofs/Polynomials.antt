@@ -2,25 +2,17 @@
 -- coefficients would be added and shifted place by place.
 use Rattle.std.proofs.Common.{◌≡◌, ℕ, zero, suc, ◌^◌, ◌<◌, inl, inr, refl, sym, ◌∙◌, ap, ap₂, subst, arith}
 use Rattle.std.specs.Prelude.{bit_xor}
-use Rattle.std.proofs.lemmas.Nat.{xor_comm, xor_lt, pow_pos}
-use lib.Bits.{xor_assoc, xor_self, xor_zero_r}
+use Rattle.std.proofs.lemmas.Nat.{xor_lt, pow_pos}
+use lib.Bits.{xor_assoc, xor_self, xor_zero_r, xor_zero_l}
 use Rattle.field_base.specs.Ring.{IsRing}
 use Rattle.field_base.specs.Field.{HasInverses}
-use Rattle.field_base.proofs.RingLemmas.{xor_left_comm, xor_nothing, sum_times, times_left_comm, times-zero}
+use Rattle.field_base.proofs.RingLemmas.{xor_left_comm, xor_nothing, sum_times, times_left_comm, times-zero, xor_exchange}
 use Rattle.field_base.proofs.FieldLemmas.{no_zero_divisors}
 
 -- f is a polynomial of k coefficients: c + x g, where g is one of k - 1
 unfoldable pub IsPolynomial : (ℕ → ℕ → ℕ) → ℕ → (ℕ → ℕ) → Type 0
 IsPolynomial times zero f = (x : ℕ) → f x ≡ 0
 IsPolynomial times (suc k) f = (c : ℕ) × (g : ℕ → ℕ) × IsPolynomial times k g × ((x : ℕ) → f x ≡ bit_xor (times 1 c) (times x (g x)))
-
-pub nil_xor : (a : ℕ) → bit_xor 0 a ≡ a
-nil_xor a = xor_comm 0 a ∙ xor_zero_r a
-
--- (a + b) + (c + d) = (a + c) + (b + d)
-swap_middle : (a b c d : ℕ) → bit_xor (bit_xor a b) (bit_xor c d) ≡ bit_xor (bit_xor a c) (bit_xor b d)
-swap_middle a b c d =
-    xor_assoc a b (bit_xor c d) ∙ ap (bit_xor a) (xor_left_comm b c d) ∙ sym (xor_assoc a c (bit_xor b d))
 
 module _ (width : ℕ) (times : ℕ → ℕ → ℕ) (ring : IsRing width 1 times) where
   pub polynomial-same : (k : ℕ) (f g : ℕ → ℕ) → ((x : ℕ) → f x ≡ g x) → IsPolynomial times k f → IsPolynomial times k g
@@ -46,7 +38,7 @@ module _ (width : ℕ) (times : ℕ → ℕ → ℕ) (ring : IsRing width 1 time
     (λ x. bit_xor (p.1 x) (q.1 x)),
     polynomial-sum k p.1 q.1 p.2 q.2,
     λ x.
-        ap₂ bit_xor (p.3 x) (q.3 x) ∙ swap_middle (times 1 p.0) (times x (p.1 x)) (times 1 q.0) (times x (q.1 x))
+        ap₂ bit_xor (p.3 x) (q.3 x) ∙ xor_exchange (times 1 p.0) (times x (p.1 x)) (times 1 q.0) (times x (q.1 x))
         ∙ sym (ap₂ bit_xor (ring.over_sum 1 p.0 q.0) (ring.over_sum x (p.1 x) (q.1 x))),
   )
 
@@ -65,7 +57,7 @@ module _ (width : ℕ) (times : ℕ → ℕ → ℕ) (ring : IsRing width 1 time
   pub polynomial-shift : (k : ℕ) (f : ℕ → ℕ) → IsPolynomial times k f → IsPolynomial times (suc k) (λ x. times x (f x))
   unfolding IsPolynomial
   polynomial-shift k f p =
-      (0, f, p, λ x. sym (ap (λ (z : ℕ). bit_xor z (times x (f x))) (times-zero width 1 times ring 1) ∙ nil_xor (times x (f x))))
+      (0, f, p, λ x. sym (ap (λ (z : ℕ). bit_xor z (times x (f x))) (times-zero width 1 times ring 1) ∙ xor_zero_l (times x (f x))))
 
   pub polynomial-more : (k : ℕ) (f : ℕ → ℕ) → IsPolynomial times k f → IsPolynomial times (suc k) f
   unfolding IsPolynomial
@@ -143,7 +135,7 @@ module _ (width : ℕ) (times : ℕ → ℕ → ℕ) (ring : IsRing width 1 time
         let q = parts.0 in
         let last : f (point k) ≡ 0 = zeros k (omega arith) in
         let product : (y : ℕ) → f y ≡ times (bit_xor y (point k)) (q y) =
-        λ y. parts.2 y ∙ ap (λ (z : ℕ). bit_xor z (times (bit_xor y (point k)) (q y))) last ∙ nil_xor (times (bit_xor y (point k)) (q y)) in
+        λ y. parts.2 y ∙ ap (λ (z : ℕ). bit_xor z (times (bit_xor y (point k)) (q y))) last ∙ xor_zero_l (times (bit_xor y (point k)) (q y)) in
         product x
         ∙ ap (times (bit_xor x (point k)))
         (polynomial-vanishes k q parts.1 point (λ i below. fits i (omega (arith, below)))

@@ -9,8 +9,8 @@ use lib.Arith.{bin_ind, half_le}
 use lib.Bits.{xor_assoc, xor_self, xor_zero_r, xor_shifted}
 use Rattle.field_base.specs.Carryless.{carryless}
 use Rattle.field_base.specs.Remainder.{HasDegree, reduce_top, rem_in, rem, IsRemainder, RemIsRemainder, RemainderIsUnique}
-use Rattle.field_base.proofs.RingLemmas.{xor_left_comm, xor_cancel, xor_nothing}
-use Rattle.field_base.proofs.CarrylessProduct.{xor_double, xor_exchange, bit_cases, carryless_step, zero_carryless, one_carryless, bit_carryless, carryless_sum, sum_carryless, double_carryless, carryless_assoc, carryless_comm}
+use Rattle.field_base.proofs.RingLemmas.{xor_left_comm, xor_cancel, xor_nothing, xor_exchange}
+use Rattle.field_base.proofs.CarrylessProduct.{xor_double, bit_cases, carryless_step, zero_carryless, one_carryless, bit_carryless, carryless_sum, sum_carryless, double_carryless, carryless_assoc, carryless_comm, bit_times_lt}
 
 -- ---- the step
 
@@ -174,10 +174,6 @@ modulus_lt width modulus degree =
     pow : (n : ℕ) → 2 * 2 ^ n ≡ 2 ^ suc n
     pow n = omega arith
 
--- a bit times a number of n bits has n bits
-bit_times_lt : (d b n : ℕ) → b < 2 ^ n → d % 2 * b < 2 ^ n
-bit_times_lt d b n fits = bit_cases (λ x. x * b < 2 ^ n) (rw zero-mul (pow_pos n)) (rw one-mul fits) d
-
 -- a multiple of the modulus other than zero has at least its degree
 multiple_le : (width modulus : ℕ) → HasDegree width modulus → (q : ℕ) → 0 < q → 2 ^ width ≤ carryless q modulus
 multiple_le width modulus degree =
@@ -210,7 +206,7 @@ small_multiple width modulus q degree below (inr some) =
     absurd (not-le_of_lt below (multiple_le width modulus degree q some))
 
 -- two ways to write one polynomial differ by a multiple
-difference : (a b c d : ℕ) → bit_xor a b ≡ bit_xor c d → bit_xor a c ≡ bit_xor b d
+pub difference : (a b c d : ℕ) → bit_xor a b ≡ bit_xor c d → bit_xor a c ≡ bit_xor b d
 difference a b c d e =
     ap (bit_xor a) (sym (xor_cancel d c) ∙ ap (bit_xor d) (xor_comm d c ∙ sym e))
     ∙ ap (bit_xor a) (xor_left_comm d a b) ∙ xor_cancel a (bit_xor d b) ∙ xor_comm d b

@@ -17,6 +17,14 @@ xor_left_comm a b c = sym (xor_assoc a b c) ∙ ap (λ (x : ℕ). bit_xor x c) (
 pub xor_cancel : (a b : ℕ) → bit_xor a (bit_xor a b) ≡ b
 xor_cancel a b = sym (xor_assoc a a b) ∙ ap (λ (x : ℕ). bit_xor x b) (xor_self a)
 
+-- (a + b) + b = a
+pub xor_back : (a b : ℕ) → bit_xor (bit_xor a b) b ≡ a
+xor_back a b = xor_assoc a b b ∙ ap (bit_xor a) (xor_self b) ∙ xor_zero_r a
+
+-- (a + b) + (c + d) = (a + c) + (b + d)
+pub xor_exchange : (a b c d : ℕ) → bit_xor (bit_xor a b) (bit_xor c d) ≡ bit_xor (bit_xor a c) (bit_xor b d)
+xor_exchange a b c d = simp (xor_assoc, xor_left_comm)
+
 -- what is known of a sum of two equal numbers, the other way round
 pub xor_nothing : (a b : ℕ) → bit_xor a b ≡ zero → a ≡ b
 xor_nothing a b e = sym (xor_zero_r a) ∙ ap (bit_xor a) (sym e) ∙ xor_cancel a b

@@ -24,7 +24,7 @@ pub tower_repeated_square-mod_bits : (k n a : ℕ) → repeated_square 1 (tower_
 tower_repeated_square-mod_bits k n a = repeated_square-mod_round (2 ^ k) 1 (tower_mul k) (tower_ring k) (2 ^ k) (squarings_return k) n a
 
 -- the one is an element of every level
-one_fits : (k : ℕ) → 1 < 2 ^ 2 ^ k
+pub one_fits : (k : ℕ) → 1 < 2 ^ 2 ^ k
 one_fits k = pow_below 0 (2 ^ k) (pow_pos k)
 
 -- n squarings are the power 2 ^ n

@@ -1,5 +1,5 @@
 -- Streams side by side: what holds in each column of their rows.
-use Rattle.std.proofs.Common.{◌≡◌, ℕ, ◌+◌, ◌*◌, ◌^◌, ◌<◌, ◌≤◌, refl, sym, ◌∙◌, ap, ap₂, arith, inl, inr, Bool, false, suc, List, [], ◌∷◌, ◌++◌, length, map, get_or, replicate, set, ◌⊎◌, slice_index, subst, Option, Some, None}
+use Rattle.std.proofs.Common.{◌≡◌, ℕ, ◌+◌, ◌*◌, ◌^◌, ◌<◌, ◌≤◌, refl, sym, ◌∙◌, ap, ap₂, arith, inl, inr, false, suc, List, [], ◌∷◌, ◌++◌, length, map, get_or, replicate, set, ◌⊎◌, slice_index, subst, Option, Some, None}
 use Rattle.std.specs.Iterator.{Drains, Yields}
 use Rattle.std.proofs.lemmas.List.{append-nil, get_or-map, get_or-replicate, get_or-set_other, get_or-set_same, length-append, length-map, length-replicate, length-set, map-append}
 use Rattle.std.proofs.lemmas.Bool.{cases_lt}

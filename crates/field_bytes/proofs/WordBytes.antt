@@ -9,18 +9,13 @@ use native.Mathlib.Nat.{div-one}
 use Rattle.field_bytes.specs.Bytes.{low_bytes, number_of_bytes}
 use Rattle.field_base.specs.Chunks.{chunk, chunks, joined}
 use Rattle.field_base.specs.Quadratic.{pair}
-use Rattle.field_bytes.proofs.Taking.{next_place, number-append, number-more}
+use Rattle.field_bytes.proofs.Taking.{number-append, number-more}
 use Rattle.word_polynomial.specs.Cubic.{triple}
-use Rattle.field_base.proofs.ChunkLists.{chunks-whole}
+use Rattle.field_base.proofs.ChunkLists.{chunks-whole, pow-256}
 
 -- a number below 2 ^ 8 is its only byte
 pub one_byte : (n : ℕ) → n < 2 ^ 8 → n ∷ [] ≡ low_bytes 1 n
 one_byte n fits = chunks-whole 8 n fits
-
--- 256 ^ n = 2 ^ (8 n)
-pow-256 : (n : ℕ) → 256 ^ n ≡ 2 ^ (8 * n)
-pow-256 zero = refl
-pow-256 (suc n) = let below = pow-256 n in let place = next_place n in omega (arith, below, place)
 
 -- byte 0 is read without a shift
 byte_is : (i n : ℕ) → byte_at i n ≡ chunk 8 i n

@@ -1,5 +1,5 @@
 -- Numbers of at most 64 bits by the halves of a double word.
-use Rattle.std.proofs.Common.{◌≡◌, ℕ, ◌+◌, ◌*◌, ◌^◌, ◌<◌, nat_lt, Bool, true, false, refl, arith}
+use Rattle.std.proofs.Common.{◌≡◌, ℕ, ◌+◌, ◌*◌, ◌^◌, nat_lt, Bool, true, false, refl, arith}
 use Rattle.std.specs.Prelude.{IfSome, Some, None, if◌then◌else◌}
 use Rattle.std.proofs.lemmas.Bool.{ltb-true}
 use Rattle.field_element.specs.Element.{number_of_64_bits}

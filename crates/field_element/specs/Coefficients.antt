@@ -5,11 +5,12 @@ use Rattle.std.proofs.lemmas.List.{length-map}
 use Rattle.std.proofs.lemmas.Nat.{pow_pos}
 use mathlib.Core.HLevel.{is_prop→PathP}
 use Rattle.field_base.specs.Chunks.{chunk, chunks}
-use Rattle.word_polynomial.specs.TripleLemmas.{chunk_below, chunks-triple, same_number}
+use Rattle.word_polynomial.specs.TripleLemmas.{chunks-triple, same_number}
 use Rattle.word_polynomial.specs.Triple.{triple_number}
 use Rattle.word_polynomial.specs.declared.triple.Triple.{Triple}
 use Rattle.field_element.specs.Element.{repr_of, same_word}
 use Rattle.field_element.specs.declared.element.coefficients.Coefficients.{Coefficients}
+use Rattle.field_base.proofs.ChunkLists.{chunk-lt}
 
 module _ {C : Type 0} (number : C → ℕ) (fits : (x : C) → number x < 2 ^ 64) where
   -- the number at place i, or the 0 past the end, is below 2 ^ 64
@@ -84,9 +85,9 @@ coefficients_of_words c0 c1 c2 c0_fits c1_fits c2_fits = record {
 abbrev pub coefficients_of_number : ℕ → Coefficients
 coefficients_of_number n = record {
   coefficients =
-      record { repr = chunk 64 0 n; field = record {}; in_range = chunk_below 64 0 n }
-      ∷ record { repr = chunk 64 1 n; field = record {}; in_range = chunk_below 64 1 n }
-      ∷ record { repr = chunk 64 2 n; field = record {}; in_range = chunk_below 64 2 n }
+      record { repr = chunk 64 0 n; field = record {}; in_range = chunk-lt 64 0 n }
+      ∷ record { repr = chunk 64 1 n; field = record {}; in_range = chunk-lt 64 1 n }
+      ∷ record { repr = chunk 64 2 n; field = record {}; in_range = chunk-lt 64 2 n }
       ∷ [];
   three = refl;
 }

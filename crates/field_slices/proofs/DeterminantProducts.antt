@@ -4,7 +4,7 @@ use Rattle.std.specs.Prelude.{bit_xor, if◌then◌else◌, nat_lt}
 use Rattle.std.proofs.lemmas.Bool.{cases_eq, cases_lt, lt-ltb, le-ltb}
 use Rattle.std.proofs.lemmas.Nat.{pow_below, xor_lt}
 use native.Mathlib.Nat.{mod-eq_of_lt}
-use lib.Bits.{xor_self, xor_zero_r}
+use lib.Bits.{xor_self, xor_zero_r, xor_zero_l}
 use Rattle.field_base.specs.Basis.{product_below, sum_below}
 use Rattle.field_base.specs.Field.{HasInverses}
 use Rattle.field_base.specs.Ring.{IsRing}
@@ -16,7 +16,7 @@ use Rattle.field_slices.specs.Matrices.{identity_entry, product_entry}
 use Rattle.field_slices.proofs.DeterminantRows.{as_row, determinant-equal, determinant-multiples, determinant-row_sum, row-other, row-own, with_row}
 use Rattle.field_slices.proofs.LaplaceExpansion.{determinant-corner, determinant-lt, determinant-same}
 use Rattle.field_slices.proofs.MatrixRows.{mixed, mixed-before, mixed-more, mixed-past}
-use Rattle.field_slices.proofs.RowSpaces.{coefficient_at, identity-only, only, only-other, only-same, sum_with, zero-xor}
+use Rattle.field_slices.proofs.RowSpaces.{coefficient_at, identity-only, only, only-other, only-same, sum_with}
 
 -- ---- multiples of one row
 
@@ -99,7 +99,7 @@ module _ (width : ℕ) (times : ℕ → ℕ → ℕ) (ring : IsRing width 1 time
           where
             is : multiples_added times r (only k 1) U k k ≡ U r k
             is =
-                ap₂ (λ (x s : ℕ). bit_xor x (times s (U r k))) none (only-same k 1 k refl) ∙ zero-xor (times 1 (U r k))
+                ap₂ (λ (x s : ℕ). bit_xor x (times s (U r k))) none (only-same k 1 k refl) ∙ xor_zero_l (times 1 (U r k))
                 ∙ one-times width 1 times ring (U r k) (so_far.fits r k)
 
     -- and what is below it is 0 after multiples of its row were added
@@ -178,7 +178,7 @@ unfolding sum_below
 sum-one f b zero inside zeros = absurd (omega (arith, inside))
 sum-one f b (suc n) inside zeros =
     elim (cases_eq n b) [
-      | inl own ↦ ap₂ bit_xor (nothing own n (omega arith)) (ap f own) ∙ zero-xor (f b)
+      | inl own ↦ ap₂ bit_xor (nothing own n (omega arith)) (ap f own) ∙ xor_zero_l (f b)
       | inr other ↦ ap₂ bit_xor (sum-one f b n (less other) (λ i below. zeros i (omega (arith, below)))) (zeros n (omega arith) other)
           ∙ xor_zero_r (f b)
     ]

@@ -2,14 +2,13 @@
 use Rattle.std.proofs.Common.{◌≡◌, ◌≢◌, ◌⊎◌, inl, inr, ℕ, zero, suc, ◌+◌, ◌-◌, ◌<◌, ◌≤◌, Bool, refl, sym, ◌∙◌, ap, ap₂, arith}
 use Rattle.std.specs.Prelude.{bit_xor, if◌then◌else◌, ◌==◌}
 use Rattle.std.proofs.lemmas.Bool.{cases_eq, cases_lt, eq-eqb, ne_eqb}
-use lib.Bits.{xor_self, xor_zero_r}
+use lib.Bits.{xor_self, xor_zero_r, xor_zero_l}
 use Rattle.field_base.specs.Basis.{sum_below}
 use Rattle.field_base.specs.Ring.{IsRing}
 use Rattle.field_base.proofs.RingLemmas.{xor_cancel, times-zero}
 use Rattle.field_slices.specs.Determinants.{determinant_of}
 use Rattle.field_slices.proofs.MatrixRows.{mixed, mixed-before, mixed-past, mixed-more}
 use Rattle.field_slices.proofs.LaplaceExpansion.{AgreeBut, combined, determinant-linear, determinant-one, determinant-pair, determinant-same}
-use Rattle.field_slices.proofs.RowSpaces.{zero-xor}
 
 -- ---- equal rows
 
@@ -83,7 +82,7 @@ module _ (width : ℕ) (times : ℕ → ℕ → ℕ) (ring : IsRing width 1 time
     both-turned u v turned =
         let w = combined times 1 u v in
         let none = times-zero width 1 times ring 1 in
-        sym (zero-xor (times 1 (with_both u v)))
+        sym (xor_zero_l (times 1 (with_both u v)))
         ∙ sym (ap₂ (λ (x y : ℕ). bit_xor (bit_xor x (times 1 (with_both u v))) y) (both-same u)
         (ap (times 1) (ap₂ (λ (x y : ℕ). bit_xor x (times 1 y)) turned (both-same v) ∙ ap (bit_xor 0) none) ∙ none)
         ∙ xor_zero_r (bit_xor 0 (times 1 (with_both u v))))
@@ -149,7 +148,7 @@ module _ (width : ℕ) (times : ℕ → ℕ → ℕ) (ring : IsRing width 1 time
           → with_row b (λ j. 0) A i j ≡ with_row b (combined times 1 (λ j. 0) (λ j. 0)) A i j
       entry i j (inl same) =
           ap (λ (k : ℕ). with_row b (λ j. 0) A k j) same ∙ ap (λ (w : ℕ → ℕ). w j) (row-own b (λ j. 0) A)
-          ∙ sym (zero-xor 0) ∙ ap (bit_xor 0) (sym (times-zero width 1 times ring 1))
+          ∙ sym (xor_zero_l 0) ∙ ap (bit_xor 0) (sym (times-zero width 1 times ring 1))
           ∙ sym (ap (λ (w : ℕ → ℕ). w j) (row-own b (combined times 1 (λ j. 0) (λ j. 0)) A))
           ∙ ap (λ (k : ℕ). with_row b (combined times 1 (λ j. 0) (λ j. 0)) A k j) (sym same)
       entry i j (inr other) =
@@ -208,12 +207,12 @@ module _ (width : ℕ) (times : ℕ → ℕ → ℕ) (ring : IsRing width 1 time
   determinant-scaled b s inside own others =
       let x = combined times s (λ j. 0) (A b) in
       let Z = with_row b (λ j. 0) A in
-      as_row b x (λ j within. own j within ∙ sym (zero-xor (times s (A b j)))) others
+      as_row b x (λ j within. own j within ∙ sym (xor_zero_l (times s (A b j)))) others
       ∙ determinant-linear width times ring n b s Z A (with_row b x A) inside
       (λ i other. row-other b (λ j. 0) A i other ∙ sym (row-other b x A i other)) (λ i other. sym (row-other b x A i other))
       (row-own b x A ∙ ap (λ (w : ℕ → ℕ). combined times s w (A b)) (sym (row-own b (λ j. 0) A)))
       ∙ ap (λ (d : ℕ). bit_xor d (times s (determinant_of times n A))) (determinant-zero_row width times ring n b A inside)
-      ∙ zero-xor (times s (determinant_of times n A))
+      ∙ xor_zero_l (times s (determinant_of times n A))
 
 -- ---- multiples of one row added to the others
 

@@ -3,9 +3,9 @@ use Rattle.std.proofs.Common.{◌≡◌, ◌≢◌, ◌⊎◌, inl, inr, ℕ, �
 use Rattle.std.specs.Prelude.{bit_xor, if◌then◌else◌}
 use Rattle.std.proofs.lemmas.Bool.{cases_eq, cases_lt, eq-eqb, ne_eqb}
 use Rattle.std.proofs.lemmas.Nat.{pow_below}
-use lib.Bits.{xor_assoc, xor_self, xor_zero_r}
+use lib.Bits.{xor_self, xor_zero_r}
 use Rattle.field_base.specs.Ring.{IsRing}
-use Rattle.field_base.proofs.RingLemmas.{times-zero}
+use Rattle.field_base.proofs.RingLemmas.{times-zero, xor_back}
 use Rattle.field_base.proofs.PowerLemmas.{one-times, times-one}
 use Rattle.field_slices.specs.Matrices.{IsRowCombination, HaveSameRowSpace, IsReducedEchelon, IsRowWritten, cleared_entry, entry_of, joined_entry}
 use Rattle.field_slices.proofs.MatrixRows.{RowsWritten, mixed, mixed-before, mixed-past, rows_end, rows_from}
@@ -107,10 +107,6 @@ pub record PivotMade (times : ℕ → ℕ → ℕ) (rows columns rank row column
   pub alone : (i : ℕ) → i < rows → i ≢ rank → now i column ≡ 0
   pub stays : (i j : ℕ) → i < rows → j < columns → old rank j ≡ 0 → old row j ≡ 0 → now i j ≡ old i j
   pub space : HaveSameRowSpace times rows columns old now
-
--- (a + b) + b = a
-xor_back : (a b : ℕ) → bit_xor (bit_xor a b) b ≡ a
-xor_back a b = xor_assoc a b b ∙ ap (bit_xor a) (xor_self b) ∙ xor_zero_r a
 
 -- ---- row spaces
 

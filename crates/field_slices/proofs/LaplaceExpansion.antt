@@ -4,14 +4,13 @@ use Rattle.std.proofs.Common.{◌≡◌, ◌≢◌, ◌⊎◌, inl, inr, ℕ, ze
 use Rattle.std.specs.Prelude.{bit_xor, if◌then◌else◌}
 use Rattle.std.proofs.lemmas.Bool.{cases_eq, cases_lt, lt-ltb, le-ltb}
 use Rattle.std.proofs.lemmas.Nat.{pow_below, pow_pos, xor_lt}
-use lib.Bits.{xor_comm, xor_self, xor_zero_r}
+use lib.Bits.{xor_comm, xor_self, xor_zero_r, xor_zero_l}
 use Rattle.field_base.specs.Basis.{sum_below}
 use Rattle.field_base.specs.Ring.{IsRing}
-use Rattle.field_base.proofs.BasisSums.{sum_below-same}
+use Rattle.field_base.proofs.BasisSums.{sum_below-same, sum_below-zeros}
 use Rattle.field_base.proofs.PowerLemmas.{one-times}
-use Rattle.field_base.proofs.RingLemmas.{sum_times, times_left_comm, times-zero, zero-times}
+use Rattle.field_base.proofs.RingLemmas.{sum_times, times_left_comm, times-zero, zero-times, xor_exchange}
 use Rattle.field_slices.specs.Determinants.{determinant_of, minor_entry, place_without}
-use Rattle.field_slices.proofs.RowSpaces.{sums_exchange, zero-xor}
 
 -- ---- places
 
@@ -96,11 +95,6 @@ find-pair n i b i_inside inside other other_next =
 
 -- ---- sums
 
-sum-zero : (f : ℕ → ℕ) (n : ℕ) → ((i : ℕ) → i < n → f i ≡ 0) → sum_below f n ≡ 0
-unfolding sum_below
-sum-zero f zero zeros = refl
-sum-zero f (suc n) zeros = ap₂ bit_xor (sum-zero f n (λ i below. zeros i (omega (arith, below)))) (zeros n (omega arith))
-
 -- two equal terms, and else zeros
 sum-pair : (f : ℕ → ℕ) (n b : ℕ) → suc b < n → f b ≡ f (suc b) → ((i : ℕ) → i < n → i ≢ b → i ≢ suc b → f i ≡ 0)
     → sum_below f n ≡ 0
@@ -110,7 +104,7 @@ sum-pair f (suc n) b inside same zeros =
     elim (cases_eq n (suc b)) [
       | inl last ↦ ap₂ bit_xor
           (ap (sum_below f) last
-          ∙ ap (λ (x : ℕ). bit_xor x (f b)) (sum-zero f b (λ i below. zeros i (omega (arith, below, last))
+          ∙ ap (λ (x : ℕ). bit_xor x (f b)) (sum_below-zeros f b (λ i below. zeros i (omega (arith, below, last))
           (λ e. absurd (omega (arith, e, below))) (λ e. absurd (omega (arith, e, below)))))
           ∙ xor_comm 0 (f b) ∙ xor_zero_r (f b) ∙ same) (ap f last)
           ∙ xor_self (f (suc b))
@@ -125,7 +119,7 @@ sum-pair f (suc n) b inside same zeros =
 -- only the first term
 sum-first : (f : ℕ → ℕ) (n : ℕ) → ((i : ℕ) → i < n → f (suc i) ≡ 0) → sum_below f (suc n) ≡ f 0
 unfolding sum_below
-sum-first f zero zeros = zero-xor (f 0)
+sum-first f zero zeros = xor_zero_l (f 0)
 sum-first f (suc n) zeros =
     ap₂ bit_xor (sum-first f n (λ i below. zeros i (omega (arith, below)))) (zeros n (omega arith)) ∙ xor_zero_r (f 0)
 
@@ -178,7 +172,7 @@ module _ (width : ℕ) (times : ℕ → ℕ → ℕ) (ring : IsRing width 1 time
   sum-scaled f g s zero = sym (ap (bit_xor 0) (times-zero width 1 times ring s))
   sum-scaled f g s (suc n) =
       ap (λ (x : ℕ). bit_xor x (bit_xor (f n) (times s (g n)))) (sum-scaled f g s n)
-      ∙ sums_exchange (sum_below f n) (times s (sum_below g n)) (f n) (times s (g n))
+      ∙ xor_exchange (sum_below f n) (times s (sum_below g n)) (f n) (times s (g n))
       ∙ ap (bit_xor (bit_xor (sum_below f n) (f n))) (sym (ring.over_sum s (sum_below g n) (g n)))
 
   -- the determinant of n rows is linear in each
@@ -288,7 +282,7 @@ module _ (width : ℕ) (times : ℕ → ℕ → ℕ) (ring : IsRing width 1 time
   pub determinant-zero_column : ((i : ℕ) → i < suc n → A i 0 ≡ 0) → determinant_of times (suc n) A ≡ 0
   unfolding determinant_of
   determinant-zero_column zeros =
-      sum-zero (term times n A) (suc n)
+      sum_below-zeros (term times n A) (suc n)
       (λ i below. let minor = determinant_of times n (minor_entry i A) in
       ap (λ (x : ℕ). times x minor) (zeros i below) ∙ zero-times width 1 times ring minor)
 

@@ -1,14 +1,9 @@
 -- Sums and powers that a loop goes on with, one term or factor at a time.
-use Rattle.std.proofs.Common.{◌≡◌, ℕ, ◌+◌, refl, sym, ◌∙◌, ap}
+use Rattle.std.proofs.Common.{◌≡◌, ℕ, ◌+◌, sym, ◌∙◌, ap}
 use Rattle.std.specs.Prelude.{bit_xor}
 use native.Mathlib.Numerals.{add-one}
 use Rattle.field_base.specs.Basis.{sum_below}
 use Rattle.field_base.specs.Powers.{power}
-
--- a sum of no terms, and with one term more
-pub sum-none : (f : ℕ → ℕ) → sum_below f 0 ≡ 0
-unfolding sum_below
-sum-none f = refl
 
 pub sum-more : (f : ℕ → ℕ) (n sum next : ℕ) → sum ≡ sum_below f n → next ≡ bit_xor sum (f n) → next ≡ sum_below f (n + 1)
 unfolding sum_below

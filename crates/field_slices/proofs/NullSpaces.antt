@@ -2,7 +2,7 @@
 use Rattle.std.proofs.Common.{◌≡◌, ◌≢◌, ◌⊎◌, inl, inr, ℕ, zero, suc, ◌+◌, ◌-◌, ◌^◌, ◌<◌, ◌≤◌, Bool, List, length, add-one, refl, sym, subst, ◌∙◌, ap, ap₂, arith, below_more}
 use Rattle.std.specs.Prelude.{bit_xor, if◌then◌else◌, nat_eq}
 use Rattle.std.proofs.lemmas.Bool.{cases_eq, cases_lt, cases_order, eq-eqb, ne_eqb}
-use lib.Bits.{xor_self, xor_zero_r}
+use lib.Bits.{xor_self, xor_zero_r, xor_zero_l}
 use Rattle.field_base.specs.Basis.{sum_below}
 use Rattle.field_base.specs.Ring.{IsRing}
 use Rattle.field_base.proofs.BasisSums.{sum_below-same}
@@ -13,7 +13,7 @@ use Rattle.field_slices.specs.Matrices.{beside_identity, entry_of, identity_entr
 use Rattle.field_slices.proofs.InverseMatrices.{beside-none, rising-apart}
 use Rattle.field_slices.proofs.NextTerms.{sum-more}
 use Rattle.field_slices.proofs.LinearSystems.{sum_of_nothing}
-use Rattle.field_slices.proofs.RowSpaces.{combination_row, identity-only, only, only-after, only-other, only-same, sum_of_sums, sum_with, zero-xor}
+use Rattle.field_slices.proofs.RowSpaces.{combination_row, identity-only, only, only-after, only-other, only-same, sum_of_sums, sum_with}
 use Rattle.field_slices.proofs.EchelonUniqueness.{find-pivot}
 
 -- ---- the vector of a column
@@ -165,7 +165,7 @@ module _ (width : ℕ) (times : ℕ → ℕ → ℕ) (ring : IsRing width 1 time
         nothing : (j : ℕ) → j ≢ f → j ≢ p i → times (A i j) (null_entry p A f r j) ≡ 0
             → times (A i j) (null_entry p A f r j) ≡ bit_xor (times (only f (A i f) j) 1) (times (only (p i) (A i f) j) 1)
         nothing j not_f not_pivot e =
-            e ∙ sym (ap₂ bit_xor (term-none f (A i f) j not_f) (term-none (p i) (A i f) j not_pivot) ∙ zero-xor 0)
+            e ∙ sym (ap₂ bit_xor (term-none f (A i f) j not_f) (term-none (p i) (A i f) j not_pivot) ∙ xor_zero_l 0)
 
         term : (j : ℕ) → ((k : ℕ) × (k < r) × (p k ≡ j)) ⊎ ((k : ℕ) → k < r → p k ≢ j)
             → times (A i j) (null_entry p A f r j) ≡ bit_xor (times (only f (A i f) j) 1) (times (only (p i) (A i f) j) 1)
@@ -181,7 +181,7 @@ module _ (width : ℕ) (times : ℕ → ℕ → ℕ) (ring : IsRing width 1 time
               | inl own ↦ ap₂ times (ap (A i) (place own) ∙ reduced.leading i below)
                   (ap (null_entry p A f r) (place own) ∙ vector-pivot f i below)
                   ∙ ring.comm 1 (A i f)
-                  ∙ sym (ap₂ bit_xor (term-none f (A i f) j not_f) (term-own (p i) (A i f) j (place own)) ∙ zero-xor (times (A i f) 1))
+                  ∙ sym (ap₂ bit_xor (term-none f (A i f) j not_f) (term-own (p i) (A i f) j (place own)) ∙ xor_zero_l (times (A i f) 1))
               | inr other ↦ nothing j not_f (λ e. pivots-apart found.0 i found.1 below other (found.2 ∙ e))
                   (ap (λ (z : ℕ). times z (null_entry p A f r j))
                   (ap (A i) (sym found.2) ∙ entry-other i found.0 found.1 (within i below) (λ e. other (sym e)))
@@ -258,7 +258,7 @@ module _ (width : ℕ) (times : ℕ → ℕ → ℕ) (ring : IsRing width 1 time
         (λ f _. term f (find-pivot p f r))
         ∙ sum_of_sums (λ f. times (A k f) (x f)) (λ f. times (only (p k) (x (p k)) f) 1) columns
         ∙ ap₂ bit_xor (null k (within k below)) (only-after width times ring (p k) (x (p k)) (λ f. 1) columns (reduced.pivots_fit k below))
-        ∙ zero-xor (times (x (p k)) 1) ∙ times-one width 1 times ring (x (p k)) (x_fits (p k))
+        ∙ xor_zero_l (times (x (p k)) 1) ∙ times-one width 1 times ring (x (p k)) (x_fits (p k))
       where
         term : (f : ℕ) → ((m : ℕ) × (m < r) × (p m ≡ f)) ⊎ ((m : ℕ) → m < r → p m ≢ f)
             → own_term (p k) f ≡ bit_xor (times (A k f) (x f)) (times (only (p k) (x (p k)) f) 1)
@@ -277,7 +277,7 @@ module _ (width : ℕ) (times : ℕ → ℕ → ℕ) (ring : IsRing width 1 time
                   (ap (λ (z : ℕ). times z (x f))
                   (ap (A k) (sym found.2) ∙ entry-other k found.0 found.1 (within k below) (λ e. other (sym e)))
                   ∙ zero-times width 1 times ring (x f))
-                  (term-none (p k) (x (p k)) f (λ e. pivots-apart found.0 k found.1 below other (found.2 ∙ e))) ∙ zero-xor 0)
+                  (term-none (p k) (x (p k)) f (λ e. pivots-apart found.0 k found.1 below other (found.2 ∙ e))) ∙ xor_zero_l 0)
             ]
           where
             place : found.0 ≡ k → f ≡ p k
@@ -511,7 +511,7 @@ module _ (width : ℕ) (times : ℕ → ℕ → ℕ) (ring : IsRing width 1 time
       sum_with width times ring (λ j. sum_below (λ k. times (c k) (A k j)) n) (A n) x (c n) columns
       ∙ ap₂ bit_xor (null-combination A x null c n (omega (arith, few)))
       (ap (times (c n)) (null n (omega (arith, few))) ∙ times-zero width 1 times ring (c n))
-      ∙ zero-xor 0
+      ∙ xor_zero_l 0
 
   null_passes : (A B : ℕ → ℕ → ℕ) → ((i j : ℕ) → B i j < 2 ^ width) → HaveSameRowSpace times rows columns A B → (x : ℕ → ℕ)
       → IsNullVector times rows columns A x → IsNullVector times rows columns B x

@@ -3,27 +3,19 @@ use Rattle.std.proofs.Common.{◌≡◌, ◌≢◌, inl, inr, ℕ, zero, suc, �
 use Rattle.std.specs.Prelude.{bit_xor, nat_eq, if◌then◌else◌}
 use Rattle.std.proofs.lemmas.Bool.Decides.{eqb_tells}
 use native.Mathlib.Nat.{mod-eq_of_lt}
-use lib.Bits.{xor_assoc, xor_comm, xor_zero_r}
+use lib.Bits.{xor_comm, xor_zero_r}
 use Rattle.field_base.specs.Basis.{sum_below}
 use Rattle.field_base.specs.Ring.{IsRing}
 use Rattle.field_base.proofs.BasisSums.{sum_below-same}
-use Rattle.field_base.proofs.RingLemmas.{xor_left_comm, sum_times, times-zero, zero-times}
+use Rattle.field_base.proofs.RingLemmas.{sum_times, times-zero, zero-times, xor_exchange}
 use Rattle.field_slices.specs.Matrices.{HaveSameRowSpace, IsRowCombination, identity_entry}
-
--- (a + b) + (c + d) = (a + c) + (b + d)
-pub sums_exchange : (a b c d : ℕ) → bit_xor (bit_xor a b) (bit_xor c d) ≡ bit_xor (bit_xor a c) (bit_xor b d)
-sums_exchange a b c d =
-    xor_assoc a b (bit_xor c d) ∙ ap (bit_xor a) (xor_left_comm b c d) ∙ sym (xor_assoc a c (bit_xor b d))
-
-pub zero-xor : (x : ℕ) → bit_xor 0 x ≡ x
-zero-xor x = xor_comm 0 x ∙ xor_zero_r x
 
 -- the sum of sums, term by term
 pub sum_of_sums : (f g : ℕ → ℕ) (n : ℕ) → sum_below (λ j. bit_xor (f j) (g j)) n ≡ bit_xor (sum_below f n) (sum_below g n)
 unfolding sum_below
 sum_of_sums f g zero = refl
 sum_of_sums f g (suc n) =
-    ap (λ (s : ℕ). bit_xor s (bit_xor (f n) (g n))) (sum_of_sums f g n) ∙ sums_exchange (sum_below f n) (sum_below g n) (f n) (g n)
+    ap (λ (s : ℕ). bit_xor s (bit_xor (f n) (g n))) (sum_of_sums f g n) ∙ xor_exchange (sum_below f n) (sum_below g n) (f n) (g n)
 
 -- coefficients of which one alone is not 0
 pub only : ℕ → ℕ → ℕ → ℕ
@@ -94,7 +86,7 @@ module _ (width : ℕ) (times : ℕ → ℕ → ℕ) (ring : IsRing width 1 time
       let second = sum_below (λ i. times (d i) (f i)) n in
       ap₂ bit_xor (sum_with c d f s n)
       (sum_times width 1 times ring (c n) (times s (d n)) (f n) ∙ ap (bit_xor (times (c n) (f n))) (ring.assoc s (d n) (f n)))
-      ∙ sums_exchange first (times s second) (times (c n) (f n)) (times s (times (d n) (f n)))
+      ∙ xor_exchange first (times s second) (times (c n) (f n)) (times s (times (d n) (f n)))
       ∙ ap (bit_xor (bit_xor first (times (c n) (f n)))) (sym (ring.over_sum s second (times (d n) (f n))))
 
   module _ (rows columns : ℕ) where

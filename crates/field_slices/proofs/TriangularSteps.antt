@@ -2,7 +2,7 @@
 use Rattle.std.proofs.Common.{◌≡◌, ◌≢◌, ◌⊎◌, inl, inr, ℕ, suc, ◌+◌, ◌^◌, ◌<◌, ◌≤◌, Bool, List, length, refl, sym, subst, ◌∙◌, ap, ap₂, arith}
 use Rattle.std.specs.Prelude.{bit_xor, if◌then◌else◌, nat_lt}
 use Rattle.std.proofs.lemmas.Bool.{cases_eq, cases_lt, lt-ltb, le-ltb}
-use lib.Bits.{xor_self, xor_zero_r}
+use lib.Bits.{xor_self, xor_zero_r, xor_zero_l}
 use Rattle.field_base.specs.Basis.{sum_below}
 use Rattle.field_base.specs.Ring.{IsRing}
 use Rattle.field_base.proofs.BasisSums.{sum_below-same}
@@ -12,7 +12,7 @@ use Rattle.field_slices.specs.Decompositions.{IsDecomposition, exchanged, exchan
 use Rattle.field_slices.specs.Matrices.{IsEntryWritten, entry_of, identity_entry}
 use Rattle.field_slices.proofs.MatrixRows.{mixed, mixed-before, mixed-past}
 use Rattle.field_slices.proofs.RowExchanges.{exchanged-before, exchanged-keeps, exchanged-kept, exchanged-taken}
-use Rattle.field_slices.proofs.RowSpaces.{identity-only, only, only-after, only-other, only-same, sum_of_sums, zero-xor}
+use Rattle.field_slices.proofs.RowSpaces.{identity-only, only, only-after, only-other, only-same, sum_of_sums}
 
 -- ---- sums
 
@@ -55,7 +55,7 @@ module _ (width : ℕ) (times : ℕ → ℕ → ℕ) (ring : IsRing width 1 time
             ∙ xor_zero_r (times (c k) (F k)))
         term k within (inr behind) =
             ap (λ (x : ℕ). times x (F k)) (rest k behind within ∙ identity-row i k)
-            ∙ sym (zero-xor (times (only i 1 k) (F k)))
+            ∙ sym (xor_zero_l (times (only i 1 k) (F k)))
             ∙ ap (λ (x : ℕ). bit_xor x (times (only i 1 k) (F k))) (sym (front-past c F k behind))
 
     split-before : i < column → sum_below (λ k. times (c k) (F k)) rows ≡ sum_below (front c F) rows
@@ -265,7 +265,7 @@ module _ (width : ℕ) (times : ℕ → ℕ → ℕ) (ring : IsRing width 1 time
         unfolding added factor
         at_column k within same =
             ap₂ times (ap (L' i) same) (ap (λ (r : ℕ). U' r j) same ∙ stays column j (omega arith) j_inside)
-            ∙ sym (zero-xor (times factor (U column j)))
+            ∙ sym (xor_zero_l (times factor (U column j)))
             ∙ sym (ap₂ bit_xor
             (ap (λ (x : ℕ). times x (U k j))
             (so_far.rest i k inside (omega (arith, same)) within ∙ identity-row i k
@@ -285,7 +285,7 @@ module _ (width : ℕ) (times : ℕ → ℕ → ℕ) (ring : IsRing width 1 time
             ∙ ring.over_sum 1 (U k j) (times factor (U column j))
             ∙ ap₂ bit_xor (ap (λ (x : ℕ). times x (U k j)) (sym one))
             (one-times width 1 times ring (times factor (U column j)) (ring.below factor (U column j))
-            ∙ sym (ap₂ bit_xor (no-term k column not_column) (own-term k i same) ∙ zero-xor (times factor (U column j))))
+            ∙ sym (ap₂ bit_xor (no-term k column not_column) (own-term k i same) ∙ xor_zero_l (times factor (U column j))))
 
         elsewhere : (k : ℕ) → k < rows → k ≢ column → k ≢ i → times (L' i k) (U' k j) ≡ bit_xor (times (L i k) (U k j)) (added k)
         unfolding added

@@ -8,9 +8,9 @@ use Rattle.std.proofs.lemmas.Bool.{cases_lt}
 use Rattle.std.proofs.lemmas.List.{ext_get_or, get_or-map, get_or_append_left, get_or_past}
 use Rattle.std.proofs.lemmas.Nat.{shr-shr}
 use Rattle.std.proofs.lemmas.Simd.{get_or-chunk, get_or-put_chunk_above, get_or-put_chunk_at, get_or-put_chunk_below, length-chunk, length-put_chunk}
-use native.Mathlib.Nat.{mul_comm, pow-suc}
 use Rattle.field_base.proofs.TableChecks.{tabulates, tabulates_at, passes}
 use Rattle.ghash_slices.specs.Blocks.{HoldBytes, HoldRows}
+use Rattle.word_carryless.proofs.NibbleSquares.{number-digits}
 
 -- ---- blocks that are written in order
 
@@ -196,14 +196,6 @@ byte_at (suc n) x (suc i) below =
 pub length-digits : (n x : ℕ) → length (digits_l 256 n x) ≡ n
 length-digits zero x = refl
 length-digits (suc n) x = ap suc (length-digits n (x / 256))
-
--- the number of the n lowest bytes of x is x, if x fits
-number-digits : (n x : ℕ) → x < 256 ^ n → number_l 256 (digits_l 256 n x) ≡ x
-number-digits zero x fits = omega arith
-number-digits (suc n) x fits =
-    let whole : 256 ^ suc n ≡ 256 * 256 ^ n = pow-suc 256 n ∙ mul_comm (256 ^ n) 256 in
-    let higher : x / 256 < 256 ^ n = omega arith in
-    let rest = number-digits n (x / 256) higher in omega arith
 
 -- the number of the bytes of a value is the value
 pub number_at : (bytes : List ℕ) (values : ℕ → ℕ) (place : ℕ) → length bytes ≡ 256 → place < 16 → HoldBytes bytes values

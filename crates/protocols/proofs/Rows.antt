@@ -6,13 +6,13 @@ use Rattle.std.proofs.lemmas.Bool.{cases_lt}
 use Rattle.std.proofs.lemmas.List.{get_or-take, get_or-drop, get_or_past, length-take-le, length-drop}
 use Rattle.std.proofs.lemmas.Nat.{mul-add-lt, pow_below, pow_pos, xor_lt}
 use Rattle.std.proofs.lemmas.Simd.{get_or-zip2, length-zip2}
-use lib.Bits.{xor_zero_r}
+use lib.Bits.{xor_zero_r, xor_zero_l}
 use Rattle.field_base.specs.Basis.{product_below, sum_below}
 use Rattle.field_base.specs.Ring.{IsRing}
 use Rattle.field_base.proofs.BasisSums.{product_below-same, sum_below-add, sum_below-same}
 use Rattle.field_base.proofs.PowerLemmas.{one-times}
 use Rattle.field_base.proofs.RingLemmas.{times-zero}
-use Rattle.field_base.proofs.Polynomials.{IsPolynomial, polynomial-same, polynomial-scale, polynomial-sum, polynomial-zero, nil_xor}
+use Rattle.field_base.proofs.Polynomials.{IsPolynomial, polynomial-same, polynomial-scale, polynomial-sum, polynomial-zero}
 use Rattle.field_slices.specs.Multilinear.{eq_corner, folded, folded_all, on_line}
 use Rattle.field_slices.proofs.CornerSums.{corners-line, weighted-line}
 use Rattle.field_slices.proofs.CubeLaws.{line-one, line-zero}
@@ -226,7 +226,7 @@ module _ (width : ℕ) (times : ℕ → ℕ → ℕ) (ring : IsRing width 1 time
     pub cube_sum-none : (values : List ℕ) → cube_sum times terms count 0 values ≡ terms_value times terms (slice_index values)
     unfolding sum_below
     cube_sum-none values =
-        nil_xor (terms_value times terms (λ j. slice_index values (0 * count + j)))
+        xor_zero_l (terms_value times terms (λ j. slice_index values (0 * count + j)))
         ∙ terms_value-same times count terms (λ j. slice_index values (0 * count + j)) (slice_index values) within
         (λ j inside. ap (slice_index values) (first j))
       where
@@ -262,7 +262,7 @@ module _ (width : ℕ) (times : ℕ → ℕ → ℕ) (ring : IsRing width 1 time
   folded-values count [] values size fits j inside =
       let first : j ≡ 0 * count + j = omega arith in
       ap (slice_index values) first
-      ∙ sym (nil_xor (times (slice_index values (0 * count + j)) 1)
+      ∙ sym (xor_zero_l (times (slice_index values (0 * count + j)) 1)
       ∙ (ring.comm (slice_index values (0 * count + j)) 1 ∙ one-times width 1 times ring (slice_index values (0 * count + j)) (fits (0 * count + j))))
   folded-values count (r ∷ rs) values size fits j inside =
       folded-values count rs (folded times r values)

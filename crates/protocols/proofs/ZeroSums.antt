@@ -12,7 +12,7 @@ use lib.Bits.{xor_self, xor_zero_r}
 use Rattle.field_base.specs.Basis.{sum_below}
 use Rattle.field_base.specs.Field.{IsField}
 use Rattle.field_base.specs.Ring.{IsRing}
-use Rattle.field_base.proofs.BasisSums.{sum_below-same}
+use Rattle.field_base.proofs.BasisSums.{sum_below-same, sum_below-zeros}
 use Rattle.field_base.proofs.RingLemmas.{sum_times, xor_nothing, zero-times}
 use Rattle.field_slices.specs.Multilinear.{AreCornerValues, eq_coordinate, eq_corner, multilinear_value, on_line}
 use Rattle.field_slices.proofs.CornerSums.{corners-line, eq_corner-lower, eq_corner-upper, line-weights, weighted-lt, weighted-scaled}
@@ -22,12 +22,6 @@ use Rattle.protocols.specs.ZeroCheck.{FalseZerosNeedLuck, ZerosReduce, eq_point,
 use Rattle.protocols.specs.ZeroCheckRuns.{zero_check_row}
 use Rattle.protocols.proofs.Soundness.{false_claims_need_luck, honest_reduces}
 use Rattle.protocols.proofs.ZeroChecks.{terms-at, zero_check_evaluates, zero_needs_root}
-
-sum-nothing : (f : ℕ → ℕ) (n : ℕ) → ((i : ℕ) → i < n → f i ≡ 0) → sum_below f n ≡ 0
-unfolding sum_below
-sum-nothing f zero none = refl
-sum-nothing f (suc n) none =
-    ap₂ bit_xor (sum-nothing f n (λ i below. none i (omega (arith, below)))) (none n (omega arith))
 
 -- values of a function of the first places, and 0 at the others
 function-fits : (f : ℕ → ℕ) (n width i : ℕ) → ((k : ℕ) → f k < 2 ^ width) → slice_index (map f (range_with_len 0 n)) i < 2 ^ width
@@ -236,7 +230,7 @@ zeros_reduce width times a b c point challenges messages field enough a_are b_ar
     honest_reduces width times zero_check_terms 4 3 0 (zero_check_rows times point a b c) challenges messages
     (shape width times field enough point a b c a_are b_are c_are (length challenges) same)
     (sym (sum-at width times field enough point a b c a_are b_are c_are (length challenges) same
-    ∙ sum-nothing (λ i. times (slice_index (zero_differences times (length point) a b c) i) (eq_corner times point i)) (2 ^ length point)
+    ∙ sum_below-zeros (λ i. times (slice_index (zero_differences times (length point) a b c) i) (eq_corner times point i)) (2 ^ length point)
     (λ i below. ap (λ (v : ℕ). times v (eq_corner times point i))
     (difference-at width times field.ring point a b c i below ∙ ap (λ (v : ℕ). bit_xor v (slice_index c i)) (meets i below) ∙ xor_self (slice_index c i))
     ∙ zero-times width 1 times field.ring (eq_corner times point i))))

@@ -18,7 +18,7 @@ use Rattle.reed_solomon.specs.Shards.{shard_byte}
 use Rattle.reed_solomon.specs.Tables.{nibble_sum}
 use Rattle.reed_solomon.proofs.NibbleTables.{nibble_product}
 use Rattle.reed_solomon.proofs.ParityWords.{matching_parity}
-use Rattle.reed_solomon.proofs.Writing.{sum_below-same}
+use Rattle.field_base.proofs.BasisSums.{sum_below-same}
 
 -- ---- sums that are written in place
 
@@ -137,7 +137,7 @@ sum_below-more (suc n) j v f g inside was is others =
 
     last : n ≡ j → bit_xor (sum_below g n) (g n) ≡ bit_xor (bit_xor (sum_below f n) (f n)) v
     last e =
-        ap₂ bit_xor (sum_below-same n g f (λ i below. others i (λ same. absurd (omega (arith, same, below, e))))) (ap g e ∙ is)
+        ap₂ bit_xor (sum_below-same g f n (λ i below. others i (λ same. absurd (omega (arith, same, below, e))))) (ap g e ∙ is)
         ∙ ap (λ (s : ℕ). bit_xor s v) (sym (ap (bit_xor (sum_below f n)) (ap f e ∙ was) ∙ xor_zero_r (sum_below f n)))
 
 -- a sum of zeros
@@ -160,7 +160,6 @@ added_shards_encode =
       all = λ k m size shards added fits bytes every sums.
           (matching_parity k m size shards fits bytes).0 (λ t column below inside.
           sym (get_or-drop ((k + t) * size) shards column 0) ∙ sums t below column inside
-          ∙ sum_below-same k (λ j. if added j then erasure_product (parity_factor k t j) (shard_byte size shards j column) else 0)
-          (λ j. erasure_product (parity_factor k t j) (shard_byte size shards j column))
+          ∙ sum_below-same (λ j. if added j then erasure_product (parity_factor k t j) (shard_byte size shards j column) else 0) (λ j. erasure_product (parity_factor k t j) (shard_byte size shards j column)) k
           (λ j less. ap (λ (b : Bool). if b then erasure_product (parity_factor k t j) (shard_byte size shards j column) else 0) (every j less)));
     }

@@ -14,7 +14,8 @@ use Rattle.reed_solomon.proofs.NibbleTables.{nibble_product}
 use Rattle.reed_solomon.proofs.Restoring.{RestoresBefore, symbol_at-same}
 use Rattle.reed_solomon.proofs.RowWriting.{written_at, written_by}
 use Rattle.reed_solomon.proofs.Samples.{below_next}
-use Rattle.reed_solomon.proofs.Writing.{apart_from, sum_below-same}
+use Rattle.reed_solomon.proofs.Writing.{apart_from}
+use Rattle.field_base.proofs.BasisSums.{sum_below-same}
 
 -- ---- entries that are set in turn
 
@@ -54,8 +55,7 @@ pub row_symbol : (count size : ℕ) (place : ℕ → ℕ) (entries shards starts
     → row_sum entries shards starts row column ≡ symbol_at count size place shards column target
 row_symbol count size place entries shards starts row column target counted begun set bytes =
     ap (sum_below (λ j. nibble_sum entries (128 * j + 32 * row) (get_or shards (get_or starts j 0 + column) 0))) counted
-    ∙ sum_below-same count (λ j. nibble_sum entries (128 * j + 32 * row) (get_or shards (get_or starts j 0 + column) 0))
-    (λ j. erasure_product (lagrange 8 erasure_product place count j target) (shard_byte size shards (place j) column))
+    ∙ sum_below-same (λ j. nibble_sum entries (128 * j + 32 * row) (get_or shards (get_or starts j 0 + column) 0)) (λ j. erasure_product (lagrange 8 erasure_product place count j target) (shard_byte size shards (place j) column)) count
     (λ j below.
     ap (λ (p : ℕ). nibble_sum entries (128 * j + 32 * row) (get_or shards (p + column) 0)) (begun j below)
     ∙ nibble_product (λ i. lagrange 8 erasure_product place count i target) entries row count j (shard_byte size shards (place j) column)

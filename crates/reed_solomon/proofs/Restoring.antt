@@ -8,15 +8,14 @@ use Rattle.reed_solomon.specs.Samples.{IsSample, symbol_at}
 use Rattle.reed_solomon.specs.Shards.{IsPresent, IsAmongFirst, IsReconstructed, present_count, shard_byte}
 use Rattle.reed_solomon.proofs.ByteTables.{erasure_field}
 use Rattle.reed_solomon.proofs.Samples.{sample_distinct}
-use Rattle.reed_solomon.proofs.Writing.{sum_below-same}
+use Rattle.field_base.proofs.BasisSums.{sum_below-same}
 
 -- the symbols that two lists of shards give are the same where the shards at the places are
 pub symbol_at-same : (count size : ℕ) (place : ℕ → ℕ) (old now : List ℕ) (column x : ℕ)
     → ((j : ℕ) → j < count → shard_byte size now (place j) column ≡ shard_byte size old (place j) column)
     → symbol_at count size place now column x ≡ symbol_at count size place old column x
 symbol_at-same count size place old now column x same =
-    sum_below-same count (λ j. erasure_product (lagrange 8 erasure_product place count j x) (shard_byte size now (place j) column))
-    (λ j. erasure_product (lagrange 8 erasure_product place count j x) (shard_byte size old (place j) column))
+    sum_below-same (λ j. erasure_product (lagrange 8 erasure_product place count j x) (shard_byte size now (place j) column)) (λ j. erasure_product (lagrange 8 erasure_product place count j x) (shard_byte size old (place j) column)) count
     (λ j below. ap (erasure_product (lagrange 8 erasure_product place count j x)) (same j below))
 
 -- the missing shards before shard `target` are written, and the others are as they were

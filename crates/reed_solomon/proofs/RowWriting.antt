@@ -10,7 +10,7 @@ use Rattle.field_base.specs.Basis.{sum_below}
 use Rattle.reed_solomon.specs.Tables.{AreApart, AreWritten, nibble_sum, row_sum, row_sum_of}
 use Rattle.reed_solomon.proofs.Factors.{sum_more}
 use Rattle.reed_solomon.proofs.Samples.{below_next}
-use Rattle.reed_solomon.proofs.Writing.{sum_below-same}
+use Rattle.field_base.proofs.BasisSums.{sum_below-same}
 
 pub no_rows : (value : ℕ → ℕ → ℕ) (place : ℕ → ℕ) (width : ℕ) (old : List ℕ) → AreWritten value place 0 width old old
 no_rows value place width old =
@@ -175,8 +175,7 @@ pub row_sum-same : (entries shards others starts : List ℕ) (row column : ℕ)
     → ((j : ℕ) → j < length starts → get_or shards (get_or starts j 0 + column) 0 ≡ get_or others (get_or starts j 0 + column) 0)
     → row_sum entries shards starts row column ≡ row_sum entries others starts row column
 row_sum-same entries shards others starts row column same =
-    sum_below-same (length starts) (λ j. nibble_sum entries (128 * j + 32 * row) (get_or shards (get_or starts j 0 + column) 0))
-    (λ j. nibble_sum entries (128 * j + 32 * row) (get_or others (get_or starts j 0 + column) 0))
+    sum_below-same (λ j. nibble_sum entries (128 * j + 32 * row) (get_or shards (get_or starts j 0 + column) 0)) (λ j. nibble_sum entries (128 * j + 32 * row) (get_or others (get_or starts j 0 + column) 0)) (length starts)
     (λ j below. ap (nibble_sum entries (128 * j + 32 * row)) (same j below))
 
 -- rows that are written leave the shards that are read

@@ -4,7 +4,7 @@ use Rattle.std.proofs.lemmas.List.{get_or-append-add, get_or_append_left, get_or
 use Rattle.reed_solomon.specs.Tables.{AreApart, AreWritten, nibble_sum, row_sum}
 use Rattle.reed_solomon.proofs.GroupWriting.{apart_places}
 use Rattle.reed_solomon.proofs.RowWriting.{columns_written, row_written, still_read, written_by}
-use Rattle.reed_solomon.proofs.Writing.{sum_below-same}
+use Rattle.field_base.proofs.BasisSums.{sum_below-same}
 
 -- ---- a part of a list that is put in the place of as many entries
 
@@ -93,8 +93,7 @@ strip_row size column width row target strip part old now rows start gap from cu
 row_sum-drop : (entries shards starts : List ℕ) (row columns c : ℕ)
     → row_sum entries (drop columns shards) starts row c ≡ row_sum entries shards starts row (columns + c)
 row_sum-drop entries shards starts row columns c =
-    sum_below-same (length starts) (λ j. nibble_sum entries (128 * j + 32 * row) (get_or (drop columns shards) (get_or starts j 0 + c) 0))
-    (λ j. nibble_sum entries (128 * j + 32 * row) (get_or shards (get_or starts j 0 + (columns + c)) 0))
+    sum_below-same (λ j. nibble_sum entries (128 * j + 32 * row) (get_or (drop columns shards) (get_or starts j 0 + c) 0)) (λ j. nibble_sum entries (128 * j + 32 * row) (get_or shards (get_or starts j 0 + (columns + c)) 0)) (length starts)
     (λ j below.
     ap (nibble_sum entries (128 * j + 32 * row))
     (get_or-drop columns shards (get_or starts j 0 + c) 0 ∙ ap (λ (n : ℕ). get_or shards n 0) (place (get_or starts j 0))))

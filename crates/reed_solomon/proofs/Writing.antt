@@ -1,17 +1,8 @@
 -- Sums over the shards of a sample, and places of shards that do not meet.
-use Rattle.std.proofs.Common.{◌≡◌, ◌≢◌, ◌⊎◌, inl, inr, ℕ, zero, suc, ◌+◌, ◌*◌, ◌<◌, ◌≤◌, refl, ap₂, subst, arith}
+use Rattle.std.proofs.Common.{◌≢◌, ◌⊎◌, inl, inr, ℕ, suc, ◌+◌, ◌*◌, ◌<◌, ◌≤◌, subst, arith}
 use Rattle.std.proofs.Math.Nat.{mul-le-mul_right, mul_comm}
-use Rattle.std.specs.Prelude.{bit_xor}
 use Rattle.std.proofs.lemmas.Bool.{cases_order}
 use Rattle.std.proofs.lemmas.Nat.{mul-add-lt}
-use Rattle.field_base.specs.Basis.{sum_below}
-
--- sums of equal terms
-pub sum_below-same : (n : ℕ) (f g : ℕ → ℕ) → ((j : ℕ) → j < n → f j ≡ g j) → sum_below f n ≡ sum_below g n
-unfolding sum_below
-sum_below-same zero f g same = refl
-sum_below-same (suc n) f g same =
-    ap₂ bit_xor (sum_below-same n f g (λ j below. same j (omega (arith, below)))) (same n (omega arith))
 
 -- a byte of another shard lies outside
 pub apart_from : (size target place column until : ℕ) → column < size → until ≤ size → place ≢ target

@@ -7,16 +7,14 @@ use Rattle.std.proofs.lemmas.List.{get_or-reverse, length-reverse, reverse-appen
 use Rattle.std.proofs.lemmas.List.Sums.{fold-append}
 use Rattle.std.proofs.lemmas.Nat.{xor_comm, xor_lt, pow_pos}
 use native.Mathlib.Nat.{mod-eq_of_lt}
-use lib.Bits.{xor_self, xor_zero_r}
+use lib.Bits.{xor_self, xor_zero_r, xor_zero_l}
 use Rattle.field_base.specs.Field.{IsField}
 use Rattle.field_base.specs.Ring.{IsRing}
 use Rattle.field_base.specs.Powers.{terms_from, value_of}
-use Rattle.field_base.proofs.CarrylessProduct.{xor_exchange}
-use Rattle.field_base.proofs.RingLemmas.{times-mod, times-zero, xor_nothing}
+use Rattle.field_base.proofs.RingLemmas.{times-mod, times-zero, xor_nothing, xor_exchange}
 use Rattle.field_base.specs.PolynomialRoots.{AreDistinctBelow}
 use Rattle.field_base.proofs.Codewords.{many_roots_mean_zero}
 use Rattle.field_base.proofs.PolynomialCoefficients.{value_of-cons}
-use Rattle.field_base.proofs.Polynomials.{nil_xor}
 use Rattle.tags.specs.Collisions.{AtMostCollide, IsMessage, LastBlockDiffers, PolynomialHashCollides, SameLengthIsSame}
 use Rattle.tags.specs.Hash.{polynomial_hash}
 
@@ -43,7 +41,7 @@ get_or-nil (suc i) = refl
 
 get_or-added : (cs ds : List ℕ) (i : ℕ) → get_or (added cs ds) i 0 ≡ bit_xor (get_or cs i 0) (get_or ds i 0)
 unfolding added
-get_or-added [] ds i = sym (ap (λ (z : ℕ). bit_xor z (get_or ds i 0)) (get_or-nil i) ∙ nil_xor (get_or ds i 0))
+get_or-added [] ds i = sym (ap (λ (z : ℕ). bit_xor z (get_or ds i 0)) (get_or-nil i) ∙ xor_zero_l (get_or ds i 0))
 get_or-added (c ∷ cs) [] i =
     sym (ap (bit_xor (get_or (c ∷ cs) i 0)) (get_or-nil i) ∙ xor_zero_r (get_or (c ∷ cs) i 0))
 get_or-added (c ∷ cs) (d ∷ ds) zero = refl
@@ -66,7 +64,7 @@ module _ (width : ℕ) (times : ℕ → ℕ → ℕ) (ring : IsRing width 1 time
 
   value-added : (cs ds : List ℕ) (a : ℕ) → value (added cs ds) a ≡ bit_xor (value cs a) (value ds a)
   unfolding added
-  value-added [] ds a = sym (ap (λ (z : ℕ). bit_xor z (value ds a)) (value-nil a) ∙ nil_xor (value ds a))
+  value-added [] ds a = sym (ap (λ (z : ℕ). bit_xor z (value ds a)) (value-nil a) ∙ xor_zero_l (value ds a))
   value-added (c ∷ cs) [] a = sym (ap (bit_xor (value (c ∷ cs) a)) (value-nil a) ∙ xor_zero_r (value (c ∷ cs) a))
   value-added (c ∷ cs) (d ∷ ds) a =
       value_of-cons width times ring (bit_xor c d) (added cs ds) a

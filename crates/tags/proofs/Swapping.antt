@@ -3,12 +3,13 @@ use Rattle.std.proofs.Common.{◌≡◌, ℕ, ◌*◌, ◌/◌, ◌%◌, ◌^◌
 use Rattle.std.specs.Prelude.{bit_xor, bit_and}
 use Rattle.std.specs.Int.{reverse_bits, reverse_bits_onto, w128}
 use Rattle.std.proofs.lemmas.Nat.{xor_shr, xor_mod}
-use Rattle.field_base.proofs.CarrylessProduct.{xor_exchange, xor_shl}
+use Rattle.field_base.proofs.CarrylessProduct.{xor_shl}
 use Rattle.field_base.proofs.AdditiveMaps.{KeepsSums, maps_agree, agree_on_powers, agree_on_powers-true}
 use Rattle.word_carryless.proofs.Classes.{xor_and}
 use Rattle.word_carryless.proofs.FieldSteps.{steps, steps-sum}
 use Rattle.tags.specs.Swaps.{swap_step}
 use Rattle.tags.proofs.ReversedBits.{reversed, reversed_xor}
+use Rattle.field_base.proofs.RingLemmas.{xor_exchange}
 
 -- a swap keeps sums
 swap-sum : (s m : ℕ) → KeepsSums (swap_step s m)

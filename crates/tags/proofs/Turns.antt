@@ -1,7 +1,7 @@
 -- Horner's rule over interleaved sums, and over some blocks and then others.
-use Rattle.std.proofs.Common.{◌≡◌, ℕ, zero, suc, ◌+◌, ◌-◌, ◌*◌, ◌/◌, ◌%◌, ◌^◌, ◌<◌, ◌≤◌, List, [], ◌∷◌, ◌++◌, length, take, drop, replicate, refl, sym, ◌∙◌, ap, ap₂, arith, subst, length-drop}
+use Rattle.std.proofs.Common.{◌≡◌, ℕ, zero, suc, ◌+◌, ◌-◌, ◌*◌, ◌%◌, ◌^◌, ◌<◌, ◌≤◌, List, [], ◌∷◌, ◌++◌, length, take, drop, replicate, refl, sym, ◌∙◌, ap, ap₂, arith, length-drop}
 use Rattle.std.specs.Prelude.{bit_xor, fold, map, get_or, slice_index_or, slice_set}
-use Rattle.std.proofs.lemmas.List.{drop-drop, length-take-le, map-append, take-append-le, take_more}
+use Rattle.std.proofs.lemmas.List.{drop-drop, map-append, take-append-le, take_more}
 use Rattle.std.proofs.lemmas.List.Sums.{fold-append}
 use Rattle.tags.specs.Blocks.{block, first_blocks}
 use Rattle.tags.specs.Powers.{ArePowers, added_block}
@@ -14,19 +14,11 @@ use Rattle.std.specs.Simd.Lanes.{zip2}
 use lib.Bits.{xor_assoc, xor_comm, xor_zero_r}
 use native.Mathlib.Nat.{mod-eq_of_lt, suc-add, zero-add}
 use Rattle.field_base.specs.Powers.{repeated_square}
-use Rattle.field_base.proofs.PowerLemmas.{repeated_square_more}
 use Rattle.field_base.proofs.RemainderRing.{ghash_ring}
-use Rattle.field_base.proofs.RingLemmas.{sum_times, times-zero}
+use Rattle.field_base.proofs.RingLemmas.{sum_times, times-zero, xor_exchange}
 use Rattle.ghash_slices.specs.LowStages.{ghash_product}
 use Rattle.ghash_slices.specs.Stages.{add_multiple}
 use Rattle.tags.specs.Reversed.{ghash_times}
-
--- four sums, two by two in another order
-pub four_sums : (a b c d : ℕ) → bit_xor (bit_xor a b) (bit_xor c d) ≡ bit_xor (bit_xor a c) (bit_xor b d)
-four_sums a b c d =
-    xor_assoc a b (bit_xor c d)
-    ∙ ap (bit_xor a) (sym (xor_assoc b c d) ∙ ap (λ (z : ℕ). bit_xor z d) (xor_comm b c) ∙ xor_assoc c b d)
-    ∙ sym (xor_assoc a c (bit_xor b d))
 
 module _ (key : ℕ) where
   -- a step of Horner's rule
@@ -53,7 +45,7 @@ module _ (key : ℕ) where
       step : horner_step (bit_xor s (ghash_times c t)) (bit_xor x (ghash_times c y))
           ≡ bit_xor (horner_step s x) (ghash_times c (horner_step t y))
       step =
-          ap (λ (z : ℕ). ghash_times z key) (four_sums s (ghash_times c t) x (ghash_times c y))
+          ap (λ (z : ℕ). ghash_times z key) (xor_exchange s (ghash_times c t) x (ghash_times c y))
           ∙ ap (λ (z : ℕ). ghash_times (bit_xor (bit_xor s x) z) key) (sym (ghash_ring.over_sum c t y))
           ∙ more (bit_xor s x) (ghash_times c (bit_xor t y))
           ∙ ap (bit_xor (horner_step s x)) (ghash_ring.assoc c (bit_xor t y) key)

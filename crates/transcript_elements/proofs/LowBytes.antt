@@ -2,7 +2,7 @@
 -- has the lowest byte first, be_bytes the highest.
 use Rattle.std.proofs.Common.{◌≡◌, ◌<◌, ◌≤◌, ◌+◌, ◌-◌, ◌*◌, ◌/◌, ◌%◌, ◌^◌, ℕ, zero, suc, List, [], ◌∷◌, ◌++◌, length, take, drop, reverse, get_or, refl, sym, lit<, ap, ap₂, subst, ◌∙◌, arith}
 use Rattle.std.proofs.Math.Pow.{mod-mod-pow}
-use Rattle.std.proofs.Math.Nat.{add-mul-mod_self_left, div-div-eq-div-mul, mod-one, pow-suc}
+use Rattle.std.proofs.Math.Nat.{add-mul-mod_self_left, div-div-eq-div-mul, mod-one}
 use Rattle.std.proofs.Math.Seq.{take-append_seam}
 use Rattle.std.proofs.lemmas.Nat.{div-mul-add, mod-pow-add, pow-add}
 use native.Mathlib.Nat.{div-one, mod-eq_of_lt, mul-suc}
@@ -13,7 +13,7 @@ use Rattle.field_base.specs.Chunks.{chunk, chunks, joined}
 use Rattle.field_bytes.specs.Bytes.{low_bytes, number_of_bytes}
 use Rattle.field_bytes.proofs.Taking.{number-more}
 use Rattle.field_bytes.proofs.WordBytes.{sixteen_bytes}
-use Rattle.field_base.proofs.ChunkLists.{chunks-put, put-lt}
+use Rattle.field_base.proofs.ChunkLists.{chunks-put, put-lt, pow-256}
 use Rattle.transcript_elements.specs.BigEndian.{be_bytes}
 
 -- ---- fewer bytes of a number
@@ -44,19 +44,10 @@ low_first_of n a few =
     let split : n + (16 - n) ≡ 16 = omega (arith, few) in
     ap (take n) (sixteen_bytes a) ∙ sym (ap (λ (k : ℕ). take n (low_bytes k a)) split) ∙ take-low n (16 - n) a
 
--- 256^i = 2^(8 i)
-shift : (i : ℕ) → 256 ^ i ≡ 2 ^ (8 * i)
-shift zero = refl
-shift (suc i) =
-    let bits : 2 ^ (8 * suc i) ≡ 256 * 2 ^ (8 * i) = ap (λ (k : ℕ). 2 ^ k) (mul-suc 8 i ∙ omega arith) ∙ pow-add 2 8 (8 * i) in
-    let below = shift i in
-    let powers = pow-suc 256 i in
-    omega (arith, bits, below, powers)
-
 -- byte i of a number is its chunk i of 8 bits
 high-chunk : (i a : ℕ) → byte_at i a ≡ chunk 8 i a
 high-chunk zero a = ap (λ (x : ℕ). x % 256) (sym (div-one a))
-high-chunk (suc i) a = ap (λ (p : ℕ). a / p % 256) (shift (suc i))
+high-chunk (suc i) a = ap (λ (p : ℕ). a / p % 256) (pow-256 (suc i))
 
 -- the bytes from the highest are the low bytes in reverse order
 high-reversed : (n a : ℕ) → bytes_high_first n a ≡ reverse (low_bytes n a)

@@ -12,7 +12,8 @@ use Rattle.word_tables.specs.Cantor.{cantor_vector}
 use Rattle.transform_codes.specs.Codes.{AreCodedBefore, AreCodedColumns, AreOfData, IsCodedColumn, shard_symbol, value_at}
 use Rattle.transform_codes.specs.Columns.{AreParityBelow, AreScattered, HoldFirstValues, HoldStrip, HoldWordValues, OthersAreKept}
 use Rattle.additive_transforms.proofs.BlockPoints.{point-joined}
-use Rattle.transform_codes.proofs.ColumnPlaces.{columns_more, place_below}
+use Rattle.transform_codes.proofs.ColumnPlaces.{columns_more}
+use lib.Arith.{digits_lt}
 
 -- so many words are rows of a strip
 pub rows_in : (n width words : ℕ) → 0 < width → words ≡ 2 ^ n * width → words / width ≡ 2 ^ n
@@ -35,7 +36,7 @@ module _ {W : Type 0} (element : W → ℕ) (zero : W) (level n width c : ℕ) (
   pub column_word : (words : List W) → length words ≡ 2 ^ n * width → (p : ℕ) → p < 2 ^ n
       → slice_index (column words) p ≡ element (get_or words (p * width + c) zero)
   column_word words long p below =
-      let within = place_below width (2 ^ n) p c below inside in
+      let within = digits_lt below inside in
       let in_rows = rows words long in
       column-at width c (map element words) p (omega (arith, in_rows, below))
       ∙ get_or-map element words (p * width + c) zero 0 (omega (arith, long, within))

@@ -2,13 +2,9 @@
 use Rattle.std.proofs.Common.{◌≡◌, ◌≢◌, ◌⊎◌, inl, inr, ℕ, ◌+◌, ◌-◌, ◌*◌, ◌<◌, ◌≤◌, Bool, List, length, get_or, set, ◌∙◌, ap, subst, arith, below_more, mul-le-mul_right}
 use Rattle.std.proofs.lemmas.Bool.{cases_lt}
 use Rattle.std.proofs.lemmas.List.{get_or-set_other, get_or-set_same}
-use Rattle.std.proofs.lemmas.Nat.{mul-add-lt}
 use Rattle.field_base.specs.Tower.{tower_mul}
 use Rattle.transform_codes.specs.Columns.{ArePutWords, ArePutProducts, AreRowProducts, AreScattered, HoldStrip, IsOutside}
-
--- a place lies within the shards
-pub place_below : (size count i c : ℕ) → i < count → c < size → i * size + c < count * size
-place_below size count i c within inside = let below = mul-add-lt i size c count within inside in omega (arith, below)
+use lib.Arith.{digits_lt}
 
 -- a strip of a shard ends within the shards
 pub strip_within : (size count i start width : ℕ) → i < count → start + width ≤ size → i * size + start + width ≤ count * size
@@ -22,7 +18,7 @@ pub apart : (size start width j i c : ℕ) → c < size → start + width ≤ si
     → (i * size + c < j * size + start) ⊎ (j * size + start + width ≤ i * size + c)
 apart size start width j i c c_below inside side =
     elim (cases_lt i j) [
-      | inl early ↦ let below = place_below size j i c early c_below in inl (omega (arith, below))
+      | inl early ↦ let below = digits_lt early c_below in inl (omega (arith, below))
       | inr late ↦ elim (cases_lt j i) [
         | inl later ↦ let ends = strip_within size i j start width later inside in inr (omega (arith, ends))
         | inr reached ↦ here (omega (arith, late, reached)) side
@@ -96,7 +92,7 @@ module _ {W : Type 0} (zero : W) (size start width : ℕ) where
   gathered_more count i word shards old now read none put before j c below inside =
       elim (cases_lt j i) [
         | inl early ↦
-            let kept = put.kept (j * width + c) (inl (place_below width i j c early inside)) in
+            let kept = put.kept (j * width + c) (inl (digits_lt early inside)) in
             ((λ within. kept ∙ (before j c early inside).0 within), λ past. kept ∙ (before j c early inside).1 past)
         | inr late ↦
             let same : i ≡ j = omega (arith, below, late) in
@@ -115,7 +111,7 @@ module _ {W : Type 0} (zero : W) (size start width : ℕ) where
         written = λ s c below in_row.
             elim (cases_lt s t) [
               | inl early ↦
-                  let under = place_below size (first + t) (first + s) (start + c) (omega (arith, early)) (omega (arith, in_row, inside)) in
+                  let under = digits_lt {q = (first + s)} {m = (first + t)} {r = (start + c)} {c = size} (omega (arith, early)) (omega (arith, in_row, inside)) in
                   put.kept ((first + s) * size + (start + c)) (inl (omega (arith, under)))
                   ∙ before.written s c early in_row
               | inr late ↦
@@ -167,7 +163,7 @@ module _ {W : Type 0} (number : W → ℕ) (zero : W) (level width p : ℕ) (los
       }
     where
       stays : (q c : ℕ) → q < p → c < width → get_or now (q * width + c) zero ≡ get_or mid (q * width + c) zero
-      stays q c early inside = let under = place_below width p q c early inside in others_stay (q * width + c) (inl (omega (arith, under)))
+      stays q c early inside = let under = digits_lt early inside in others_stay (q * width + c) (inl (omega (arith, under)))
 
   -- a row that is multiplied
   pub row_product_more : (factor : ℕ) → lost p ≡ which → factor ≡ number (get_or factors p zero)

@@ -16,9 +16,9 @@ use Rattle.additive_transforms.proofs.CantorSums.{value-same}
 use Rattle.field_base.proofs.TowerRing.{tower_ring}
 use Rattle.std.proofs.lemmas.Nat.{pow_pos}
 use Rattle.transform_codes.proofs.CodedColumns.{column_word, held}
-use Rattle.transform_codes.proofs.ColumnPlaces.{place_below}
 use Rattle.transform_codes.proofs.FirstValues.{lowest_only}
 use Rattle.transform_codes.proofs.DerivedValues.{derived-high, derived-low, derived-mod, derived-none, derived-same}
+use lib.Arith.{digits_lt}
 
 -- half of the words are half of the rows
 pub half_rows : (half levels width words : ℕ) → suc half ≡ levels → words ≡ 2 ^ levels * width → words / 2 ≡ 2 ^ half * width
@@ -56,7 +56,7 @@ module _ {W : Type 0} (number : W → ℕ) (zero_word : W) (width : ℕ) where
 
     in_lower : (i c : ℕ) → i < 2 ^ half → c < width → word c i ≡ number (get_or lower (i * width + c) zero_word)
     in_lower i c below inside =
-        let within = place_below width (2 ^ half) i c below inside in
+        let within = digits_lt below inside in
         ap number (get_or_append_left lower upper zero_word (i * width + c) (omega (arith, front, within)))
 
     behind : (list tail : List W) (i c : ℕ) → length list ≡ 2 ^ half * width
@@ -86,7 +86,7 @@ module _ {W : Type 0} (number : W → ℕ) (zero_word : W) (width : ℕ) where
         → AreFirstDerivedRows number zero_word (suc half) few width (lower ++ upper) ((added ++ others) ++ upper)
     derived_first few fewer new_lower rows others added parts long same lower_is sums k c below inside =
         let more : 2 ^ few ≤ 2 ^ half = pow-le-pow_right (lit< tt) fewer in
-        let within = place_below width (2 ^ few) k c below inside in
+        let within = digits_lt below inside in
         let place : k * width + c < length rows = omega (arith, long, within) in
         let here : k * width + c < length added = omega (arith, place, same) in
         ap number
@@ -109,7 +109,7 @@ module _ {W : Type 0} (number : W → ℕ) (zero_word : W) (width : ℕ) where
       derived_halves k c below inside =
           elim (cases_lt k (2 ^ half)) [
             | inl early ↦
-                let within = place_below width (2 ^ half) k c early inside in
+                let within = digits_lt early inside in
                 let place : k * width + c < length lower = omega (arith, front, within) in
                 ap number (get_or_append_left added new_upper zero_word (k * width + c) (omega (arith, place, same)))
                 ∙ sums (k * width + c) place
@@ -131,7 +131,7 @@ pub derived_front : {W : Type 0} (number : W → ℕ) (nil : W) (n few width : �
     → AreFirstDerivedRows number nil n few width old all → all ≡ rows ++ others → length rows ≡ 2 ^ few * width
     → AreFirstDerivedRows number nil n few width old rows
 derived_front number nil n few width old all rows others are parts long k c below inside =
-    let within = place_below width (2 ^ few) k c below inside in
+    let within = digits_lt below inside in
     ap number
     (sym (get_or_append_left rows others nil (k * width + c) (omega (arith, long, within)))
     ∙ ap (λ (l : List _). get_or l (k * width + c) nil) (sym parts))

@@ -25,7 +25,7 @@ use Rattle.additive_transforms.specs.Words.{level_element}
 use Rattle.word_tables.specs.Cantor.{cantor_vector}
 use Rattle.transform_codes.specs.Columns.{HoldFirstValues, HoldWordValues}
 use Rattle.transform_codes.proofs.CodedColumns.{column_word, held}
-use Rattle.transform_codes.proofs.ColumnPlaces.{place_below}
+use lib.Arith.{digits_lt}
 
 -- the halves of 2 ^ (j + 1) rows are two rows
 pub halves_fit : (bits j columns words half : ℕ) → 0 < columns → 0 < bits → words ≡ 2 ^ suc j * columns → half ≡ 2 ^ j * columns
@@ -191,7 +191,7 @@ module _ (level : ℕ) (low : level ≤ 7) where
           small = let more : 2 ^ few ≤ 2 ^ j = pow-le-pow_right (lit< tt) fewer in omega (arith, below, more)
 
           place : p * columns + c < 2 ^ j * columns
-          place = place_below columns (2 ^ j) p c small inside
+          place = digits_lt small inside
 
           a : ℕ → ℕ
           a = slice_index (column_of columns c (map element old))
@@ -203,7 +203,7 @@ module _ (level : ℕ) (low : level ≤ 7) where
               → slice_index (column_of columns c (map element lower)) k ≡ bit_xor (a k) (times t (a (2 ^ j + k)))
           coefficient k less =
               let twice = two-pow-succ j in
-              let here = place_below columns (2 ^ j) k c less inside in
+              let here = digits_lt less inside in
               let behind : half + (k * columns + c) ≡ (2 ^ j + k) * columns + c = omega (arith, half_is) in
               column_word element nil level j columns c inside lower (long ∙ half_is) k less
               ∙ sym

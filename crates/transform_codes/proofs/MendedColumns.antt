@@ -5,8 +5,9 @@ use Rattle.transform_codes.specs.Columns.{ArePutWords, IsOutside}
 use Rattle.transform_codes.specs.Restoring.{AreMended, AreRestoredColumns, IsAtHand, RestoresSymbols, is_lost}
 use Rattle.transform_codes.specs.Codes.{IsCodedColumn, shard_symbol, value_at}
 use Rattle.transform_codes.specs.Determined.{LostSymbolsReturn}
-use Rattle.transform_codes.proofs.ColumnPlaces.{apart, columns_more, place_below}
+use Rattle.transform_codes.proofs.ColumnPlaces.{apart, columns_more}
 use Rattle.transform_codes.proofs.LostCounts.{lost-data, lost-parity}
+use lib.Arith.{digits_lt}
 
 module _ {W : Type 0} (zero : W) (size start width i from first : ℕ) (present : List Bool) (values old now : List W)
     (before : AreMended zero size start width i from first present values old now) where
@@ -39,7 +40,7 @@ module _ {W : Type 0} (zero : W) (size start width i from first : ℕ) (present 
         mended = λ j c below inside missing.
             elim (cases_lt j i) [
               | inl early ↦
-                  let under = place_below size i j (start + c) early (omega (arith, inside, fits)) in
+                  let under = digits_lt {q = j} {m = i} {r = (start + c)} {c = size} early (omega (arith, inside, fits)) in
                   put.kept (j * size + (start + c)) (inl (omega (arith, under))) ∙ before.mended j c early inside missing
               | inr late ↦
                   let same : i ≡ j = omega (arith, below, late) in

@@ -25,11 +25,11 @@ use Rattle.transform_codes.specs.Restoring.{AreFactors, FitRestoring, IsAtHand, 
 use Rattle.transform_codes.specs.Sizes.{CanRebuild}
 use Rattle.transform_codes.proofs.CodedColumns.{held}
 use Rattle.transform_codes.proofs.Decoding.{lost_symbols_are_located, quotient_is}
-use Rattle.transform_codes.proofs.ColumnPlaces.{place_below}
 use Rattle.transform_codes.proofs.DerivedColumns.{derived_values}
 use Rattle.transform_codes.proofs.LocatorFacts.{locator-root}
 use Rattle.transform_codes.proofs.LostCounts.{enough_left}
 use Rattle.transform_codes.proofs.StripWords.{word_at-behind, word_at-first, word_at-padding}
+use lib.Arith.{digits_lt}
 
 module _ {W : Type 0} (number : W → ℕ) (zero : W) (nothing : number zero ≡ 0) (level k n m r : ℕ) (present : List Bool) (low : level ≤ 7)
     (room : r ≤ 2 ^ level) (enough : lost_count (is_lost k n m present) (2 ^ r) + 2 ^ n ≤ 2 ^ r) (coefficients : ℕ → ℕ) where
@@ -108,7 +108,7 @@ module _ {W : Type 0} (number : W → ℕ) (zero : W) (nothing : number zero ≡
     pub restored_front : (others : List W) → length symbols ≡ length values → (p : ℕ) → p < 2 ^ few → is_lost k n m present p ≡ true
         → element (get_or (symbols ++ others) (p * width + c) zero) ≡ f (at p)
     restored_front others same p within absent =
-        let place = place_below width (2 ^ few) p c within inside in
+        let place = digits_lt within inside in
         ap element (get_or_append_left symbols others zero (p * width + c) (omega (arith, place, same, values_long)))
         ∙ restored_symbols p within absent
 

@@ -5,7 +5,7 @@ use Rattle.std.proofs.lemmas.Bool.Decides.{nat_tests}
 use Rattle.std.proofs.lemmas.List.{get_or-append-add, get_or_append_left}
 use Rattle.transform_codes.specs.Columns.{HoldStrip}
 use Rattle.transform_codes.specs.Restoring.{word_at}
-use Rattle.transform_codes.proofs.ColumnPlaces.{place_below}
+use lib.Arith.{digits_lt}
 
 module _ {W : Type 0} (zero : W) (k n m size column : ℕ) (shards parity : List W) where
   pub word_at-first : (p : ℕ) → p < k → word_at zero k n m size column shards parity p ≡ get_or shards (p * size + column) zero
@@ -31,7 +31,7 @@ module _ {W : Type 0} (zero : W) (k n m size start width behind : ℕ) (shards p
   in_data : (p c : ℕ) → c < width → p < 2 ^ n
       → get_or (of_data ++ others) (p * width + c) zero ≡ word_at zero k n m size (start + c) shards parity p
   in_data p c inside lower =
-      let within = place_below width (2 ^ n) p c lower inside in
+      let within = digits_lt lower inside in
       let strip = data_held p c lower inside in
       get_or_append_left of_data others zero (p * width + c) (omega (arith, long, within))
       ∙ elim (cases_lt p k) [

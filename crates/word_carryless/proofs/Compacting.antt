@@ -4,12 +4,13 @@ use Rattle.std.specs.Prelude.{bit_xor, bit_and}
 use Rattle.std.proofs.lemmas.Nat.{and_mask, xor_shr, shl_whole}
 use native.Mathlib.Nat.{mul_assoc}
 use Rattle.field_base.specs.Carryless.{carryless, carryless_in}
-use Rattle.field_base.proofs.CarrylessProduct.{xor_exchange, xor_shl, carryless_shl, shl_carryless}
+use Rattle.field_base.proofs.CarrylessProduct.{xor_shl, carryless_shl, shl_carryless}
 use Rattle.field_base.proofs.AdditiveMaps.{KeepsSums, maps_agree, agree_on_powers, agree_on_powers-true}
 use Rattle.word_carryless.specs.Compact.{compact_step, even_places}
 use Rattle.word_carryless.proofs.Classes.{xor_and}
 use Rattle.word_carryless.proofs.FieldSteps.{steps, steps-sum}
 use Rattle.word_carryless.proofs.Squares.{square_sum}
+use Rattle.field_base.proofs.RingLemmas.{xor_exchange}
 
 -- ---- a word
 

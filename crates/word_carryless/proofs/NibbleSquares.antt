@@ -82,7 +82,7 @@ number-append (x ∷ xs) ys =
     omega arith
 
 -- the number of the n lowest bytes of x is x, if x fits
-number-digits : (n x : ℕ) → x < 256 ^ n → number_l 256 (digits_l 256 n x) ≡ x
+pub number-digits : (n x : ℕ) → x < 256 ^ n → number_l 256 (digits_l 256 n x) ≡ x
 number-digits zero x fits = omega arith
 number-digits (suc n) x fits =
     let whole = power_more n in

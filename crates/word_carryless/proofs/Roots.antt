@@ -8,9 +8,9 @@ use Rattle.field_base.specs.Carryless.{carryless, carryless_in}
 use Rattle.field_base.specs.Remainder.{HasDegree, rem, rem_in, mul_mod, poly64_modulus, ghash_modulus}
 use Rattle.field_base.specs.Ring.{IsRing}
 use Rattle.field_base.proofs.AdditiveMaps.{KeepsSums, maps_agree, agree_on_powers, agree_on_powers-true}
-use Rattle.field_base.proofs.CarrylessProduct.{xor_exchange, xor_double, one_carryless, double_carryless, sum_carryless, shl_carryless, carryless_lt}
+use Rattle.field_base.proofs.CarrylessProduct.{xor_double, one_carryless, double_carryless, sum_carryless, shl_carryless, carryless_lt}
 use Rattle.field_base.proofs.PowerLemmas.{square_xor, square_times}
-use Rattle.field_base.proofs.RingLemmas.{xor_left_comm}
+use Rattle.field_base.proofs.RingLemmas.{xor_left_comm, xor_exchange}
 use Rattle.field_base.proofs.RemainderLaws.{rem_small}
 use Rattle.field_base.proofs.RemainderRing.{mul_mod-rem, mul_mod_ring}
 use Rattle.word_carryless.specs.Compact.{even_places, ones, root_of_x_64, root_of_x_128}

@@ -5,8 +5,8 @@ use Rattle.std.proofs.lemmas.Nat.{xor_comm, xor_mod, shl_whole}
 use native.Mathlib.Nat.{mul_assoc}
 use lib.Bits.{xor_assoc}
 use Rattle.field_base.specs.Carryless.{carryless, carryless_in}
-use Rattle.field_base.proofs.RingLemmas.{xor_cancel}
-use Rattle.field_base.proofs.CarrylessProduct.{xor_exchange, xor_shl, carryless_comm, carryless_sum, sum_carryless, carryless_shl, shl_carryless}
+use Rattle.field_base.proofs.RingLemmas.{xor_cancel, xor_exchange}
+use Rattle.field_base.proofs.CarrylessProduct.{xor_shl, carryless_comm, carryless_sum, sum_carryless, carryless_shl, shl_carryless}
 use Rattle.field_base.proofs.AdditiveMaps.{KeepsSums, maps_agree, agree_on_powers, agree_on_powers-true}
 use Rattle.word_carryless.specs.Spread.{spread_step}
 use Rattle.word_carryless.proofs.Classes.{xor_and}

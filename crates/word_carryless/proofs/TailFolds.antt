@@ -2,7 +2,7 @@
 use Rattle.std.proofs.Common.{◌≡◌, ℕ, ◌+◌, ◌*◌, ◌/◌, ◌%◌, ◌^◌, ◌≤◌, ◌<◌, refl, sym, ◌∙◌, ap, ap₂, subst, lit<, lit≤}
 use Rattle.std.specs.Prelude.{bit_xor}
 use Rattle.std.proofs.lemmas.Nat.{xor_comm, xor_lt, xor_mod, xor_shr, shr_split, shr_below, pow-add, pow_pos}
-use native.Mathlib.Nat.{mod-lt, mod-eq_of_lt, div-eq_of_lt, one-mul, add_comm, mul-div-mul_right, lt_of_lt_of_le, pow-le-pow_right}
+use native.Mathlib.Nat.{mod-lt, mod-eq_of_lt, div-eq_of_lt, add_comm, mul-div-mul_right, lt_of_lt_of_le, pow-le-pow_right}
 use lib.Bits.{xor_assoc, xor_zero_r, xor_shifted}
 use Rattle.field_base.specs.Carryless.{carryless}
 use Rattle.field_base.specs.Remainder.{HasDegree, rem, poly64_modulus, ghash_modulus}
@@ -10,12 +10,9 @@ use Rattle.field_base.proofs.CarrylessProduct.{carryless_sum, carryless_one, car
 use Rattle.field_base.proofs.RemainderLaws.{rem_small, rem_multiple}
 use Rattle.field_base.proofs.RingLemmas.{xor_cancel}
 use Rattle.word_carryless.specs.Tail.{poly64_tail, ghash_tail}
+use Rattle.field_base.proofs.ValueLemmas.{carryless_power}
 
 -- ---- the product by a tail of four terms
-
--- the product by a power of x
-carryless_pow : (h a : ℕ) → carryless h (2 ^ a) ≡ h * 2 ^ a
-carryless_pow h a = ap (carryless h) (sym (one-mul (2 ^ a))) ∙ carryless_shl a h 1 ∙ ap (λ (z : ℕ). z * 2 ^ a) (carryless_one h)
 
 -- the tail with the terms a, b, d and 0
 abbrev tail : ℕ → ℕ → ℕ → ℕ
@@ -27,7 +24,7 @@ carryless_tail h a b d =
     carryless_sum h (bit_xor (bit_xor (2 ^ a) (2 ^ b)) (2 ^ d)) 1
     ∙ ap₂ bit_xor
     (carryless_sum h (bit_xor (2 ^ a) (2 ^ b)) (2 ^ d)
-    ∙ ap₂ bit_xor (carryless_sum h (2 ^ a) (2 ^ b) ∙ ap₂ bit_xor (carryless_pow h a) (carryless_pow h b)) (carryless_pow h d))
+    ∙ ap₂ bit_xor (carryless_sum h (2 ^ a) (2 ^ b) ∙ ap₂ bit_xor (carryless_power h a) (carryless_power h b)) (carryless_power h d))
     (carryless_one h)
 
 -- what of the product is below x^w

@@ -11,10 +11,11 @@ use Rattle.field_base.specs.Powers.{repeated_square}
 use Rattle.field_base.specs.Ring.{IsRing}
 use Rattle.field_base.specs.Chunks.{chunk}
 use Rattle.word_polynomial.specs.CubicRingLemmas.{cubic_is_ring, cubic_ring, cubic-scales, cubic-triples, product_0, product_of_three, sums}
-use Rattle.word_polynomial.specs.TripleLemmas.{chunk_below, same₃, second-triple, third-triple, triple-chunks, triple-low, triple-lt}
+use Rattle.word_polynomial.specs.TripleLemmas.{same₃, second-triple, third-triple, triple-chunks, triple-low, triple-lt}
 use Rattle.field_base.proofs.FieldLemmas.{divisor-zero, field_frobenius, no_zero_divisors}
 use Rattle.field_base.proofs.PowerLemmas.{one-times, square_xor, repeated_square-add, repeated_square-lt, repeated_square-mod, repeated_square-none, repeated_square_more, times-one}
 use Rattle.field_base.proofs.RingLemmas.{sum_times, times-zero, times_left_comm, xor_cancel, xor_nothing, zero-times}
+use Rattle.field_base.proofs.ChunkLists.{chunk-lt}
 
 -- ---- the polynomial has no root
 
@@ -327,7 +328,7 @@ module _ (width : ℕ) (times : ℕ → ℕ → ℕ) (field : IsField width time
       let a0 = chunk width 0 a in
       let a1 = chunk width 1 a in
       let a2 = chunk width 2 a in
-      let low = chunk_below width in
+      let low = chunk-lt width in
       let whole : triple width a0 a1 a2 ≡ a = triple-chunks width a ∙ mod-eq_of_lt fits in
       let inverse = inverse_by_norm a0 a1 a2 (low 0 a) (low 1 a) (low 2 a)
       (λ e. nonzero (sym whole ∙ norm_of_nonzero a0 a1 a2 (low 0 a) (low 1 a) (low 2 a) e)) in
@@ -408,7 +409,7 @@ module _ (width : ℕ) (times : ℕ → ℕ → ℕ) (field : IsField width time
   cubic_returns : (a : ℕ) → repeated_square 1 (cubic width times) (width + width + width) a ≡ a % 2 ^ (width + width + width)
   cubic_returns a =
       let bits : width + width + width ≡ width * 3 = omega arith in
-      let low = chunk_below width in
+      let low = chunk-lt width in
       let ring = cubic_ring width times field.ring wide in
       ap (λ (k : ℕ). repeated_square 1 (cubic width times) k a) bits
       ∙ sym (repeated_square-mod (width + width + width) 1 (cubic width times) ring (width * 3) a)

@@ -1,25 +1,21 @@
 -- The cubic extension of a ring of w-bit elements by a root y of y³ + y + 1 is a ring of elements of three times the width.
-use Rattle.std.proofs.Common.{◌≡◌, ℕ, zero, suc, ◌+◌, ◌*◌, ◌/◌, ◌%◌, ◌^◌, ◌<◌, refl, sym, ◌∙◌, ap, ap₂, subst, arith}
+use Rattle.std.proofs.Common.{◌≡◌, ℕ, zero, suc, ◌+◌, ◌%◌, ◌^◌, ◌<◌, refl, sym, ◌∙◌, ap, ap₂, subst, arith}
 use Rattle.std.specs.Prelude.{bit_xor}
-use Rattle.std.proofs.lemmas.Nat.{xor_comm, xor_lt, xor_shr, xor_mod, pow_pos, pow_below}
+use Rattle.std.proofs.lemmas.Nat.{xor_comm, xor_lt, pow_pos, pow_below}
 use lib.Bits.{xor_assoc, xor_self, xor_zero_r}
 use Rattle.field_base.specs.Basis.{sum_below}
 use Rattle.word_polynomial.specs.Cubic.{CubicIsRing, cubic, triple}
 use Rattle.field_base.specs.Ring.{IsRing}
 use Rattle.field_base.specs.Chunks.{chunk}
-use Rattle.word_polynomial.specs.TripleLemmas.{same₃, chunk_below, first-triple, second-triple, third-triple, triple-lt, triple-low, triple_sum, three_sums, triple-chunks}
+use Rattle.word_polynomial.specs.TripleLemmas.{same₃, first-triple, second-triple, third-triple, triple-lt, triple-low, triple_sum, three_sums, triple-chunks}
 use Rattle.field_base.proofs.PowerLemmas.{one-times}
 use Rattle.field_base.proofs.RingLemmas.{sum_times, times-zero, xor_cancel, xor_left_comm, zero-times}
+use Rattle.field_base.proofs.ChunkLists.{chunk-lt, chunk_xor}
 
 -- terms of a sum in any order, of which two equal ones leave nothing
 pub ruleset sums = (xor_assoc, xor_comm, xor_left_comm, xor_self, xor_cancel, xor_zero_r)
 
 -- ---- coefficients
-
--- a chunk of a sum is the sum of the chunks
-pub chunk_xor : (width i a b : ℕ) → chunk width i (bit_xor a b) ≡ bit_xor (chunk width i a) (chunk width i b)
-chunk_xor width i a b =
-    ap (λ (x : ℕ). x % 2 ^ width) (xor_shr a b (width * i)) ∙ xor_mod (a / 2 ^ (width * i)) (b / 2 ^ (width * i)) width
 
 module _ (width : ℕ) (times : ℕ → ℕ → ℕ) (ring : IsRing width 1 times) where
   -- ---- the coefficients of a product
@@ -247,7 +243,7 @@ module _ (width : ℕ) (times : ℕ → ℕ → ℕ) (ring : IsRing width 1 time
   -- 1 a = a for an element a
   cubic_one : 0 < width → (a : ℕ) → cubic width times 1 a ≡ a % 2 ^ (width + width + width)
   cubic_one wide a =
-      let low = chunk_below width in
+      let low = chunk-lt width in
       ap (λ (x : ℕ). cubic width times x a) (sym (triple-low width 1))
       ∙ cubic-triple_left 1 0 0 a (pow_below 0 width wide) (pow_pos width) (pow_pos width)
       ∙ same₃ (triple width) (one_0 (chunk width 0 a) (chunk width 1 a) (chunk width 2 a) (low 0 a))

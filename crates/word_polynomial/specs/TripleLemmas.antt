@@ -2,9 +2,9 @@
 -- cites them.
 use Rattle.std.proofs.Common.{◌≡◌, ℕ, ◌+◌, ◌*◌, ◌/◌, ◌%◌, ◌^◌, ◌<◌, sym, ◌∙◌, ap, subst, arith, [], ◌∷◌}
 use Rattle.std.specs.Prelude.{◌↔◌, bit_xor}
-use Rattle.std.proofs.lemmas.Nat.{xor_lt, mod-pow-add, shr_high, shr-shr, pow-add, pow_pos}
+use Rattle.std.proofs.lemmas.Nat.{xor_lt, mod-pow-add, shr_high, shr-shr, pow-add}
 use native.Mathlib.Bridge.{le_prop}
-use native.Mathlib.Nat.{mod-lt, mul-zero, mul-one, div-one}
+use native.Mathlib.Nat.{mul-one}
 use mathlib.Core.HLevel.{is_prop→PathP}
 use lib.Arith.{digits_lt}
 use Rattle.field_base.specs.Quadratic.{pair}
@@ -14,15 +14,11 @@ use Rattle.field_base.proofs.QuadraticRing.{high_half-pair, low_half-pair, pair-
 use Rattle.word_polynomial.specs.Cubic.{triple}
 use Rattle.word_polynomial.specs.Triple.{triple_number}
 use Rattle.word_polynomial.specs.declared.triple.Triple.{Triple}
+use Rattle.field_base.proofs.ChunkLists.{chunk-lt, chunk-first}
 
 -- a function of three numbers has one value at equal numbers
 pub same₃ : (f : ℕ → ℕ → ℕ → ℕ) → {x x' y y' z z' : ℕ} → x ≡ x' → y ≡ y' → z ≡ z' → f x y z ≡ f x' y' z'
 same₃ f ex ey ez = λ i. f (ex i) (ey i) (ez i)
-
--- chunk 0 is the low w bits
-pub chunk-first : (width a : ℕ) → chunk width 0 a ≡ a % 2 ^ width
-chunk-first width a =
-    ap (λ (k : ℕ). a / 2 ^ k % 2 ^ width) (mul-zero width) ∙ ap (λ (x : ℕ). x % 2 ^ width) (div-one a)
 
 -- chunk 1 is the next w bits
 pub chunk-second : (width a : ℕ) → chunk width 1 a ≡ a / 2 ^ width % 2 ^ width
@@ -33,10 +29,6 @@ pub chunk-third : (width a : ℕ) → chunk width 2 a ≡ a / 2 ^ width / 2 ^ wi
 chunk-third width a =
     let bits : width * 2 ≡ width + width = omega arith in
     ap (λ (k : ℕ). a / 2 ^ k % 2 ^ width) bits ∙ ap (λ (x : ℕ). x % 2 ^ width) (sym (shr-shr a width width))
-
--- a chunk has w bits
-pub chunk_below : (width i a : ℕ) → chunk width i a < 2 ^ width
-chunk_below width i a = mod-lt (a / 2 ^ (width * i)) (pow_pos width)
 
 -- chunk 0 of x + y Y + z Y² is x
 pub first-triple : (width x y z : ℕ) → x < 2 ^ width → chunk width 0 (triple width x y z) ≡ x
@@ -102,7 +94,7 @@ triple_of_number n = record {
   c0 = chunk 64 0 n;
   c1 = chunk 64 1 n;
   c2 = chunk 64 2 n;
-  in_range = record { first = chunk_below 64 0 n; second = chunk_below 64 1 n; third = chunk_below 64 2 n };
+  in_range = record { first = chunk-lt 64 0 n; second = chunk-lt 64 1 n; third = chunk-lt 64 2 n };
 }
 
 -- three words are an element of 192 bits

@@ -5,10 +5,10 @@ use Rattle.std.specs.Prelude.{bit_xor}
 use Rattle.std.proofs.lemmas.Bool.{and_parts, eqb-true, ltb-true}
 use Rattle.std.proofs.Math.Pow.{pow_mono}
 use Rattle.field_base.specs.Tower.{tower_mul}
-use Rattle.std.proofs.lemmas.Nat.{pow_below, pow_pos, xor_comm, xor_lt, xor_mod}
-use lib.Bits.{xor_assoc, xor_self, xor_zero_r}
+use Rattle.std.proofs.lemmas.Nat.{pow_below, pow_pos, xor_lt, xor_mod}
+use lib.Bits.{xor_self}
 use Rattle.field_base.proofs.PowerLemmas.{square_xor, times-one}
-use Rattle.field_base.proofs.RingLemmas.{xor_cancel, xor_left_comm, xor_nothing}
+use Rattle.field_base.proofs.RingLemmas.{xor_nothing}
 use Rattle.field_base.proofs.TowerInverse.{tower_mul-zero_divisors}
 use Rattle.field_base.proofs.TowerProducts.{tower_mul-low}
 use Rattle.field_base.proofs.TowerRing.{tower_ring}
@@ -16,6 +16,7 @@ use Rattle.word_tables.specs.Cantor.{cantor_vector, AreEven, LieInLevels, OneOfE
 use Rattle.word_tables.specs.declared.cantor.literals.TheConstants.{VECTORS}
 use Rattle.field_base.proofs.TableChecks.{passes, passes_at}
 use Rattle.word_tables.proofs.Squares.{root_product, square_of, square_of_is, squares_joined}
+use Rattle.field_base.proofs.RemainderLaws.{difference}
 
 -- ---- the equations at level 7
 
@@ -99,13 +100,6 @@ solve_the_one_before k i low later inside =
 
 -- ---- one even solution
 
--- from p + v = q + w follows p + q = v + w
-exchanged : (p q v w : ℕ) → bit_xor p v ≡ bit_xor q w → bit_xor p q ≡ bit_xor v w
-exchanged p q v w e =
-    ap (λ (x : ℕ). bit_xor x q)
-    (sym (xor_assoc p v v ∙ ap (bit_xor p) (xor_self v) ∙ xor_zero_r p) ∙ ap (λ (x : ℕ). bit_xor x v) e)
-    ∙ simp (xor_assoc, xor_comm, xor_left_comm, xor_cancel)
-
 -- the sum d of two solutions is its own square, so d (d + 1) is 0 and d is 0 or 1
 pub one_of_each_parity : OneOfEachParity
 one_of_each_parity k v w v_fits w_fits parity same =
@@ -121,7 +115,7 @@ one_of_each_parity k v w v_fits w_fits parity same =
     square : tower_mul k (bit_xor v w) (bit_xor v w) ≡ bit_xor v w
     square =
         square_xor (2 ^ k) 1 (tower_mul k) (tower_ring k) v w
-        ∙ exchanged (tower_mul k v v) (tower_mul k w w) v w same
+        ∙ difference (tower_mul k v v) v (tower_mul k w w) w same
 
     nothing : tower_mul k (bit_xor v w) (bit_xor (bit_xor v w) 1) ≡ 0
     nothing =

@@ -2,9 +2,9 @@
 use Rattle.std.proofs.Common.{◌≡◌, ℕ, zero, suc, ◌+◌, ◌*◌, ◌/◌, ◌%◌, ◌^◌, ◌<◌, ◌⊎◌, inl, inr, List, [], ◌∷◌, length, map, refl, sym, ◌∙◌, ap, ap₂, subst, arith, lit<}
 use Rattle.std.specs.Prelude.{bit_and, bit_xor, slice_index}
 use Rattle.std.specs.Int.{bit_at}
-use Rattle.std.proofs.lemmas.Nat.Bits.{shr_and_one}
+use Rattle.std.proofs.lemmas.Nat.Bits.{shr_and_one, bit_at-lt}
 use Rattle.std.proofs.lemmas.Nat.{mod-pow-add, pow_pos, shr_high, mod_low, xor_block, xor_comm}
-use native.Mathlib.Nat.{add-zero, eq-or-lt_of_le, mod-eq_of_lt, mod-lt, mod-one, mul_comm, pow-suc, zero-add, zero-mul}
+use native.Mathlib.Nat.{add-zero, eq-or-lt_of_le, mod-eq_of_lt, mod-one, mul_comm, pow-suc, zero-add, zero-mul}
 use lib.Arith.{digits_lt}
 use lib.Bits.{xor_zero_r}
 use Rattle.field_base.specs.Basis.{sum_below}
@@ -61,16 +61,12 @@ module _ (d : ℕ → ℕ) (bits : (j : ℕ) → d j < 2) where
 
 -- ---- columns
 
--- a bit is below 2
-bit_lt : (x k : ℕ) → bit_at x k < 2
-bit_lt x k = mod-lt (x / 2 ^ k) (lit< tt)
-
 -- the low bits of a number are those of its bits
-number_back : (x n : ℕ) → number (bit_at x) (bit_lt x) n ≡ x % 2 ^ n
-number_back x zero = number_none (bit_at x) (bit_lt x) ∙ sym (mod-one x)
+number_back : (x n : ℕ) → number (bit_at x) (bit_at-lt x) n ≡ x % 2 ^ n
+number_back x zero = number_none (bit_at x) (bit_at-lt x) ∙ sym (mod-one x)
 number_back x (suc n) =
     let more : 1 + n ≡ suc n = omega arith in
-    number_more (bit_at x) (bit_lt x) n (number_lt (bit_at x) (bit_lt x) n)
+    number_more (bit_at x) (bit_at-lt x) n (number_lt (bit_at x) (bit_at-lt x) n)
     ∙ ap (λ (low : ℕ). bit_at x n * 2 ^ n + low) (number_back x n)
     ∙ sym (mod-pow-add x 1 n) ∙ ap (λ (k : ℕ). x % 2 ^ k) more
 
@@ -78,7 +74,7 @@ number_back x (suc n) =
 pub column_bit : (bytes : List ℕ) (j k : ℕ) → j < 8 → bit_at (column bytes k) j ≡ bit_at (slice_index bytes j) k
 unfolding column number
 column_bit bytes j k within =
-    number_bit (λ i. bit_at (slice_index bytes i) k) (λ i. bit_lt (slice_index bytes i) k) 8 j within
+    number_bit (λ i. bit_at (slice_index bytes i) k) (λ i. bit_at-lt (slice_index bytes i) k) 8 j within
 
 -- entry k of the columns is column k
 columns_at : (bytes : List ℕ) (k : ℕ) → k < 8 → slice_index (columns bytes) k ≡ column bytes k
@@ -141,7 +137,7 @@ columns_back bytes long fits =
 bit_moved : (x k j : ℕ) → j < 8 → bit_and (x / 2 ^ k) 1 * 2 ^ j % 256 ≡ bit_at x k * 2 ^ j
 bit_moved x k j within =
     ap (λ (d : ℕ). d * 2 ^ j % 256) (shr_and_one x k)
-    ∙ mod-eq_of_lt (small j within (bit_at x k) (bit_lt x k))
+    ∙ mod-eq_of_lt (small j within (bit_at x k) (bit_at-lt x k))
   where
     small : (j : ℕ) → j < 8 → (d : ℕ) → d < 2 → d * 2 ^ j < 256
     small =

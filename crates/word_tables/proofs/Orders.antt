@@ -1,7 +1,6 @@
 -- The orders of the generators up to 16 bits, by computing their powers one after another.
 use Rattle.std.proofs.Common.{◌≡◌, ◌≢◌, ℕ, zero, suc, ◌+◌, ◌-◌, ◌^◌, ◌<◌, Bool, true, false, eqb, List, [], ◌∷◌, refl, sym, ◌∙◌, ap, subst, arith, lit<}
 use Rattle.std.proofs.lemmas.Bool.{false≢true, eqb-false}
-use Rattle.std.proofs.lemmas.Nat.{pow_below, pow_pos}
 use native.Mathlib.Nat.{mod-eq_of_lt}
 use Rattle.field_base.specs.Powers.{power}
 use Rattle.field_base.specs.Quadratic.{quadratic}
@@ -9,7 +8,7 @@ use Rattle.field_base.specs.Tower.{root, tower_mul}
 use Rattle.field_base.proofs.PowerLemmas.{power-lt, power-one}
 use Rattle.field_base.proofs.RingLemmas.{sum_times}
 use Rattle.field_base.proofs.TowerRing.{tower_ring}
-use Rattle.field_base.proofs.TowerFrobenius.{tower_power-units}
+use Rattle.field_base.proofs.TowerFrobenius.{tower_power-units, one_fits}
 use Rattle.field_base.specs.Orders.{HasFullOrder}
 use Rattle.word_tables.specs.Generators.{GeneratorsHaveFullOrder}
 use Rattle.field_base.proofs.BasisColumns.{sum_of_columns}
@@ -50,10 +49,6 @@ module _ (times : ℕ → ℕ → ℕ) (g : ℕ) (step : ℕ → ℕ) (steps : (
       let place : 1 + e ≡ suc e = omega arith in
       λ is_one. never_one_from n 1 e (subst (λ (x : ℕ). never_one step n x ≡ true) (sym first) pass) (omega arith)
       (ap (power 1 times g) place ∙ is_one)
-
--- the one is an element of every level
-one_fits : (k : ℕ) → 1 < 2 ^ 2 ^ k
-one_fits k = pow_below 0 (2 ^ k) (pow_pos k)
 
 -- a nonzero element of a level has full order if no positive power below the number of nonzero elements is 1
 full_order : (k g : ℕ) (step : ℕ → ℕ) → ((e : ℕ) → step (power 1 (tower_mul k) g e) ≡ power 1 (tower_mul k) g (suc e))

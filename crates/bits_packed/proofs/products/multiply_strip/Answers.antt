@@ -2,16 +2,17 @@ use Rattle.std.proofs.Common.{◌≡◌, ℕ, ◌+◌, ◌*◌, ◌<◌, ◌∙�
 use Rattle.std.specs.Prelude.{slice_index}
 use Rattle.std.proofs.lemmas.Grind.{div_ceil_times}
 use Rattle.bits_packed.specs.BitMatrices.{IsStripAdded, partial_word, row_word, sum_of_digits, word_of, words_for}
-use Rattle.bits_packed.proofs.FourRowTables.{pass_more, row_from, sum_nothing}
+use Rattle.bits_packed.proofs.FourRowTables.{pass_more, row_from}
 use Rattle.bits_packed.proofs.WordRanges.{strip_more, strip_none}
 use Rattle.bits_packed.proofs.products.multiply_strip.Goals as goal
+use Rattle.field_base.proofs.BasisSums.{sum_below-none}
 
 pub loop-pass-init : goal.loop-pass-init
 loop-pass-init c = (
   c.requires.tables,
   strip_none c.args.strip.words c.args.strip.start c.args.strip.width c.args.rows
       (λ i w. partial_word c.args.inner (words_for c.args.inner) c.args.strip.words c.args.left.now c.args.right.now (64 * 0) i (c.args.strip.start + w))
-      c.args.target.now (λ i w. sum_nothing _),
+      c.args.target.now (λ i w. sum_below-none _),
 )
 
 pub rows_from-places-requires : goal.rows_from-places-requires

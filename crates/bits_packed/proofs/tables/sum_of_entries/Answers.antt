@@ -1,10 +1,11 @@
 use Rattle.std.proofs.Common.{◌≡◌, ℕ, ◌+◌, ◌*◌, ◌/◌, ◌%◌, ◌^◌, ◌<◌, ◌≤◌, ◌∙◌, List, ap, arith, length, mod-lt, refl, sym}
 use Rattle.bits_packed.specs.BitMatrices.{sum_of_digits}
-use Rattle.bits_packed.proofs.FourRowTables.{digit_long, digit_more, eight_zeros, sum_nothing}
+use Rattle.bits_packed.proofs.FourRowTables.{digit_long, digit_more, eight_zeros}
 use Rattle.bits_packed.proofs.tables.sum_of_entries.Goals as goal
+use Rattle.field_base.proofs.BasisSums.{sum_below-none}
 
 pub loop-group-init : goal.loop-group-init
-loop-group-init c = (refl, λ w inside. eight_zeros w inside ∙ sym (sum_nothing _))
+loop-group-init c = (refl, λ w inside. eight_zeros w inside ∙ sym (sum_below-none _))
 
 pub loop-group-preserved : goal.loop-group-preserved
 loop-group-preserved c =

@@ -1,4 +1,4 @@
-use Rattle.std.proofs.Common.{◌≡◌, ◌<◌, ◌∙◌, sym, ap, arith}
+use Rattle.std.proofs.Common.{◌≡◌, ◌∙◌, sym, ap, arith}
 use Rattle.field_bytes.specs.Bytes.{number_of_bytes}
 use Rattle.field_bytes.proofs.Taking.{all_taken, byte_read, few_left, few_taken, nothing_read}
 use Rattle.field_bytes.proofs.reading.take_word.Goals as goal

@@ -1,4 +1,4 @@
-use Rattle.std.proofs.Common.{◌≡◌, ◌-◌, ◌+◌, ◌<◌, length, sym, ◌∙◌, ap, arith}
+use Rattle.std.proofs.Common.{◌≡◌, ◌-◌, ◌+◌, ◌<◌, length, sym, ◌∙◌, arith}
 use Rattle.std.proofs.lemmas.Bool.{true≢false}
 use Rattle.field_slices.proofs.BatchInversion.{inverted-at, inverted-start, inverted-end, inverted-zero, inverted-more}
 use Rattle.field_slices.proofs.inversion.inverses_from_products.Goals as goal

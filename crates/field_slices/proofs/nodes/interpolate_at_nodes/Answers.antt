@@ -2,14 +2,15 @@ use Rattle.std.proofs.Common.{ℕ, length, map, sym, ◌∙◌, ap, ap₂, arith
 use Rattle.std.specs.Prelude.{bit_xor, slice_index}
 use Rattle.field_base.specs.Interpolation.{lagrange}
 use Rattle.field_base.proofs.Places.{number-at}
-use Rattle.field_slices.proofs.NextTerms.{sum-none, sum-more}
+use Rattle.field_slices.proofs.NextTerms.{sum-more}
 use Rattle.field_slices.proofs.nodes.interpolate_at_nodes.Goals as goal
+use Rattle.field_base.proofs.BasisSums.{sum_below-none}
 
 pub loop-own-init : goal.loop-own-init
 loop-own-init g c =
     let field = g.F.Represented in
     ap field.repr c.ZERO-sum.ensures ∙ g.met.F.PrimeCharacteristicRing.zero_law
-    ∙ sym (sum-none (λ (j : ℕ). field.product (lagrange field.width field.product (λ i. i) (length c.args.values.now) j (field.repr c.args.x))
+    ∙ sym (sum_below-none (λ (j : ℕ). field.product (lagrange field.width field.product (λ i. i) (length c.args.values.now) j (field.repr c.args.x))
     (slice_index (map field.repr c.args.values.now) j)))
 
 pub loop-own-preserved : goal.loop-own-preserved

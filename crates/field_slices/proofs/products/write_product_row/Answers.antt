@@ -1,9 +1,10 @@
 use Rattle.std.proofs.Common.{◌≡◌, ℕ, sym, ap, ap₂, arith}
 use Rattle.std.specs.Prelude.{bit_xor}
 use Rattle.field_slices.specs.Matrices.{entry_of, product_entry}
-use Rattle.field_slices.proofs.NextTerms.{sum-none, sum-more}
+use Rattle.field_slices.proofs.NextTerms.{sum-more}
 use Rattle.field_slices.proofs.MatrixRows.{row_again, row_wanted}
 use Rattle.field_slices.proofs.products.write_product_row.Goals as goal
+use Rattle.field_base.proofs.BasisSums.{sum_below-none}
 
 pub loop-k-init : goal.loop-k-init
 loop-k-init g c =
@@ -11,7 +12,7 @@ loop-k-init g c =
     let left = entry_of scalars.number c.args.inner c.args.left.now in
     let right = entry_of scalars.number c.args.shape.columns c.args.right.now in
     row_wanted c.write_zero_row.ensures
-    (λ j inside. sym (sum-none (λ k. scalars.product (left c.args.row k) (right k j))))
+    (λ j inside. sym (sum_below-none (λ k. scalars.product (left c.args.row k) (right k j))))
 
 pub loop-k-preserved : goal.loop-k-preserved
 loop-k-preserved g c =

@@ -1,14 +1,15 @@
 use Rattle.std.proofs.Common.{◌≡◌, map, length, sym, ◌∙◌, ap, arith}
 use Rattle.std.specs.Prelude.{bit_xor, slice_index}
 use Rattle.field_base.specs.Basis.{sum_below}
-use Rattle.field_slices.proofs.NextTerms.{sum-more, sum-none}
+use Rattle.field_slices.proofs.NextTerms.{sum-more}
 use Rattle.field_base.proofs.Places.{number-at}
 use Rattle.protocols.proofs.columns.sum_of_column.Goals as goal
+use Rattle.field_base.proofs.BasisSums.{sum_below-none}
 
 pub loop-place-init : goal.loop-place-init
 loop-place-init g c =
     let repr = g.F.Represented.repr in
-    ap repr c.ZERO-sum.ensures ∙ g.met.F.PrimeCharacteristicRing.zero_law ∙ sym (sum-none (slice_index (map repr c.args.column.now)))
+    ap repr c.ZERO-sum.ensures ∙ g.met.F.PrimeCharacteristicRing.zero_law ∙ sym (sum_below-none (slice_index (map repr c.args.column.now)))
 
 pub loop-place-preserved : goal.loop-place-preserved
 loop-place-preserved g c =

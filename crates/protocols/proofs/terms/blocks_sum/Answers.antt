@@ -1,17 +1,17 @@
 use Rattle.std.proofs.Common.{◌≡◌, ◌+◌, ◌-◌, ◌*◌, ◌≤◌, length, map, take, refl, ap, ◌∙◌, sym, arith}
 use Rattle.std.proofs.lemmas.List.{length-take-le}
-use Rattle.field_slices.proofs.NextTerms.{sum-none}
 use Rattle.protocols.specs.Products.{term_product}
 use Rattle.protocols.specs.Terms.{row_entry, terms_value}
 use Rattle.protocols.proofs.BlockSums.{block-more}
 use Rattle.protocols.proofs.terms.blocks_sum.Goals as goal
+use Rattle.field_base.proofs.BasisSums.{sum_below-none}
 
 pub loop-start-init : goal.loop-start-init
 loop-start-init g c =
     let field = g.F.Represented in (
       omega arith,
       ap field.repr c.ZERO-sum.ensures ∙ g.met.F.PrimeCharacteristicRing.zero_law
-          ∙ sym (sum-none (λ i. terms_value field.product (map (term_product field.repr) c.args.terms.now)
+          ∙ sym (sum_below-none (λ i. terms_value field.product (map (term_product field.repr) c.args.terms.now)
           (row_entry c.args.count (map field.repr c.args.values.now) i))),
     )
 

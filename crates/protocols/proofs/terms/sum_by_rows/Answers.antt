@@ -1,17 +1,18 @@
 use Rattle.std.proofs.Common.{◌*◌, map, refl, ap, ◌∙◌, sym, arith}
 use Rattle.std.specs.Prelude.{bit_xor}
-use Rattle.field_slices.proofs.NextTerms.{sum-more, sum-none}
+use Rattle.field_slices.proofs.NextTerms.{sum-more}
 use Rattle.protocols.specs.Products.{term_product}
 use Rattle.protocols.specs.Terms.{row_entry, terms_value}
 use Rattle.protocols.proofs.Rows.{terms_value-same}
 use Rattle.protocols.proofs.TermSteps.{row-value}
 use Rattle.protocols.proofs.terms.sum_by_rows.Goals as goal
+use Rattle.field_base.proofs.BasisSums.{sum_below-none}
 
 pub loop-row-init : goal.loop-row-init
 loop-row-init g c =
     let field = g.F.Represented in
     ap field.repr c.ZERO-sum.ensures ∙ g.met.F.PrimeCharacteristicRing.zero_law
-    ∙ sym (sum-none (λ i. terms_value field.product (map (term_product field.repr) c.args.terms.now)
+    ∙ sym (sum_below-none (λ i. terms_value field.product (map (term_product field.repr) c.args.terms.now)
     (row_entry c.args.count (map field.repr c.args.values.now) i)))
 
 pub loop-row-preserved : goal.loop-row-preserved

@@ -1,6 +1,5 @@
-use Rattle.std.proofs.Common.{◌≡◌, ℕ, ◌+◌, ◌-◌, ◌*◌, ◌/◌, ◌%◌, ◌≤◌, List, length, take, drop, fold, map, refl, sym, ◌∙◌, ap, ap₂, arith, length-drop}
+use Rattle.std.proofs.Common.{◌≡◌, ℕ, ◌-◌, ◌*◌, ◌/◌, ◌%◌, List, length, take, drop, ◌∙◌, ap, ap₂, arith, length-drop}
 use Rattle.std.proofs.lemmas.List.{length-take-le}
-use Rattle.tags.specs.Blocks.{first_blocks}
 use Rattle.tags.proofs.AbsorbingBlocks.{blocks_alone}
 use Rattle.tags.proofs.Folding.{hash_from}
 use Rattle.tags.proofs.Turns.{hash_from_more}

@@ -1,4 +1,4 @@
-use Rattle.std.proofs.Common.{◌≡◌, ℕ, ◌+◌, ◌-◌, ◌*◌, List, [], ◌∷◌, ◌++◌, length, map, take, drop, refl, sym, ◌∙◌, ap, ap₂, arith}
+use Rattle.std.proofs.Common.{◌≡◌, ℕ, ◌+◌, ◌-◌, ◌*◌, List, [], ◌∷◌, ◌++◌, take, drop, refl, sym, ◌∙◌, ap₂, arith}
 use Rattle.std.proofs.lemmas.List.{length-set, take_more_set}
 use Rattle.tags.specs.Blocks.{first_blocks}
 use Rattle.tags.proofs.Turns.{elements_next}

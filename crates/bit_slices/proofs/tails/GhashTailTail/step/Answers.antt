@@ -1,4 +1,4 @@
-use Rattle.std.proofs.Common.{◌≡◌, ◌%◌, ◌/◌, ℕ, refl, sym, ◌∙◌, ap}
+use Rattle.std.proofs.Common.{◌%◌, ◌/◌, ℕ, refl, sym, ◌∙◌, ap}
 use Rattle.bit_slices.specs.Called.{lanes_8}
 use Rattle.bit_slices.specs.Lanes.{bit_lane}
 use Rattle.bit_slices.specs.LaneLemmas.{bit_lane-lt}

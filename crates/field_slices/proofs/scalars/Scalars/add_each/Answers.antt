@@ -1,4 +1,4 @@
-use Rattle.std.proofs.Common.{ℕ, map, ◌∙◌, arith}
+use Rattle.std.proofs.Common.{map, ◌∙◌, arith}
 use Rattle.std.specs.Prelude.{bit_xor}
 use Rattle.std.specs.Simd.Lanes.{zip2}
 use Rattle.field_base.proofs.Written.{written_start, written_step, written-read, written-end, both-at, both-length}
