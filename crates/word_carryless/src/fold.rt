@@ -10,7 +10,6 @@ ghost use Rattle.field_base.specs.Remainder.{ghash_modulus, poly64_modulus, rem}
 ghost use Rattle.word_carryless.specs.Tail.{ghash_tail, poly64_tail};
 
 /// The remainder of `high x^64 + low` modulo x^64 + x^4 + x^3 + x + 1.
-#[tactic(auto, using(crate::proofs::TailFolds::fold_64))]
 pub fn reduce_64(low: u64, high: u64) -> u64
     ensures { result ≡ rem 64 poly64_modulus (high * 2 ^ 64 + low) }
 {
@@ -19,7 +18,6 @@ pub fn reduce_64(low: u64, high: u64) -> u64
 
 /// The remainder of `high x^128 + low` modulo x^128 + x^7 + x^2 + x + 1, the modulus of GHASH (NIST SP 800-38D), where
 /// bit i is the coefficient of x^i.
-#[tactic(auto, using(crate::proofs::TailFolds::fold_128))]
 pub fn reduce_128(low: u128, high: u128) -> u128
     ensures { result ≡ rem 128 ghash_modulus (high * 2 ^ 128 + low) }
 {
@@ -27,7 +25,6 @@ pub fn reduce_128(low: u128, high: u128) -> u128
 }
 
 /// The terms below x^64 of the product by x^4 + x^3 + x + 1.
-#[tactic(auto, using(crate::proofs::TailFolds::fold_64))]
 fn times_tail_64(h: u64) -> u64
     ensures { result ≡ carryless h poly64_tail % 2 ^ 64 }
 {
@@ -35,7 +32,6 @@ fn times_tail_64(h: u64) -> u64
 }
 
 /// The terms from x^64 on of the product by x^4 + x^3 + x + 1, divided by x^64.
-#[tactic(auto, using(crate::proofs::TailFolds::fold_64))]
 fn spill_64(h: u64) -> u64
     ensures { result ≡ carryless h poly64_tail / 2 ^ 64 }
 {
@@ -43,7 +39,6 @@ fn spill_64(h: u64) -> u64
 }
 
 /// The terms below x^128 of the product by x^7 + x^2 + x + 1.
-#[tactic(auto, using(crate::proofs::TailFolds::fold_128))]
 fn times_tail_128(h: u128) -> u128
     ensures { result ≡ carryless h ghash_tail % 2 ^ 128 }
 {
@@ -51,7 +46,6 @@ fn times_tail_128(h: u128) -> u128
 }
 
 /// The terms from x^128 on of the product by x^7 + x^2 + x + 1, divided by x^128.
-#[tactic(auto, using(crate::proofs::TailFolds::fold_128))]
 fn spill_128(h: u128) -> u128
     ensures { result ≡ carryless h ghash_tail / 2 ^ 128 }
 {
