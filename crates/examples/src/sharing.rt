@@ -1,6 +1,6 @@
 // Secret sharing over any field (A. Shamir, How to Share a Secret, 1979): the secret is the value at 0 of a line, and two of
 // its points give it back.
-use binary_field::{BinaryField8, Field, Ghash128, PrimeCharacteristicRing, TowerLevel};
+use binary_field::{Field, Ghash128, PrimeCharacteristicRing};
 
 /// The point of the line at `place`.
 fn share<F: Field>(secret: F, slope: F, place: F) -> (F, F) {
@@ -22,8 +22,5 @@ fn is_recovered<F: Field>(secret: F, slope: F) -> bool {
 
 #[test]
 fn two_shares_give_the_secret(rt: HostRuntime) {
-    assert!(rt;
-        is_recovered(BinaryField8::from_repr(0x53), BinaryField8::from_repr(0xca))
-            && is_recovered(Ghash128::new(5), Ghash128::new(7))
-    );
+    assert!(rt; is_recovered(Ghash128::new(5), Ghash128::new(7)));
 }

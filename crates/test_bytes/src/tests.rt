@@ -2,3 +2,4 @@ mod answers;
 mod challengers;
 mod codes;
 mod hashes;
+mod support;

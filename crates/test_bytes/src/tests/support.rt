@@ -1,7 +1,7 @@
-// The harness, on vectors of bytes, and the first numbers that are drawn.
-use crate::{Ending, Growing, Rest, fill, fill_bytes, is_refused_in_turn, refusals_of};
+// The harness of `test_support`, on vectors of bytes, and the first numbers that are drawn.
 use linked_list_allocator::LocalHeap;
 use std::alloc::{AllocError, Allocator, Global};
+use test_support::{Ending, Growing, Rest, fill, fill_bytes, is_refused_in_turn, refusals_of};
 
 // Pushes so many bytes. Where it `forgets`, it says that memory was refused whatever was.
 #[derive(Drop)]
