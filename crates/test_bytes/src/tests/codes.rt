@@ -1,5 +1,5 @@
-// Calls of Reed-Solomon codes that take memory, of shards in vectors and of tables that are made once. What codes compute is tried by the tests of the
-// C library, a published example among it.
+// Calls of Reed-Solomon codes that take memory, of shards in vectors and of tables that are made once. What codes compute is tried by the
+// tests of the C library, a published example among it.
 use reed_solomon::ReedSolomon;
 
 mod prepared;

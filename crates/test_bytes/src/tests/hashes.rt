@@ -1,5 +1,5 @@
-// The hash of AES-GCM-SIV on the examples of RFC 8452, appendix C.1, with plaintexts of 8, 12, 32 and 64 bytes. Those of GHASH and of POLYVAL are
-// worked in the tests of the C library, which does not have this one.
+// The hash of AES-GCM-SIV on the examples of RFC 8452, appendix C.1, with plaintexts of 8, 12, 32 and 64 bytes. Those of GHASH and of
+// POLYVAL are worked in the tests of the C library, which does not have this one.
 use tags::gcm_siv_polyval;
 
 // The record authentication key of the examples.

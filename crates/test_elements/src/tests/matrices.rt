@@ -1,5 +1,5 @@
-// Matrices of bytes: triangular factors of a worked matrix and of drawn ones, whose product is the matrix, powers of a companion matrix, and
-// draws. What is left of matrices of bytes is worked in the tests of the C library.
+// Matrices of bytes: triangular factors of a worked matrix and of drawn ones, whose product is the matrix, powers of a companion matrix,
+// and draws. What is left of matrices of bytes is worked in the tests of the C library.
 use field_base::traits::{PrimeCharacteristicRing, TowerLevel};
 use field_element::Rijndael8b;
 use field_slices::matrices::{

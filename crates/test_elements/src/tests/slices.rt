@@ -1,6 +1,6 @@
-// Slices of elements, and slices as packings. `batch_multiplicative_inverse`, `powers_vec`, `shifted_powers_vec` and `eq_poly` of two or three
-// elements, each granted in a heap with room, and refused in one without; nothing is left behind. `pack_slice` and `packed_powers_vec` of 0 to 9
-// values, each growth refused in turn.
+// Slices of elements, and slices as packings. `batch_multiplicative_inverse`, `powers_vec`, `shifted_powers_vec` and `eq_poly` of two or
+// three elements, each granted in a heap with room, and refused in one without; nothing is left behind. `pack_slice` and
+// `packed_powers_vec` of 0 to 9 values, each growth refused in turn.
 use field_base::traits::PrimeCharacteristicRing;
 use field_element::Ghash128;
 use field_slices::{

@@ -1,6 +1,6 @@
-// Every associated type of every field, by its name: a constant of the type `PhantomData<X>` that is given as `PhantomData::<Y>` compiles only
-// where Y is X. There is a row for each field, or for each field over a smaller one, and a column for each associated type of the traits
-// that fields have: those of rings, of fields, of levels, of packings, of extensions, of vectors, of bytes and of operators.
+// Every associated type of every field, by its name: a constant of the type `PhantomData<X>` that is given as `PhantomData::<Y>` compiles
+// only where Y is X. There is a row for each field, or for each field over a smaller one, and a column for each associated type of the
+// traits that fields have: those of rings, of fields, of levels, of packings, of extensions, of vectors, of bytes and of operators.
 use field_base::Gf2;
 use field_base::traits::{Field, PrimeCharacteristicRing, TowerLevel};
 use field_bytes::RawDataSerializable;
@@ -13,9 +13,9 @@ use packed_lanes::{PackedField, PackedValue};
 use std::marker::PhantomData;
 use std::ops::{Add, Div, Mul, Neg, Sub};
 
-// The subfield of a prime number of elements, the packing, and the bytes; of a lane of the packing the value and the field, and the packing's
-// prime subfield; the results of the operators of two elements, and of one; over the field itself, the packing and the array of an element's
-// coefficient.
+// The subfield of a prime number of elements, the packing, and the bytes; of a lane of the packing the value and the field, and the
+// packing's prime subfield; the results of the operators of two elements, and of one; over the field itself, the packing and the array of
+// an element's coefficient.
 type OfField<F> = (
     <F as PrimeCharacteristicRing>::PrimeSubfield,
     <F as Field>::Packing,
@@ -91,8 +91,8 @@ const REPR_OF_POLY64: PhantomData<u64> = PhantomData::<Repr<Poly64>>;
 
 const REPR_OF_GHASH: PhantomData<u128> = PhantomData::<Repr<Ghash128>>;
 
-// The packing of a field over a smaller one, the array of an element's coefficients, and the results of the operators of an element and one of
-// the smaller field.
+// The packing of a field over a smaller one, the array of an element's coefficients, and the results of the operators of an element and one
+// of the smaller field.
 type Over<F, S> = (
     <F as ExtensionField<S>>::ExtensionPacking,
     <F as BasisCoefficients<S>>::Coefficients,

@@ -1,7 +1,8 @@
 // Provers of sum-check that cheat, over SHA-256. A proof is accepted if the claim that `verify` leaves is the value of the terms at the
-// point, by the tables that the verifier has. Honest messages are accepted. Refused are they for another claim; a message that gives another
-// sum, of the first, the second and the third round; tables that differ at one corner; terms of which one coefficient differs; a proof that is
-// replayed in another transcript. The field is named in one function alone, since that takes the check longer than what is done there.
+// point, by the tables that the verifier has. Honest messages are accepted. Refused are they for another claim; a message that gives
+// another sum, of the first, the second and the third round; tables that differ at one corner; terms of which one coefficient differs; a
+// proof that is replayed in another transcript. The field is named in one function alone, since that takes the check longer than what is
+// done there.
 use field_base::traits::{Field, TowerLevel};
 use field_element::BinaryField128;
 use field_slices::evaluate_multilinear;

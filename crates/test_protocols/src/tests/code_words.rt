@@ -1,5 +1,5 @@
-// Code words of messages of 1, 2, 4 and 8 elements at the rates 1 to 1/16, over a field of 8 bits: each growth refused in turn, and granted where there
-// is memory. What the code word is the contract says.
+// Code words of messages of 1, 2, 4 and 8 elements at the rates 1 to 1/16, over a field of 8 bits: each growth refused in turn, and granted
+// where there is memory. What the code word is the contract says.
 use field_base::traits::TowerLevel;
 use field_element::BinaryField8;
 use linked_list_allocator::LocalHeap;

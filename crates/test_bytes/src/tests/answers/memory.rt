@@ -1,6 +1,6 @@
-// Each growth of a run refused in turn, and success where there is memory, over 0 to 257 lines, and a line of 0 to 257 and of 20,000 digits.
-// Only a line that continues past a read takes memory, also behind an answer, and a last line without a feed. After `Memory` all answers
-// before the line that did not fit are written.
+// Each growth of a run refused in turn, and success where there is memory, over 0 to 257 lines, and a line of 0 to 257 and of 20,000
+// digits. Only a line that continues past a read takes memory, also behind an answer, and a last line without a feed. After `Memory` all
+// answers before the line that did not fit are written.
 use super::ends::{Sink, Source, run_over};
 use super::repeated;
 use linked_list_allocator::LocalHeap;

@@ -1,7 +1,7 @@
-// Runs over readers and writers that give and take little, and fail. A reader or a writer of 1, 2, 3 or 13 bytes a call: all answers, whole. A
-// reader that fails in the second line, interrupted: `Read`, once, behind a beginning of the first answer. A writer that fails, or takes no
-// byte, after 0 to 7: `Write`, once. A flush that fails: `Write`; it is not tried again. A line of 100,000 spaces: its error. That a flush is
-// passed on, the contract of `Watched` lets through.
+// Runs over readers and writers that give and take little, and fail. A reader or a writer of 1, 2, 3 or 13 bytes a call: all answers,
+// whole. A reader that fails in the second line, interrupted: `Read`, once, behind a beginning of the first answer. A writer that fails, or
+// takes no byte, after 0 to 7: `Write`, once. A flush that fails: `Write`; it is not tried again. A line of 100,000 spaces: its error. That
+// a flush is passed on, the contract of `Watched` lets through.
 use super::ends::{Sink, Source, run_over};
 use super::repeated;
 use calculator::Watched;

@@ -1,6 +1,6 @@
-// Doubles that refuse the third or the fifth byte call, or a copy, at calls of bytes and of words. A refused byte call gets `Memory`; from then
-// on the guarded challenger, and a copy of it, say `Failed`, and the double sees no call. After a refused copy it goes on. And the printed
-// texts of the errors.
+// Doubles that refuse the third or the fifth byte call, or a copy, at calls of bytes and of words. A refused byte call gets `Memory`; from
+// then on the guarded challenger, and a copy of it, say `Failed`, and the double sees no call. After a refused copy it goes on. And the
+// printed texts of the errors.
 use std::alloc::Allocator;
 use std::cell::Cell;
 use std::test::Fail;

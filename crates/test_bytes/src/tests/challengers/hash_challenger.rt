@@ -1,5 +1,5 @@
-// The challenger over SHA-256: the digest of no byte is sampled from its end, and behind it the digest of that (by Python's hashlib), where there is
-// memory; and a copy, and the original after it, sample what the original would have.
+// The challenger over SHA-256: the digest of no byte is sampled from its end, and behind it the digest of that (by Python's hashlib), where
+// there is memory; and a copy, and the original after it, sample what the original would have.
 use super::sha256::OF_NOTHING;
 use std::alloc::{AllocError, Global};
 use std::test::Fail;

@@ -1,5 +1,6 @@
 // Memory that is refused to a challenger over a hash function: each growth of `observe_byte`, `sample_byte` and `try_clone` in turn, from
-// initial states of each length from 0 to 257, with the output empty and in the middle of a digest. What a refusal leaves the contracts say.
+// initial states of each length from 0 to 257, with the output empty and in the middle of a digest. What a refusal leaves the contracts
+// say.
 use linked_list_allocator::LocalHeap;
 use std::alloc::{AllocError, Allocator, Global};
 use test_support::{Ending, Growing, Rest, refusals_of};

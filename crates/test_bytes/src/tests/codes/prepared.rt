@@ -1,5 +1,5 @@
-// Tables of codes: `PreparedEncoder::new` takes their memory and fails only where that is refused, in heaps with room for 0, 16, 32, .. bytes, until
-// one grants it.
+// Tables of codes: `PreparedEncoder::new` takes their memory and fails only where that is refused, in heaps with room for 0, 16, 32, ..
+// bytes, until one grants it.
 use super::code_of;
 use linked_list_allocator::LocalHeap;
 use reed_solomon::PreparedEncoder;

@@ -1,5 +1,5 @@
-// Shards in vectors: where there is memory each pair of five comes back, and in a heap without room `reconstruct` and `reconstruct_data` get
-// `Memory`. What the shards then are the contracts say.
+// Shards in vectors: where there is memory each pair of five comes back, and in a heap without room `reconstruct` and `reconstruct_data`
+// get `Memory`. What the shards then are the contracts say.
 use super::code_of;
 use linked_list_allocator::LocalHeap;
 use reed_solomon::shard_vectors::{ShardVectorError, reconstruct, reconstruct_data};

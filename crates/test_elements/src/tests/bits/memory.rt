@@ -1,6 +1,6 @@
 // Rows and packed bits that are taken apart into vectors: a worked row, and `split_copied`, `narrow_copied` and `bytes_copied` of 0 to 257
-// rows of 16 and of 128 bits, drawn from the seed 29 plus their number. Each growth is refused in turn, nothing is left behind, and where there is
-// memory the call succeeds. A call that refuses some lengths, some rows or some contents fails here.
+// rows of 16 and of 128 bits, drawn from the seed 29 plus their number. Each growth is refused in turn, nothing is left behind, and where
+// there is memory the call succeeds. A call that refuses some lengths, some rows or some contents fails here.
 use bits_packed::{PackedGf2, PackedGf2x8, PackedGf2x16};
 use bits_rows::{Divisible, M128, Underlier};
 use linked_list_allocator::LocalHeap;

@@ -1,5 +1,5 @@
-// A worked row: `try_apply_linear_map_into` of 4,095 elements returns false and leaves its output, and of 4,096 it returns true and maps all. The map
-// takes the element of representation 2 to 7, and the output holds 5 before.
+// A worked row: `try_apply_linear_map_into` of 4,095 elements returns false and leaves its output, and of 4,096 it returns true and maps
+// all. The map takes the element of representation 2 to 7, and the output holds 5 before.
 use field_element::{BinaryField128, Ghash128, element_of_word};
 use std::alloc::{AllocError, Global};
 use std::test::Fail;

@@ -1,5 +1,5 @@
-// Worked rows: Cantor vectors of eight bits, bits by the parity of a number, and matrices of 8 by 8 bits. The sum and the square of Cantor vector 2
-// are lines of `binfield`. And that no instruction multiplies.
+// Worked rows: Cantor vectors of eight bits, bits by the parity of a number, and matrices of 8 by 8 bits. The sum and the square of Cantor
+// vector 2 are lines of `binfield`. And that no instruction multiplies.
 use field_aes::ByteMatrix;
 use field_base::traits::{PrimeCharacteristicRing, TowerLevel};
 use field_base::{Gf2, QuotientMap};

@@ -1,4 +1,5 @@
-// Extensions of a field: the text that names one, granted where there is memory and refused in a heap without room, with nothing left behind.
+// Extensions of a field: the text that names one, granted where there is memory and refused in a heap without room, with nothing left
+// behind.
 use field_base::traits::Field;
 use field_space::AlgebraIdentity;
 use linked_list_allocator::LocalHeap;

@@ -1,6 +1,6 @@
-// `flatten_to_base` and `reconstitute_from_base` of the last 0 to 257 of elements that are drawn from the seed 23, where there is memory, and
-// refused where there is not, in heaps of 16, 32, 64, .. bytes: a vector grows to twice its length at least, so that each growth is the first
-// to be refused in one of them. Nothing is left behind. A call that refuses some lengths, some elements or some contents fails here.
+// `flatten_to_base` and `reconstitute_from_base` of the last 0 to 257 of elements that are drawn from the seed 23, where there is memory,
+// and refused where there is not, in heaps of 16, 32, 64, .. bytes: a vector grows to twice its length at least, so that each growth is the
+// first to be refused in one of them. Nothing is left behind. A call that refuses some lengths, some elements or some contents fails here.
 use field_base::traits::PrimeCharacteristicRing;
 use field_space::BasedVectorSpace;
 use linked_list_allocator::LocalHeap;

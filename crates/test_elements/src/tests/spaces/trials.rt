@@ -1,6 +1,6 @@
-// Trials of spaces and of extensions, which are written over the bounds of such. That a field meets the bound takes the check longer
-// than a trial does, so that fields are named here alone, once for all trials. Texts of extensions: worked rows of the cubic one, and of 128
-// bits over 8. Each other pair of levels has its own by its contract, and the body that grants one is the same.
+// Trials of spaces and of extensions, which are written over the bounds of such. That a field meets the bound takes the check longer than a
+// trial does, so that fields are named here alone, once for all trials. Texts of extensions: worked rows of the cubic one, and of 128 bits
+// over 8. Each other pair of levels has its own by its contract, and the body that grants one is the same.
 use super::coefficients::is_called_in_order;
 use super::extension::has_text;
 use super::memory::{is_flattened, vectors_are_due};

@@ -1,5 +1,5 @@
-// Printed texts: `{:?}` prints the name of an element's type and its number, `{:x}` and its like the number in hexadecimal, and `{}` the number. Two
-// rows of the latter are worked: the numbers of representations above the field, and the text of the inverse of y.
+// Printed texts: `{:?}` prints the name of an element's type and its number, `{:x}` and its like the number in hexadecimal, and `{}` the
+// number. Two rows of the latter are worked: the numbers of representations above the field, and the text of the inverse of y.
 use field_base::traits::{PrimeCharacteristicRing, TowerLevel};
 use field_base::{Gf2, Stored, Unsigned};
 use field_element::{Element, HasPacking, Poly64, Poly192, element_of_word};

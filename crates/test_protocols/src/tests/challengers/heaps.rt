@@ -1,11 +1,11 @@
-// Each growth refused in turn, and success where there is memory. Initial states and seeds are drawn from the seed 61 plus their length, encoded
-// elements from 67 plus that of the bytes before them, so that all bytes come as their lowest one: a call that refuses some lengths, some bytes or
-// some elements fails here. What a refusal leaves the contracts say. The calls are
+// Each growth refused in turn, and success where there is memory. Initial states and seeds are drawn from the seed 61 plus their length,
+// encoded elements from 67 plus that of the bytes before them, so that all bytes come as their lowest one: a call that refuses some
+// lengths, some bytes or some elements fails here. What a refusal leaves the contracts say. The calls are
 //
 // - `observe_seed` of 0 to 257 bytes into a `Recorder`, and `encode` behind as many bytes, at the narrowest and the widest field;
-// - each call of a challenger over `HashChallenger` from initial states of 0 to 257 bytes (`observe` of an element, of digests of bytes and of
-//   words, of caps lent and given away, `observe_slice`, `sample_element`, `sample_bits`, uniform bits, `check_witness`, `try_clone` and a sample of
-//   the copy), at fields of 16 and 128 bits;
+// - each call of a challenger over `HashChallenger` from initial states of 0 to 257 bytes (`observe` of an element, of digests of bytes and
+//   of words, of caps lent and given away, `observe_slice`, `sample_element`, `sample_bits`, uniform bits, `check_witness`, `try_clone` and
+//   a sample of the copy), at fields of 16 and 128 bits;
 // - `grind` of 1 to 8 bits over it from 16 initial states.
 use super::asked::{Asked, Row, Said, element};
 use linked_list_allocator::LocalHeap;

@@ -1,5 +1,5 @@
-// Lists of 0 to 257 calls: the reserve of `run_calls` and each growth of a call are refused in turn, and the list is granted where there is memory. What
-// a list replies, also one that is refused, the contracts say; what the calls return is one of the scripts.
+// Lists of 0 to 257 calls: the reserve of `run_calls` and each growth of a call are refused in turn, and the list is granted where there is
+// memory. What a list replies, also one that is refused, the contracts say; what the calls return is one of the scripts.
 ghost use Rattle.std.specs.Prelude.{All, IfOk};
 ghost use Rattle.transcript_elements.specs.Calls.{MayCall};
 

@@ -1,11 +1,11 @@
 // Hostile partners: doubles that refuse a byte call or a copy, or sample one byte always; what a challenger over them returns, what they
 // have seen of it, and what it returns to each call after that.
 //
-// - A byte call is refused, the third in `observe`, the fifth in `sample_bits(12)`, the seventh in `observe_slice`, after one element and half
-//   of the second: `Memory`; each call after it says `Failed`, also `check_witness(0, w)`, `grind(0)`, `observe_slice` of no elements and a
-//   sample of a copy, and the partner sees none.
-// - A copy is refused in `grind(8)` or by itself, or the first, second or tenth byte call of one: `Memory`; three samples are as if there had
-//   been no call, and a fourth is refused, for which no byte call is left.
+// - A byte call is refused, the third in `observe`, the fifth in `sample_bits(12)`, the seventh in `observe_slice`, after one element and
+//   half of the second: `Memory`; each call after it says `Failed`, also `check_witness(0, w)`, `grind(0)`, `observe_slice` of no elements
+//   and a sample of a copy, and the partner sees none.
+// - A copy is refused in `grind(8)` or by itself, or the first, second or tenth byte call of one: `Memory`; three samples are as if there
+//   had been no call, and a fourth is refused, for which no byte call is left.
 // - 255 is sampled always: `NoWitness` after all 65,536 candidates of 16 bits; a sample is as before. 0 is sampled always: the witness 0.
 // - All is refused: `grind(0)` gives 0 and `check_witness(0, w)` true, and the partner sees nothing.
 use super::asked::{Asked, EVERY_CALL, Row, Said, only_fails};
@@ -24,8 +24,8 @@ pub(crate) type Partner = ((u8, u32, Copies), Row, Said, Sight, Said);
 /// Copies are granted, and refuse nothing.
 const GRANTED: Copies = Copies::RefusingAfter(u32::MAX);
 
-/// Partners of a field of 32 bits that sample 5 and refuse the byte call after so many, in a call that then fails for want of memory. The third
-/// and the fifth byte call are refused in worked rows, and the seventh, in the second element of a slice.
+/// Partners of a field of 32 bits that sample 5 and refuse the byte call after so many, in a call that then fails for want of memory. The
+/// third and the fifth byte call are refused in worked rows, and the seventh, in the second element of a slice.
 pub(crate) static REFUSED_CALLS: [(u32, Row, Sight); 3] = [
     (2, [0, 0, 0x0403_0201, 0], (2, 0, 0x0102)),
     (4, [2, 12, 0, 0], (0, 4, 0)),

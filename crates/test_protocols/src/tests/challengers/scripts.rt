@@ -4,8 +4,8 @@
 
 use super::asked::Row;
 
-/// Scripts of three fields. The first four are worked rows of a field of 8 bits: the digest of no byte ends in .. 4c a4 95 99 1b 78 52 b8 55,
-/// and for no bits too eight bytes are sampled. The next is of `BinaryField16`, seed 2, and the last of `BinaryField128`, seed 5.
+/// Scripts of three fields. The first four are worked rows of a field of 8 bits: the digest of no byte ends in .. 4c a4 95 99 1b 78 52 b8
+/// 55, and for no bits too eight bytes are sampled. The next is of `BinaryField16`, seed 2, and the last of `BinaryField128`, seed 5.
 pub(crate) static SCRIPTS: [&[Row]; 6] = [
     &[[2, 0, 0, 0], [1, 0, 0, 0x4c]],
     &[[2, 12, 0, 0x855]],

@@ -1,6 +1,7 @@
-// Elements of extensions in challengers, coefficient by coefficient, and values that are sampled into a vector. Each growth is refused in turn,
-// and over a double each byte call: after one of `observe_algebra_element`, `sample_algebra_element` or `sample` of an extension the
-// challenger has failed, every call says so, and the double sees none of them. Of `sample_vec(4)` the vector and the challenger are in one heap.
+// Elements of extensions in challengers, coefficient by coefficient, and values that are sampled into a vector. Each growth is refused in
+// turn, and over a double each byte call: after one of `observe_algebra_element`, `sample_algebra_element` or `sample` of an extension the
+// challenger has failed, every call says so, and the double sees none of them. Of `sample_vec(4)` the vector and the challenger are in one
+// heap.
 use super::asked::{
     Asked, EVERY_CALL, Row, Said, error_said, number_of, observed_said, only_fails,
 };
