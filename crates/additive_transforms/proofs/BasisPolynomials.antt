@@ -7,52 +7,14 @@ use native.Mathlib.Nat.{mod-eq_of_lt}
 use lib.Bits.{xor_comm, xor_zero_r}
 use Rattle.field_base.specs.Basis.{sum_below, product_below}
 use Rattle.field_base.specs.Ring.{IsRing}
-use Rattle.field_base.proofs.RingLemmas.{mod-times, sum_times, times-mod, times-zero}
-use Rattle.field_base.proofs.Polynomials.{IsPolynomial, polynomial-more, polynomial-same, polynomial-scale, polynomial-shift, polynomial-sum}
+use Rattle.field_base.proofs.RingLemmas.{mod-times, times-mod, times-zero}
+use Rattle.field_base.proofs.PolynomialProducts.{polynomial-product, polynomial-widen}
+use Rattle.field_base.proofs.Polynomials.{IsPolynomial, polynomial-same, polynomial-sum}
 use Rattle.ghash_slices.specs.Cantor.{polynomial_value, subspace_value}
 use Rattle.ghash_slices.specs.Stages.{factors_at, sum_of_factors}
 use Rattle.additive_transforms.proofs.CantorSums.{value-halves}
 
 module _ (width : ℕ) (times : ℕ → ℕ → ℕ) (wide : 0 < width) (ring : IsRing width 1 times) where
-  -- ---- closure under products
-
-  -- a polynomial of k coefficients is one of d + k
-  pub polynomial-widen : (d k : ℕ) (f : ℕ → ℕ) → IsPolynomial times k f → IsPolynomial times (d + k) f
-  polynomial-widen zero k f p = let same : k ≡ 0 + k = omega arith in subst (λ (n : ℕ). IsPolynomial times n f) same p
-  polynomial-widen (suc d) k f p =
-      let same : suc (d + k) ≡ suc d + k = omega arith in
-      subst (λ (n : ℕ). IsPolynomial times n f) same (polynomial-more width times ring (d + k) f (polynomial-widen d k f p))
-
-  -- (c + x g) h = c h + x (g h)
-  spread : (c x g h : ℕ) → times (bit_xor (times 1 c) (times x g)) h ≡ bit_xor (times c h) (times x (times g h))
-  spread c x g h =
-      sum_times width 1 times ring (times 1 c) (times x g) h
-      ∙ ap₂ bit_xor (ap (λ (a : ℕ). times a h) (ring.one c) ∙ mod-times width 1 times ring c h) (ring.assoc x g h)
-
-  -- a product of j + 1 and k coefficients has j + k
-  pub polynomial-product : (j k : ℕ) (f g : ℕ → ℕ) → IsPolynomial times (suc j) f → IsPolynomial times k g
-      → IsPolynomial times (j + k) (λ x. times (f x) (g x))
-  unfolding IsPolynomial
-  polynomial-product zero k f g p q =
-      polynomial-same width times ring (0 + k) (λ x. times p.0 (g x)) (λ x. times (f x) (g x)) constant
-      (polynomial-widen 0 k (λ x. times p.0 (g x)) (polynomial-scale width times ring k p.0 g q))
-    where
-      constant : (x : ℕ) → times p.0 (g x) ≡ times (f x) (g x)
-      constant x =
-          sym (ap (λ (a : ℕ). times a (g x))
-          (p.3 x ∙ ap (λ (a : ℕ). bit_xor (times 1 p.0) (times x a)) (p.2 x) ∙ ap (bit_xor (times 1 p.0)) (times-zero width 1 times ring x)
-          ∙ xor_zero_r (times 1 p.0) ∙ ring.one p.0)
-          ∙ mod-times width 1 times ring p.0 (g x))
-  polynomial-product (suc j) k f g p q =
-      let same : suc (j + k) ≡ suc j + k = omega arith in
-      let low = polynomial-widen (suc j) k (λ x. times p.0 (g x)) (polynomial-scale width times ring k p.0 g q) in
-      let high =
-      subst (λ (n : ℕ). IsPolynomial times n (λ x. times x (times (p.1 x) (g x)))) same
-      (polynomial-shift width times ring (j + k) (λ x. times (p.1 x) (g x)) (polynomial-product j k p.1 g p.2 q)) in
-      polynomial-same width times ring (suc j + k) (λ x. bit_xor (times p.0 (g x)) (times x (times (p.1 x) (g x)))) (λ x. times (f x) (g x))
-      (λ x. sym (ap (λ (a : ℕ). times a (g x)) (p.3 x) ∙ spread p.0 x (p.1 x) (g x)))
-      (polynomial-sum width times ring (suc j + k) (λ x. times p.0 (g x)) (λ x. times x (times (p.1 x) (g x))) low high)
-
   -- ---- s_j, and values
 
   -- the point itself, in the bits of an element
@@ -90,12 +52,12 @@ module _ (width : ℕ) (times : ℕ → ℕ → ℕ) (wide : 0 < width) (ring : 
       let p = subspace-polynomial j in
       let size : 2 ^ j + suc (2 ^ j) ≡ suc (2 ^ suc j) = let twice = two-pow-succ j in omega arith in
       let square : IsPolynomial times (2 ^ j + suc (2 ^ j)) (λ x. times (subspace j x) (subspace j x)) =
-      polynomial-product (2 ^ j) (suc (2 ^ j)) (subspace j) (subspace j) p p in
+      polynomial-product width times wide ring (2 ^ j) (suc (2 ^ j)) (subspace j) (subspace j) p p in
       polynomial-same width times ring (suc (2 ^ suc j)) (λ x. bit_xor (times (subspace j x) (subspace j x)) (subspace j x)) (subspace (suc j))
       (subspace-square j)
       (subst (λ (n : ℕ). IsPolynomial times n (λ x. bit_xor (times (subspace j x) (subspace j x)) (subspace j x))) size
       (polynomial-sum width times ring (2 ^ j + suc (2 ^ j)) (λ x. times (subspace j x) (subspace j x)) (subspace j) square
-      (polynomial-widen (2 ^ j) (suc (2 ^ j)) (subspace j) p)))
+      (polynomial-widen width times wide ring (2 ^ j) (suc (2 ^ j)) (subspace j) p)))
 
   -- one coefficient
   value-constant : (c : ℕ → ℕ) (x : ℕ) → polynomial_value times 0 c x ≡ bit_xor (times 1 (c 0)) (times x 0)
@@ -109,9 +71,9 @@ module _ (width : ℕ) (times : ℕ → ℕ → ℕ) (wide : 0 < width) (ring : 
   value-polynomial zero c = (c 0, (λ x. 0), (λ x. refl), value-constant c)
   value-polynomial (suc n) c =
       let low : IsPolynomial times (2 ^ n + 2 ^ n) (polynomial_value times n c) =
-      polynomial-widen (2 ^ n) (2 ^ n) (polynomial_value times n c) (value-polynomial n c) in
+      polynomial-widen width times wide ring (2 ^ n) (2 ^ n) (polynomial_value times n c) (value-polynomial n c) in
       let high : IsPolynomial times (2 ^ n + 2 ^ n) (λ x. times (subspace n x) (polynomial_value times n upper x)) =
-      polynomial-product (2 ^ n) (2 ^ n) (subspace n) (polynomial_value times n upper) (subspace-polynomial n) (value-polynomial n upper) in
+      polynomial-product width times wide ring (2 ^ n) (2 ^ n) (subspace n) (polynomial_value times n upper) (subspace-polynomial n) (value-polynomial n upper) in
       subst (λ (m : ℕ). IsPolynomial times m (polynomial_value times (suc n) c)) (sym (two-pow-succ n))
       (polynomial-same width times ring (2 ^ n + 2 ^ n)
       (λ x. bit_xor (polynomial_value times n c x) (times (subspace n x) (polynomial_value times n upper x))) (polynomial_value times (suc n) c) halves

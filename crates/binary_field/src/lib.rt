@@ -45,7 +45,7 @@ pub use field_space::{
 // elements as bytes, streams of bytes and words, and one bound for what generic code does with elements as data
 pub use field_bytes::{
     ByteStream, DataField, LittleEndian, Packable, ParallelByteStreams, ParallelU32Streams,
-    ParallelU64Streams, RawDataSerializable, U32Stream, U64Stream, into_byte_stream,
+    ParallelU64Streams, RawDataSerializable, ShortElement, U32Stream, U64Stream, into_byte_stream,
     into_parallel_byte_streams, into_parallel_u32_streams, into_parallel_u64_streams,
     into_u32_stream, into_u64_stream,
 };
@@ -73,16 +73,17 @@ pub use field_slices as polynomials;
 // universal hashes of two authenticated ciphers
 pub use tags;
 
-// byte challengers
+// transcripts, what they observe, and challengers over bytes
 pub use transcripts::{
-    ByteChallenger, ByteHasher32, ChallengerError, HashChallenger, Sha256Hasher,
+    ByteChallenger, ByteHasher32, CanObserve, CanSample, CanSampleBits, CanSampleUniformBits,
+    ChallengerError, Digest, GrindError, GrindingChallenger, Hash, HashChallenger, MerkleCap,
+    Recorder, SampleArray, Sha256Hasher, Transcript,
 };
 
 // elements in transcripts, and the challenger of a field
 pub use transcript_elements::{
-    BinaryChallenger, ByteLevel, Call, CanObserve, CanSample, CanSampleBits, CanSampleUniformBits,
-    Digest, FieldChallenger, GrindError, GrindingChallenger, Hash, MerkleCap, Recorder, Reply,
-    SampleArray, Transcript, TranscriptError, TranscriptField, TypeTag, run_calls,
+    BinaryChallenger, ByteLevel, Call, FieldChallenger, Reply, TranscriptError, TranscriptField,
+    TypeTag, run_calls,
 };
 
 // Reed-Solomon codes over bytes, and over vectors of bytes

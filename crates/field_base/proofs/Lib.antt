@@ -25,6 +25,7 @@ pub mod Norms
 mod Pigeonhole
 pub mod Places
 pub mod PolynomialCoefficients
+pub mod PolynomialProducts
 pub mod Polynomials
 pub mod PowerLemmas
 pub mod QuadraticProducts

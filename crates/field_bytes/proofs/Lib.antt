@@ -1,9 +1,10 @@
-pub mod Placing
-pub mod Taking
-pub mod WordBytes
-pub mod Progress
-pub mod Streaming
-pub mod Wording
-pub mod Rows
-mod Wide
 pub mod GrowingNumbers
+pub mod LowBytes
+pub mod Placing
+pub mod Progress
+pub mod Rows
+pub mod Streaming
+pub mod Taking
+mod Wide
+pub mod WordBytes
+pub mod Wording

@@ -9,6 +9,7 @@ mod parallel;
 mod parallel_words;
 mod reading;
 mod serializable;
+mod short_element;
 mod sized_words;
 mod streams;
 mod triple;
@@ -21,6 +22,7 @@ pub use crate::parallel::{ParallelByteStreams, into_parallel_byte_streams};
 pub use crate::parallel_words::{ParallelWordStreams, into_parallel_word_streams};
 pub use crate::reading::{word_from_iter, word_from_iter_by_ref};
 pub use crate::serializable::{Packable, RawDataSerializable};
+pub use crate::short_element::{MOST_BYTES, ShortElement, ShortWord};
 pub use crate::sized_words::{
     ParallelU32Streams, ParallelU64Streams, U32Stream, U64Stream, into_parallel_u32_streams,
     into_parallel_u64_streams, into_u32_stream, into_u64_stream,

@@ -13,12 +13,12 @@ use Rattle.field_base.proofs.BasisSums.{sum_below-same}
 use Rattle.field_slices.specs.Multilinear.{AreCornerValues, eq_corner, folded, folded_all, multilinear_value}
 use Rattle.field_slices.proofs.CubeLaws.{folding-evaluates}
 use Rattle.protocols.proofs.CodeColumns.{combinations_are_code_words}
-use Rattle.protocols.proofs.Rows.{even-length, folded-fit, folded-values, rows-twice}
+use Rattle.sum_checks.proofs.Rows.{even-length, folded-fit, folded-values, rows-twice}
 use Rattle.protocols.proofs.Words.{parts_determine}
-use Rattle.protocols.specs.Commitments.{row_at}
+use Rattle.merkle_trees.specs.Commitments.{row_at}
 use Rattle.protocols.specs.Interleaved.{combination}
 use Rattle.protocols.specs.Tables.{AgreesAt, column_at, column_values, ColumnValuesAgree, ColumnValuesEvaluate, ExtendsTable, FewPlacesAgree}
-use Rattle.protocols.specs.Terms.{table_value}
+use Rattle.sum_checks.specs.Terms.{table_value}
 
 -- ---- columns
 

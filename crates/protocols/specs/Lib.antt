@@ -1,17 +1,3 @@
 pub mod CodeWords
-pub mod Commitments
-pub mod Filling
 pub mod Interleaved
-pub mod MerkleTrees
-pub mod Openings
-pub mod Products
-pub mod Queries
-pub mod Refusals
-pub mod Runs
-pub mod Sumcheck
-pub mod SumcheckClaims
-pub mod SumcheckRuns
 pub mod Tables
-pub mod Terms
-pub mod ZeroCheck
-pub mod ZeroCheckRuns

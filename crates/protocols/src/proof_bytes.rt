@@ -4,13 +4,13 @@ ghost use Rattle.std.specs.Prelude.{◌≡◌, ◌≢◌, List, length, IfNone, 
 ghost use Rattle.field_bytes.specs.Bytes.{low_bytes};
 ghost use Rattle.field_bytes.specs.Streams.{joined_bytes};
 
-use crate::merkle_paths::row_of;
+use field_bytes::ShortElement;
+use merkle_trees::merkle_paths::row_of;
 use std::alloc::{AllocError, Allocator};
-use transcript_elements::ByteLevel;
 
 /// The bytes of a proof: `NUM_BYTES` of each element, which are those of its representation, the lowest first. It fails if memory was
 /// refused.
-pub fn encode<F: ByteLevel, A: Allocator>(
+pub fn encode<F: ShortElement, A: Allocator>(
     alloc: A,
     elements: &[F],
 ) -> Result<Vec<u8, A>, AllocError>
@@ -27,7 +27,7 @@ pub fn encode<F: ByteLevel, A: Allocator>(
 /// The proof of which these are the bytes; None if they are of no proof, as where an element is cut off or has a bit above the field. Bytes
 /// that `encode` wrote give the elements of which they were written, and what is not None is what `encode` writes of the result. It fails
 /// if memory was refused.
-pub fn decode<F: ByteLevel, A: Allocator>(
+pub fn decode<F: ShortElement, A: Allocator>(
     alloc: A,
     bytes: &[u8],
 ) -> Result<Option<Vec<F, A>>, AllocError>
@@ -52,7 +52,7 @@ pub fn decode<F: ByteLevel, A: Allocator>(
 }
 
 // The element with these bytes, and None if there is none.
-fn element_of<F: ByteLevel>(bytes: &[u8]) -> Option<F>
+fn element_of<F: ShortElement>(bytes: &[u8]) -> Option<F>
     requires { length bytes.now ≡ F.NUM_BYTES }
     ensures some { IfSome result (λ element. bytes.now ≡ low_bytes F.NUM_BYTES (F.repr element)) }
     ensures none { IfNone result ((x : F) → bytes.now ≢ low_bytes F.NUM_BYTES (F.repr x)) }

@@ -3,23 +3,23 @@ ghost use Rattle.std.specs.Prelude.{◌≡◌, ◌↔◌, ◌+◌, ◌*◌, ◌^
 ghost use Rattle.std.specs.List.{range_with_len};
 ghost use Rattle.field_bytes.specs.Streams.{joined_bytes};
 ghost use Rattle.field_slices.specs.Multilinear.{multilinear_value};
-ghost use Rattle.protocols.specs.Commitments.{IsTreeOver, root_of, row_at};
-ghost use Rattle.protocols.specs.Openings.{AreAscending, OpensRows};
+ghost use Rattle.merkle_trees.specs.Commitments.{IsTreeOver, root_of, row_at};
+ghost use Rattle.merkle_trees.specs.Openings.{AreAscending, OpensRows};
 ghost use Rattle.protocols.specs.Tables.{AreColumnsAt, AreExtendedColumns, ColumnValuesAgree, ColumnValuesEvaluate, FewPlacesAgree};
 ghost use Rattle.protocols.specs.Tables.{IsHonestOpening, OpensColumns, OpensPlaces, column_at};
 
 use crate::extension::extend;
 use crate::interleaved::extend_rows;
-use crate::merkle_paths::{Commitment, power_of_two, row_of};
-use crate::merkle_tree::MerkleTree;
-use crate::openings::verify_many;
 use crate::proof_bytes::encode;
-use crate::sumcheck::has_length;
 use field_base::traits::Field;
+use field_bytes::ShortElement;
 use field_slices::evaluate_multilinear;
 use field_slices::matrices::{Elements, transpose_into};
+use merkle_trees::merkle_paths::{Commitment, power_of_two, row_of};
+use merkle_trees::merkle_tree::MerkleTree;
+use merkle_trees::openings::verify_many;
 use std::alloc::{AllocError, Allocator};
-use transcript_elements::ByteLevel;
+use sum_checks::sumcheck::has_length;
 use transcripts::ByteHasher32;
 
 /// A table with what commits to it: the columns of its rows' code words, one after the other, and the tree over their bytes.
@@ -43,7 +43,7 @@ pub struct OpenedColumns<F: Field, A: Allocator> {
 /// Commits to a table of 2^(rows + levels) values, a matrix of 2^rows rows of 2^levels values each: each row is extended to a code word at
 /// the rate 1/2^expansion, and the bytes of column p, element by element and from the lowest byte, are leaf p of a Merkle tree. It fails if
 /// memory was refused.
-pub fn commit_table<F: ByteLevel, H: ByteHasher32, A: Allocator + Copy>(
+pub fn commit_table<F: ShortElement, H: ByteHasher32, A: Allocator + Copy>(
     alloc: A,
     hasher: &H,
     table: &[F],
@@ -136,7 +136,7 @@ pub fn columns_at<F: Field, A: Allocator>(
 /// Opens a committed table, of columns of 2^rows elements each, rows at most 40, at places that ascend, none twice, and are below 2^depth:
 /// the columns there, and the nodes that open their bytes. With the row of the columns' values at any point (`column_values`),
 /// `verify_columns` accepts it. It fails if memory was refused.
-pub fn open_columns<F: ByteLevel, A: Allocator + Copy>(
+pub fn open_columns<F: ShortElement, A: Allocator + Copy>(
     alloc: A,
     table: &TableColumns<F, A>,
     rows: usize,
@@ -160,7 +160,7 @@ pub fn open_columns<F: ByteLevel, A: Allocator + Copy>(
 /// bytes, and the row's code word has at each place the value of the column there. The columns stand one after the other. Rows and columns
 /// of other sizes, and places that are not in ascending order, come twice or are not below 2^(expansion + levels), are refused. It fails if
 /// memory was refused.
-pub fn verify_columns<F: ByteLevel, H: ByteHasher32, A: Allocator + Copy>(
+pub fn verify_columns<F: ShortElement, H: ByteHasher32, A: Allocator + Copy>(
     alloc: A,
     hasher: &H,
     commitment: Commitment,

@@ -6,7 +6,7 @@ use Rattle.std.specs.Prelude.{slice_index}
 use Rattle.std.proofs.lemmas.List.FromFn.{get_or-map-range_with_len, length-map-range_with_len}
 use Rattle.std.proofs.lemmas.Nat.{pow-add, pow_pos}
 use native.Mathlib.Nat.{mod-eq_of_lt, mod-lt, one-mul, pow-le-pow_right}
-use Rattle.protocols.specs.Openings.{AreAscending}
+use Rattle.merkle_trees.specs.Openings.{AreAscending}
 use Rattle.prove_sums.specs.Shapes.{block_bits, block_count, columns_size, depth_of, element_count, levels_of, places_of, row_in, row_size, rows_of}
 
 -- a power of two in 64 bits

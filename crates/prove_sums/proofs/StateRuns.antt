@@ -1,9 +1,9 @@
 -- What is stated over a challenger, over its states.
 use Rattle.std.proofs.Common.{◌≡◌, ◌∙◌, ℕ, Bool, true, List, [], ◌∷◌, ap, subst}
-use Rattle.transcript_elements.specs.Lists.{InTurn}
-use Rattle.protocols.specs.Queries.{AreQueries}
-use Rattle.protocols.specs.declared.merkle_tree.MerkleTree.{MerkleTree}
-use Rattle.protocols.specs.Sumcheck.{AreTurns, IsRunOf, IsTurn, Statement, messages_of}
+use Rattle.transcripts.specs.Lists.{InTurn}
+use Rattle.merkle_trees.specs.Queries.{AreQueries}
+use Rattle.merkle_trees.specs.declared.merkle_tree.MerkleTree.{MerkleTree}
+use Rattle.sum_checks.specs.Sumcheck.{AreTurns, IsRunOf, IsTurn, Statement, messages_of}
 use Rattle.prove_sums.specs.Shapes.{block_bits, messages_in, rows_in, sum_in, witness_in}
 use Rattle.prove_sums.specs.Verdicts.{DrawsPlaces, IsHonestProof, IsReduced, IsSummed, IsVerdict, sum_statement, work_bits}
 

@@ -1,11 +1,11 @@
 -- The terms of a sum of products of two tables, and what their proofs say.
 use Rattle.std.proofs.Common.{◌≡◌, ◌↔◌, ℕ, zero, suc, ◌*◌, ◌<◌, Bool, true, false, List, [], ◌∷◌, ◌++◌, append_assoc, length, map, drop, get_or, refl, sym, ◌∙◌, ap, subst, arith}
 use Rattle.std.specs.Prelude.{IsTrue, None, Option, Some, is_some, slice_index}
-use Rattle.transcript_elements.specs.Lists.{InTurn}
-use Rattle.protocols.specs.Queries.{AreQueries}
-use Rattle.protocols.specs.Sumcheck.{AreTurns, IsRunOf, messages_of, statement_of}
-use Rattle.protocols.specs.SumcheckClaims.{AreHonestMessages, reduced_claim}
-use Rattle.protocols.specs.Terms.{AreWithin, Product, cube_sum, degree_of}
+use Rattle.transcripts.specs.Lists.{InTurn}
+use Rattle.merkle_trees.specs.Queries.{AreQueries}
+use Rattle.sum_checks.specs.Sumcheck.{AreTurns, IsRunOf, messages_of, statement_of}
+use Rattle.sum_checks.specs.SumcheckClaims.{AreHonestMessages, reduced_claim}
+use Rattle.sum_checks.specs.Terms.{AreWithin, Product, cube_sum, degree_of}
 use Rattle.prove_sums.specs.Shapes.{block_bits, block_count, places_of}
 use Rattle.prove_sums.specs.Verdicts.{DrawsPlaces, interleaved, product_terms, sum_statement, work_bits}
 

@@ -14,14 +14,14 @@ use Rattle.field_base.specs.Basis.{basis_image, ghash_images}
 use Rattle.field_base.specs.Remainder.{ghash_modulus, mul_mod}
 use Rattle.field_slices.specs.Multilinear.{multilinear_value}
 use Rattle.word_tables.specs.Cantor.{cantor_vector}
-use Rattle.protocols.specs.Queries.{AreQueries}
-use Rattle.protocols.specs.Sumcheck.{IsRunOf, IsTurn, Statement, messages_of, statement_of}
-use Rattle.protocols.specs.SumcheckClaims.{AreHonestMessages, reduced_claim}
+use Rattle.merkle_trees.specs.Queries.{AreQueries}
+use Rattle.sum_checks.specs.Sumcheck.{IsRunOf, IsTurn, Statement, messages_of, statement_of}
+use Rattle.sum_checks.specs.SumcheckClaims.{AreHonestMessages, reduced_claim}
 use Rattle.protocols.specs.Tables.{AreColumnsAt, AreExtendedColumns, OpensColumns, OpensPlaces}
-use Rattle.protocols.specs.Commitments.{IsTreeOver, root_of, row_at}
-use Rattle.protocols.specs.MerkleTrees.{rows_root}
-use Rattle.protocols.specs.declared.merkle_tree.MerkleTree.{MerkleTree}
-use Rattle.protocols.specs.Terms.{Product, cube_sum}
+use Rattle.merkle_trees.specs.Commitments.{IsTreeOver, root_of, row_at}
+use Rattle.merkle_trees.specs.MerkleTrees.{rows_root}
+use Rattle.merkle_trees.specs.declared.merkle_tree.MerkleTree.{MerkleTree}
+use Rattle.sum_checks.specs.Terms.{Product, cube_sum}
 use Rattle.field_element.specs.Element.{repr_of}
 use Rattle.prove_sums.specs.ProofFiles.{IsFileOf, IsNoFile, file_bytes, number_in}
 use Rattle.prove_sums.specs.declared.tables.Table.{Table}

@@ -1,8 +1,9 @@
 // The prover of a sum of products of two tables, both committed to.
 ghost use Rattle.std.specs.Prelude.{◌≡◌, ◌*◌, ◌^◌, ◌≤◌, ◌++◌, ℕ, List, length, map, vec_len, IfOk, OnOk};
-ghost use Rattle.transcript_elements.specs.Grinding.{MayGrind};
+ghost use Rattle.transcripts.specs.Grinding.{MayGrind};
 ghost use Rattle.field_bytes.specs.Streams.{joined_bytes};
-ghost use Rattle.protocols.specs.{Commitments.{IsTreeOver, row_at}, Openings.{AreAscending}, Tables.{AreColumnsAt, OpensPlaces}};
+ghost use Rattle.merkle_trees.specs.{Commitments.{IsTreeOver, row_at}, Openings.{AreAscending}};
+ghost use Rattle.protocols.specs.Tables.{AreColumnsAt, OpensPlaces};
 ghost use Rattle.prove_sums.specs.Shapes.{depth_of, row_size, rows_of};
 ghost use Rattle.prove_sums.specs.Verdicts.{HoldsTable, IsHonestProof, values_at};
 
@@ -14,8 +15,8 @@ use protocols::ProtocolError;
 use protocols::queries::draw_queries;
 use protocols::tables::{TableColumns, column_values, commit_table, open_columns};
 use std::alloc::{AllocError, Global};
-use transcript_elements::{ByteLevel, CanSampleUniformBits, FieldChallenger, GrindingChallenger};
-use transcripts::ByteHasher32;
+use transcript_elements::{ByteLevel, FieldChallenger};
+use transcripts::{ByteHasher32, CanSampleUniformBits, GrindingChallenger};
 
 /// A table and what commits to it.
 #[derive(Drop)]

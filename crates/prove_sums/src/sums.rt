@@ -1,6 +1,6 @@
 // Sums of the products of two tables, over any field and in any transcript of it.
 ghost use Rattle.std.specs.Prelude.{◌≡◌, ◌+◌, ◌*◌, ◌^◌, ◌≤◌, ◌<◌, [], ◌∷◌, List, length, map, IfOk};
-ghost use Rattle.protocols.specs.Products.{term_product};
+ghost use Rattle.sum_checks.specs.Products.{term_product};
 ghost use Rattle.prove_sums.specs.Verdicts.{interleaved, IsReduced, IsSummed, product_terms};
 
 use crate::shapes::part;

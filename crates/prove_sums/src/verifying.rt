@@ -12,8 +12,8 @@ use protocols::merkle_paths::Commitment;
 use protocols::queries::check_queries;
 use protocols::tables::verify_columns;
 use std::alloc::{AllocError, Global};
-use transcript_elements::{ByteLevel, CanSampleUniformBits, FieldChallenger, GrindingChallenger};
-use transcripts::ByteHasher32;
+use transcript_elements::{ByteLevel, FieldChallenger};
+use transcripts::{ByteHasher32, CanSampleUniformBits, GrindingChallenger};
 
 /// The bits of a proof's work.
 pub(crate) const WORK: usize = 16;

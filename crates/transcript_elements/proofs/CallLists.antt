@@ -89,8 +89,3 @@ has_room less room = omega arith
 pub room_left : {index count next capacity same : ℕ} (len : ℕ) → index < count → next ≡ len + 1 → same ≡ capacity
     → len + (count - index) ≤ capacity → next + (count - (index + 1)) ≤ same
 room_left len less is kept room = omega arith
-
--- what holds anyway holds if the result is an error
-pub on_err : {T X P : Type 0} (result : Result T X) → P → OnErr result P
-on_err (Ok value) holds = tt
-on_err (Err error) holds = holds

@@ -2,7 +2,7 @@
 use Rattle.std.proofs.Common.{◌≡◌, ◌<◌, ◌≤◌, ◌⊎◌, ◌-◌, ◌^◌, ℕ, arith, inl, inr, refl, subst, sym}
 use Rattle.std.proofs.Math.Pow.{pow_mono}
 use Rattle.std.proofs.lemmas.Bool.{cases_lt, cond_above, cond_below}
-use Rattle.transcript_elements.specs.Grinding.{candidate_count}
+use Rattle.transcripts.specs.Grinding.{candidate_count}
 
 -- a candidate is an element
 pub candidate_lt : (width number : ℕ) → number < candidate_count width → number < 2 ^ width

@@ -6,10 +6,10 @@ use Rattle.field_bytes.specs.Streams.{joined_bytes}
 use Rattle.transcripts.specs.ByteCalls.{after, Observe, observing}
 use Rattle.transcripts.specs.declared.byte_challenger.ByteChallenger
 use Rattle.transcripts.proofs.Runs.{state_joined}
-use Rattle.transcript_elements.proofs.ManyCalls.{none_observed}
+use Rattle.transcripts.proofs.ObservedLists.{none_observed}
 use Rattle.transcript_elements.specs.Challengers.{state_of}
 use Rattle.transcript_elements.specs.Joined.{ElementsJoin}
-use Rattle.transcript_elements.specs.Lists.{InTurn}
+use Rattle.transcripts.specs.Lists.{InTurn}
 use Rattle.transcript_elements.specs.declared.challenger.BinaryChallenger.{BinaryChallenger}
 
 module _ {F C : Type 0} (c : ByteChallenger.Ghosts C) (size : ℕ) (repr : F → ℕ) where

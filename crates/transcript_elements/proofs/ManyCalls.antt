@@ -1,46 +1,25 @@
--- Calls that are made one after the other: the bytes of a list of values are observed, and the coefficients of an element are
--- observed or sampled.
-use Rattle.std.proofs.Common.{◌≡◌, ◌<◌, ◌+◌, ◌*◌, ◌^◌, ℕ, suc, List, [], ◌∷◌, ◌++◌, get_or, length, take, sym, ap, ap₂, subst, ◌∙◌, add-one, arith}
-use Rattle.std.proofs.Math.Seq.{take-suc}
+-- Calls that are made one after the other: the coefficients of an element are observed or sampled.
+use Rattle.std.proofs.Common.{◌≡◌, ◌<◌, ◌+◌, ◌*◌, ◌^◌, ℕ, suc, [], ◌∷◌, ◌++◌, sym, ap, ap₂, subst, ◌∙◌, add-one, arith}
 use Rattle.std.proofs.lemmas.Grind.{flat_map-append}
 use Rattle.std.proofs.lemmas.List.{append-nil, map-append, replicate-append-replicate}
 use Rattle.std.specs.List.{flat_map}
 use native.Mathlib.Nat.{mul-suc, mul-zero}
 use Rattle.field_base.specs.Chunks.{chunk, chunks}
 use Rattle.transcripts.specs.ByteCalls.{after, Observe, observing, Sample, sampling, Transitions}
+use Rattle.transcripts.proofs.ObservedLists.{none_observed}
 use Rattle.transcripts.proofs.Runs.{after_none, state_joined}
 use Rattle.field_bytes.specs.Bytes.{low_bytes}
 use Rattle.field_base.proofs.ChunkLists.{chunks-more, chunks-next, chunks-none, more-lt}
 use Rattle.transcript_elements.specs.Sampled.{coefficient_bytes, squeezed_element, squeezed_elements}
 
 module _ {S : Type 0} (transitions : Transitions S) where
-  -- observing no bytes leaves the state
-  pub none_observed : (state : S) → state ≡ after transitions (observing []) state
-  none_observed state = sym (after_none transitions state)
-
-  -- a loop that has observed the bytes of n values and observes those of value n has observed those of n + 1 values
-  pub one_more_observed : {D : Type 0} (bytes : D → List ℕ) (values : List D) (count : ℕ) (value default : D) (old now next : S) → count < length values
-      → value ≡ get_or values count default
-      → now ≡ after transitions (observing (flat_map bytes (take count values))) old
-      → next ≡ after transitions (observing (bytes value)) now
-      → next ≡ after transitions (observing (flat_map bytes (take (count + 1) values))) old
-  one_more_observed bytes values count value default old now next inside is before step =
-      let taken : take (count + 1) values ≡ take count values ++ value ∷ [] =
-      ap (λ (k : ℕ). take k values) (add-one count) ∙ take-suc values count default inside ∙ ap (λ v. take count values ++ v ∷ []) (sym is) in
-      let joined : observing (flat_map bytes (take (count + 1) values)) ≡ observing (flat_map bytes (take count values)) ++ observing (bytes value) =
-      ap (λ vs. observing (flat_map bytes vs)) taken
-      ∙ ap observing (flat_map-append bytes (take count values) (value ∷ []) ∙ ap (λ bs. flat_map bytes (take count values) ++ bs) (append-nil (bytes value)))
-      ∙ map-append Observe (flat_map bytes (take count values)) (bytes value) in
-      state_joined transitions (observing (flat_map bytes (take count values))) (observing (bytes value)) old now next before step
-      ∙ ap (λ calls. after transitions calls old) (sym joined)
-
   -- ---- coefficients that are observed
 
   -- observing 0 coefficients leaves the state
   pub no_coefficient_observed : (size width element : ℕ) (state : S)
       → state ≡ after transitions (observing (coefficient_bytes size width 0 element)) state
   no_coefficient_observed size width element state =
-      none_observed state
+      none_observed transitions state
       ∙ ap (λ cs. after transitions (observing (flat_map (λ c. low_bytes size c) cs)) state) (sym (chunks-none width element))
 
   -- a loop that has observed n coefficients and observes coefficient n has observed n + 1

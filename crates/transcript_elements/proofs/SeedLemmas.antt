@@ -9,9 +9,9 @@ use Rattle.std.proofs.lemmas.List.{append-nil, append_assoc, append_cancel_left,
 use Rattle.field_bytes.specs.Bytes.{low_bytes, number_of_bytes}
 use Rattle.field_bytes.specs.Streams.{joined_bytes}
 use Rattle.field_base.specs.Chunks.{chunks, joined}
-use Rattle.transcript_elements.proofs.ListLemmas.{in_turn-append, none_in_turn, pushed_in_turn}
-use Rattle.transcript_elements.proofs.LowBytes.{fits-take, length-low, low-cons, number-low, number-lt}
-use Rattle.transcript_elements.specs.Lists.{InTurn}
+use Rattle.transcripts.proofs.ListLemmas.{in_turn-append, none_in_turn, pushed_in_turn}
+use Rattle.field_bytes.proofs.LowBytes.{fits-take, length-low, low-cons, number-low, number-lt}
+use Rattle.transcripts.specs.Lists.{InTurn}
 use Rattle.transcript_elements.specs.Seeds.{AreOfSeed, missing, NeitherBegins, Observes, ObservesPart, padded, seed_bytes}
 
 -- ---- bytes filled with zeros

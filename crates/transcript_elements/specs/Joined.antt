@@ -6,7 +6,7 @@ use Rattle.field_bytes.specs.Streams.{joined_bytes}
 use Rattle.transcripts.specs.ByteCalls.{observing}
 use Rattle.transcripts.specs.declared.byte_challenger.ByteChallenger
 use Rattle.transcript_elements.specs.Challengers.{state_after, state_of}
-use Rattle.transcript_elements.specs.Lists.{InTurn}
+use Rattle.transcripts.specs.Lists.{InTurn}
 use Rattle.transcript_elements.specs.declared.challenger.BinaryChallenger.{BinaryChallenger}
 
 -- an element is observed: its bytes are, the lowest first

@@ -1,13 +1,7 @@
 pub mod Calls
 pub mod Challengers
-pub mod Digests
-pub mod Grinding
-pub mod Sampled
-pub mod BigEndian
 pub mod Joined
-pub mod Lists
-pub mod Recorders
+pub mod Sampled
 pub mod Seeds
 pub mod StateLemmas
-pub mod States
 pub mod Tags

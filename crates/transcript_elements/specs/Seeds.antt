@@ -3,7 +3,7 @@
 use Rattle.std.specs.Prelude.{◌≡◌, ◌≢◌, ◌<◌, ◌-◌, ◌%◌, ◌^◌, ℕ, List, ◌++◌, length, replicate}
 use Rattle.field_bytes.specs.Bytes.{low_bytes}
 use Rattle.field_bytes.specs.Streams.{joined_bytes}
-use Rattle.transcript_elements.specs.Lists.{InTurn}
+use Rattle.transcripts.specs.Lists.{InTurn}
 
 -- how many bytes are missing to a whole number of elements
 abbrev pub missing : ℕ → ℕ → ℕ

@@ -7,12 +7,8 @@ use Rattle.std.proofs.lemmas.Nat.{mod-pow-add}
 use native.Mathlib.Nat.{mul-suc, mul-zero}
 use Rattle.field_base.specs.Chunks.{chunk, chunks}
 use Rattle.transcripts.specs.ByteCalls.{after, sampling, squeezed_word, Transitions}
+use Rattle.transcripts.specs.StateLemmas.{same_value}
 use Rattle.transcript_elements.specs.Sampled.{SamplesBits, SamplesCoefficients, squeezed_elements}
-
--- two values that one function gives at equal arguments are equal
-pub same_value : {A B : Type 0} (f : A → B) (one other : A) (value another : B) → one ≡ other → value ≡ f one → another ≡ f other
-    → value ≡ another
-same_value f one other value another same is are = is ∙ ap f same ∙ sym are
 
 -- numbers with the same first n digits are equal modulo the power of n digits
 same_low_digits : (width n x y : ℕ) → chunks width n x ≡ chunks width n y → x % 2 ^ (width * n) ≡ y % 2 ^ (width * n)

@@ -3,17 +3,19 @@ ghost use Rattle.std.specs.Prelude.{◌≡◌, ◌<◌, ◌*◌, ◌^◌, ℕ, t
 ghost use Rattle.transcripts.specs.ByteCalls.{after, observing};
 ghost use Rattle.transcripts.specs.GuardedAnswers.{GuardedAnswer};
 ghost use Rattle.transcript_elements.specs.Challengers.{state_after, state_of};
-ghost use Rattle.transcript_elements.specs.Lists.{InTurn};
+ghost use Rattle.transcripts.specs.Lists.{InTurn};
 ghost use Rattle.transcript_elements.specs.Sampled.{coefficient_bytes, SamplesCoefficients};
-ghost use Rattle.transcript_elements.specs.StateLemmas.{same_samples, same_value};
-ghost use Rattle.transcript_elements.specs.States.{GivesByState, LeadsByState};
+ghost use Rattle.transcript_elements.specs.StateLemmas.{same_samples};
+ghost use Rattle.transcripts.specs.StateLemmas.{same_value};
+ghost use Rattle.transcripts.specs.States.{GivesByState, LeadsByState};
 
+use crate::byte_level::ByteLevel;
 use crate::challenger::BinaryChallenger;
-use crate::sample::CanSample;
-use crate::{ByteLevel, CanObserve, CanSampleBits, Transcript};
 use field_base::traits::PrimeCharacteristicRing;
 use field_space::BasedVectorSpace;
-use transcripts::{ByteChallenger, ChallengerError};
+use transcripts::{
+    ByteChallenger, CanObserve, CanSample, CanSampleBits, ChallengerError, Transcript,
+};
 
 /// A transcript that observes and samples elements of the field `F`, and of the algebras over it coefficient by coefficient.
 pub trait FieldChallenger<F: PrimeCharacteristicRing>: CanObserve<F>

@@ -5,7 +5,7 @@ ghost use Rattle.transcripts.specs.declared.error.ChallengerError.TheVariants.{F
 ghost use Rattle.transcript_elements.specs.Calls.{AppendsReplies, byte_calls, IsReplyTo, joined_calls, MayCall, StopsEarly};
 ghost use Rattle.transcript_elements.specs.Challengers.{challenger_failed, challenger_refused, state_after, state_of, StopsWithin};
 
-use crate::ByteLevel;
+use crate::byte_level::ByteLevel;
 use crate::challenger::BinaryChallenger;
 use std::alloc::Allocator;
 use transcripts::{ByteChallenger, ChallengerError};

@@ -3,10 +3,9 @@ ghost use Rattle.std.specs.Prelude.{◌≡◌, [], false, IfOk};
 ghost use Rattle.transcripts.specs.HashChallengers.{hash_state};
 ghost use Rattle.transcript_elements.specs.Challengers.{challenger_failed, challenger_refused, inner_of, state_of};
 
-use crate::Transcript;
 use std::alloc::{AllocError, Allocator};
 use std::marker::PhantomData;
-use transcripts::{ByteChallenger, ByteHasher32, Guarded, HashChallenger};
+use transcripts::{ByteChallenger, ByteHasher32, Guarded, HashChallenger, Transcript};
 
 /// A challenger of the field `F` over a byte challenger. A call that the inner challenger refuses returns `Memory`; from then on
 /// the challenger has failed, every call returns `Failed`, and the inner challenger is not called again.

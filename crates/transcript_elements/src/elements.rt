@@ -1,19 +1,20 @@
 // Elements that are observed and sampled, and bits that are sampled.
-ghost use Rattle.std.specs.Prelude.{◌≡◌, ◌<◌, ◌≤◌, ℕ, false, true, IfOk, OnErr, OnOk};
+ghost use Rattle.std.specs.Prelude.{◌≡◌, ◌<◌, ◌≤◌, false, true, IfOk, OnErr, OnOk};
 ghost use Rattle.transcripts.specs.ByteCalls.{after, observing, sampling, squeezed};
 ghost use Rattle.transcripts.specs.Guarded.{guarded_after, guarded_failed, guarded_refused, guarded_state, RunsPartly};
 ghost use Rattle.transcripts.specs.GuardedAnswers.{GuardedAnswer};
 ghost use Rattle.field_bytes.specs.Bytes.{low_bytes, number_of_bytes};
 ghost use Rattle.transcript_elements.specs.Challengers.{challenger_failed, challenger_refused, state_after, state_of, StopsWithin};
 ghost use Rattle.transcript_elements.specs.Sampled.{SamplesBits, squeezed_element};
-ghost use Rattle.transcript_elements.specs.StateLemmas.{same_bits, same_value};
-ghost use Rattle.transcript_elements.specs.States.{GivesByState};
+ghost use Rattle.transcript_elements.specs.StateLemmas.{same_bits};
+ghost use Rattle.transcripts.specs.StateLemmas.{same_value};
 
-use crate::byte_level::{MOST_BYTES, of_number};
+use crate::byte_level::ByteLevel;
 use crate::challenger::BinaryChallenger;
-use crate::{ByteLevel, CanObserve, Transcript};
-use field_bytes::number_of_low_first;
-use transcripts::{ByteChallenger, ChallengerError, Guarded};
+use field_bytes::{MOST_BYTES, number_of_low_first};
+use transcripts::{
+    ByteChallenger, CanObserve, CanSampleBits, CanSampleUniformBits, ChallengerError, Guarded,
+};
 
 impl<F: ByteLevel, Inner: ByteChallenger> CanObserve<F> for BinaryChallenger<F, Inner> {
     ghost observes = { λ old value new. state_of new ≡ state_after (observing (low_bytes F.NUM_BYTES (F.repr value))) old };
@@ -54,7 +55,7 @@ impl<F: ByteLevel, Inner: ByteChallenger> BinaryChallenger<F, Inner> {
         ensures err { challenger_failed self.old ≡ false → OnErr result (StopsWithin (sampling F.NUM_BYTES) self.old self.new) }
     {
         let number = sample_number(&mut self.guarded, F::NUM_BYTES)?;
-        Ok(of_number(number))
+        Ok(F::of_number(number))
     }
 }
 
@@ -90,24 +91,6 @@ fn sample_number<C: ByteChallenger>(
     Ok(number_of_low_first(read))
 }
 
-/// A transcript from which bits are sampled, as a number of the type `T`. The number and the state after it depend on the state
-/// before alone.
-pub trait CanSampleBits<T>: Transcript {
-    // Whether sampling so many bits may give the number, and lead from the first transcript to the second.
-    ghost gives_bits: { Self → ℕ → T → Self → Type 0 };
-
-    /// Samples a number of `bits` bits, at most 63. It fails with `Memory` if memory was refused, and with `Failed` if an earlier
-    /// call had failed.
-    fn sample_bits(&mut self, bits: usize) -> Result<T, ChallengerError>
-        requires { bits < 64 }
-        ensures ok { IfOk result (λ number. gives_bits self.old bits number self.new) }
-        ensures kept { Self.has_failed self.old ≡ true → self.new ≡ self.old }
-        ensures answer { GuardedAnswer (Self.has_failed self.old) (Self.has_failed self.new) (Self.has_refused self.new) result };
-
-    ghost gives_bits_law: { (bits : ℕ) → GivesByState Self.state
-        (λ (old : Self) (number : T) (new : Self). gives_bits old bits number new) };
-}
-
 impl<F, Inner: ByteChallenger> CanSampleBits<usize> for BinaryChallenger<F, Inner> {
     // Eight bytes are sampled, for 0 bits too, and the number is the low bits of their word.
     ghost gives_bits = { λ old bits number new. SamplesBits Inner.transitions (state_of old) bits number (state_of new) };
@@ -117,21 +100,6 @@ impl<F, Inner: ByteChallenger> CanSampleBits<usize> for BinaryChallenger<F, Inne
 
     fn sample_bits(&mut self, bits: usize) -> Result<usize, ChallengerError> {
         self.sample_low_bits(bits)
-    }
-}
-
-/// A transcript from which bits are sampled such that all numbers are equally likely if all bytes are. Sampled bytes need no
-/// rejection, so this is `sample_bits`.
-pub trait CanSampleUniformBits<F>: CanSampleBits<usize> {
-    /// Samples a number of `bits` bits, at most 63. It fails with `Memory` if memory was refused, and with `Failed` if an earlier
-    /// call had failed.
-    final fn sample_uniform_bits(&mut self, bits: usize) -> Result<usize, ChallengerError>
-        requires { bits < 64 }
-        ensures ok { IfOk result (λ number. Self.gives_bits self.old bits number self.new) }
-        ensures kept { Self.has_failed self.old ≡ true → self.new ≡ self.old }
-        ensures answer { GuardedAnswer (Self.has_failed self.old) (Self.has_failed self.new) (Self.has_refused self.new) result }
-    {
-        self.sample_bits(bits)
     }
 }
 

@@ -3,20 +3,20 @@ ghost use Rattle.std.specs.Prelude.{◌≡◌, ◌*◌, ◌++◌, ◌^◌, ◌<�
 ghost use Rattle.std.specs.Prelude.{List, length, OnErr, OnOk, refl, ℕ, take, Ok};
 ghost use Rattle.std.proofs.Common.{◌∙◌};
 ghost use Rattle.transcripts.specs.GuardedAnswers.{GuardedAnswer};
-ghost use Rattle.transcript_elements.specs.BigEndian.{be_bytes};
+ghost use Rattle.field_bytes.specs.BigEndian.{be_bytes};
 ghost use Rattle.transcript_elements.specs.Seeds.{BeginsSeed, IsPrefixFree, ObservesSeed};
 ghost use Rattle.transcript_elements.specs.Tags.{tag_of};
 
-use crate::byte_level::{ByteLevel, MOST_BYTES, ShortWord};
+use crate::byte_level::ByteLevel;
 use crate::error::TranscriptError;
-use crate::observe::CanObserve;
 use crate::seeds::observe_padded;
 use crate::tag::TypeTag;
 use field_base::LevelKernel;
+use field_bytes::{MOST_BYTES, ShortWord};
 use field_element::{Element, HasPacking};
 use many_words::Many;
 use std::alloc::{AllocError, Allocator};
-use transcripts::ChallengerError;
+use transcripts::{CanObserve, ChallengerError};
 use word_polynomial::Poly64Kernel;
 use word_tower::{Bits8, Bits16, Bits32, Bits64, Bits128, Level, Tower};
 

@@ -1,7 +1,7 @@
 // The bytes of elements that are observed one after the other.
 ghost use Rattle.transcript_elements.specs.Joined.{ElementsJoin};
 
-use crate::ByteLevel;
+use crate::byte_level::ByteLevel;
 use transcripts::ByteChallenger;
 
 /// Computes nothing; its contract is the law that a challenger of a field which observes elements one after the other, as

@@ -1,5 +1,4 @@
-//! Transcripts over elements of binary fields: traits of transcripts, the encodings of elements and of seeds, tags of algebras, a
-//! recorder of what was observed, and the challenger of a field. Every call of the challenger is a list of byte calls of an inner
+//! Transcripts over elements of binary fields: the encodings of elements and of seeds, tags of algebras, and the challenger of a field. Every call of the challenger is a list of byte calls of an inner
 //! challenger, and what it returns depends on the bytes that are sampled alone.
 #![tactic(auto)]
 
@@ -12,24 +11,16 @@ mod elements;
 mod error;
 mod field;
 mod joined;
-mod observe;
-mod recorder;
 mod sample;
 mod seeds;
 mod tag;
 mod witness;
 
 pub use crate::algebra::FieldChallenger;
-pub use crate::byte_level::{ByteLevel, ShortWord};
+pub use crate::byte_level::ByteLevel;
 pub use crate::calls::{Call, Reply, run_calls};
 pub use crate::challenger::BinaryChallenger;
-pub use crate::digest::{Digest, DigestWord, Hash, MerkleCap};
-pub use crate::elements::{CanSampleBits, CanSampleUniformBits};
-pub use crate::error::{GrindError, TranscriptError};
+pub use crate::error::TranscriptError;
 pub use crate::field::{TranscriptField, TranscriptKernel, WholeLevel};
 pub use crate::joined::elements_join;
-pub use crate::observe::{CanObserve, Transcript};
-pub use crate::recorder::Recorder;
-pub use crate::sample::{CanSample, SampleArray};
 pub use crate::tag::TypeTag;
-pub use crate::witness::GrindingChallenger;

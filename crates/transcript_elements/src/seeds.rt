@@ -4,8 +4,7 @@ ghost use Rattle.transcripts.specs.GuardedAnswers.{GuardedAnswer};
 ghost use Rattle.transcript_elements.specs.Seeds.{BeginsPadded, ObservesPadded};
 
 use crate::field::TranscriptField;
-use crate::observe::CanObserve;
-use transcripts::ChallengerError;
+use transcripts::{CanObserve, ChallengerError};
 
 /// Observes bytes as elements, the first bytes in the first element, the first of them its lowest byte; zeros fill the last element.
 /// It fails if the transcript does; the elements before are then observed.

@@ -1,4 +1,6 @@
 pub mod Buffers
 pub mod GuardedLemmas
+pub mod ListLemmas
+pub mod ObservedLists
 pub mod Runs
 pub mod StandardFacts

@@ -1,5 +1,11 @@
 pub mod ByteCalls
+pub mod Digests
+pub mod Grinding
 pub mod Guarded
 pub mod GuardedAnswers
 pub mod HashBuffers
 pub mod HashChallengers
+pub mod Lists
+pub mod Recorders
+pub mod StateLemmas
+pub mod States

@@ -21,7 +21,8 @@ use Rattle.additive_transforms.specs.Words.{level_element}
 use Rattle.word_tables.specs.Cantor.{cantor_vector}
 use Rattle.word_tables.proofs.LevelLaws.{level_cantor}
 use Rattle.additive_transforms.specs.Columns.{column_of}
-use Rattle.additive_transforms.proofs.BasisPolynomials.{polynomial-widen, value-polynomial}
+use Rattle.field_base.proofs.PolynomialProducts.{polynomial-widen}
+use Rattle.additive_transforms.proofs.BasisPolynomials.{value-polynomial}
 use Rattle.additive_transforms.proofs.BlockPoints.{point-joined, point-lt}
 use Rattle.transform_codes.specs.Blocks.{AreDifferences, AreExtended, AreInverted, AreSlopes, HoldLocator, block_locator}
 use Rattle.transform_codes.specs.Columns.{HoldWordValues}

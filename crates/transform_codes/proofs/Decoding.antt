@@ -20,7 +20,8 @@ use Rattle.transform_codes.specs.Derivatives.{derived}
 use Rattle.transform_codes.specs.Located.{LostSymbolsAreLocated, level_point}
 use Rattle.transform_codes.specs.Locators.{locator, lost_count, others_lost}
 use Rattle.additive_transforms.proofs.BlockPoints.{point-lt}
-use Rattle.additive_transforms.proofs.BasisPolynomials.{polynomial-product, polynomial-widen, value-polynomial}
+use Rattle.field_base.proofs.PolynomialProducts.{polynomial-product, polynomial-widen}
+use Rattle.additive_transforms.proofs.BasisPolynomials.{value-polynomial}
 use Rattle.transform_codes.proofs.DerivedValues.{constant, derived_at_root, one-lt}
 use Rattle.transform_codes.proofs.LocatorFacts.{count-without, locator-lt, locator-nonzero, locator-polynomial, locator-root, locator-without, others-own}
 

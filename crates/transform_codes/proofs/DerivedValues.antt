@@ -18,7 +18,8 @@ use Rattle.ghash_slices.specs.Cantor.{polynomial_value, subspace_value}
 use Rattle.ghash_slices.specs.Stages.{factors_at, sum_of_factors}
 use Rattle.ghash_slices.proofs.CantorValues.{subspace_value-sum}
 use Rattle.ghash_slices.proofs.StageSums.{sum_below-xor}
-use Rattle.additive_transforms.proofs.BasisPolynomials.{polynomial-product, polynomial-widen, value-polynomial}
+use Rattle.field_base.proofs.PolynomialProducts.{polynomial-product, polynomial-widen}
+use Rattle.additive_transforms.proofs.BasisPolynomials.{value-polynomial}
 use Rattle.additive_transforms.proofs.CantorSums.{value-halves, value-none, value-same}
 use Rattle.transform_codes.specs.Derivatives.{derived}
 

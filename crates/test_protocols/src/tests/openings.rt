@@ -1,7 +1,8 @@
 // Openings of Merkle trees that a cheating prover changed, and paths to caps. Words are drawn from the seed 20261126.
-ghost use Rattle.transcript_elements.specs.Grinding.{MayGrind};
+ghost use Rattle.transcripts.specs.Grinding.{MayGrind};
 
 use field_base::LevelKernel;
+use field_bytes::ShortWord;
 use field_element::{Element, HasPacking};
 use protocols::ProtocolError;
 use protocols::caps::verify_to_cap;
@@ -10,8 +11,8 @@ use protocols::merkle_tree::MerkleTree;
 use std::alloc::{AllocError, Global};
 use std::test::Fail;
 use test_support::next_word;
-use transcript_elements::{BinaryChallenger, MerkleCap, ShortWord};
-use transcripts::Sha256Hasher;
+use transcript_elements::BinaryChallenger;
+use transcripts::{MerkleCap, Sha256Hasher};
 use word_tower::{Bits64, Tower};
 
 // What is changed between the prover and the verifier.

@@ -1,6 +1,6 @@
 use Rattle.std.proofs.Common.{◌≡◌, ◌+◌, ◌^◌, ℕ, List, length, map, ◌∙◌, ap, subst, rules}
 use Rattle.field_bytes.specs.Streams.{joined_bytes}
-use Rattle.protocols.specs.Commitments.{IsTreeOver, row_at}
+use Rattle.merkle_trees.specs.Commitments.{IsTreeOver, row_at}
 use Rattle.protocols.specs.Tables.{AreExtendedColumns}
 use Rattle.prove_sums.specs.Shapes.{rows_of}
 use Rattle.prove_sums.proofs.Sizes.{matrix-size}

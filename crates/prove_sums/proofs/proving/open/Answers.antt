@@ -1,5 +1,5 @@
 use Rattle.std.proofs.Common.{◌^◌, ◌*◌, ◌++◌, ◌≡◌, ℕ, List, length, sym, ◌∙◌, ap, subst, arith}
-use Rattle.protocols.specs.Openings.{AreAscending}
+use Rattle.merkle_trees.specs.Openings.{AreAscending}
 use Rattle.protocols.specs.Tables.{AreColumnsAt, OpensPlaces}
 use Rattle.prove_sums.specs.Shapes.{rows_of}
 use Rattle.prove_sums.proofs.Sizes.{columns-counted}

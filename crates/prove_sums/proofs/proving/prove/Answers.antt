@@ -1,5 +1,5 @@
 use Rattle.std.proofs.Common.{◌≡◌, ◌++◌, ◌^◌, ℕ, List, length, take, refl, sym, ◌∙◌, ap, subst}
-use Rattle.protocols.specs.Openings.{AreAscending}
+use Rattle.merkle_trees.specs.Openings.{AreAscending}
 use Rattle.prove_sums.specs.Shapes.{block_bits, depth_of, places_of, rows_of}
 use Rattle.protocols.specs.Tables.{AreColumnsAt, OpensPlaces}
 use Rattle.prove_sums.specs.Verdicts.{IsSummed, values_at}

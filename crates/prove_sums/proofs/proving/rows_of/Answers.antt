@@ -2,7 +2,7 @@ use Rattle.std.proofs.Common.{◌^◌, ◌++◌, ℕ, List, length, map, ◌∙�
 use Rattle.std.specs.List.{range_with_len}
 use Rattle.std.proofs.lemmas.List.{map-append}
 use Rattle.field_slices.specs.Multilinear.{multilinear_value}
-use Rattle.protocols.specs.Commitments.{row_at}
+use Rattle.merkle_trees.specs.Commitments.{row_at}
 use Rattle.prove_sums.proofs.Sizes.{columns-held}
 use Rattle.prove_sums.proofs.proving.rows_of.Goals as goal
 

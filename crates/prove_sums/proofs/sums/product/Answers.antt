@@ -1,6 +1,6 @@
 use Rattle.std.proofs.Common.{◌≡◌, ◌<◌, ◌∷◌, [], ◌∙◌, ap, ap₂, arith, subst}
 use Rattle.std.specs.Prelude.{IfSome, Option}
-use Rattle.protocols.specs.Products.{factors_of}
+use Rattle.sum_checks.specs.Products.{factors_of}
 use Rattle.prove_sums.proofs.SumSteps.{one_term, some-unless}
 use Rattle.prove_sums.proofs.sums.product.Goals as goal
 

@@ -1,6 +1,6 @@
 use Rattle.std.proofs.Common.{◌*◌, ℕ, List, length, map, sym, ◌∙◌, ap, subst, arith}
-use Rattle.protocols.specs.Products.{term_product}
-use Rattle.protocols.specs.Terms.{AreWithin, Product}
+use Rattle.sum_checks.specs.Products.{term_product}
+use Rattle.sum_checks.specs.Terms.{AreWithin, Product}
 use Rattle.prove_sums.specs.Verdicts.{interleaved}
 use Rattle.prove_sums.proofs.SumSteps.{product-within, proved-sum, rows-length, run-length, two}
 use Rattle.prove_sums.proofs.sums.prove.Goals as goal

@@ -1,5 +1,5 @@
 use Rattle.std.proofs.Common.{map, ◌∙◌, ap, arith}
-use Rattle.protocols.specs.Products.{term_product}
+use Rattle.sum_checks.specs.Products.{term_product}
 use Rattle.prove_sums.specs.Shapes.{messages_in, sum_in}
 use Rattle.prove_sums.proofs.SumSteps.{number-at, verified-sum}
 use Rattle.prove_sums.proofs.sums.reduce.Goals as goal

@@ -1,5 +1,5 @@
 use Rattle.std.proofs.Common.{map, ◌∙◌, ap, ◌∷◌, [], ◌++◌, List}
-use Rattle.protocols.specs.Products.{term_product}
+use Rattle.sum_checks.specs.Products.{term_product}
 use Rattle.prove_sums.proofs.sums.terms.Goals as goal
 
 pub returns : goal.returns

@@ -1,7 +1,7 @@
 use Rattle.std.proofs.Common.{◌^◌, ℕ, sym, ◌∙◌, ap, subst}
 use Rattle.field_bytes.specs.Streams.{joined_bytes}
 use Rattle.field_element.specs.Element.{repr_of}
-use Rattle.protocols.specs.Commitments.{IsTreeOver, row_at}
+use Rattle.merkle_trees.specs.Commitments.{IsTreeOver, row_at}
 use Rattle.prove_sums.specs.Shapes.{rows_of}
 use Rattle.prove_sums.specs.Verdicts.{HoldsTable, word_times, word_vector}
 use Rattle.prove_sums.proofs.word_sums.commit_table.Goals as goal

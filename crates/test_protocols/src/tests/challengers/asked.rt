@@ -5,11 +5,11 @@ ghost use Rattle.std.specs.Prelude.{◌<◌};
 
 use field_base::Unsigned;
 use std::alloc::{AllocError, Global};
-use transcript_elements::{
-    BinaryChallenger, ByteLevel, CanObserve, CanSampleBits, CanSampleUniformBits, GrindError,
-    GrindingChallenger, Hash, MerkleCap, Transcript,
+use transcript_elements::{BinaryChallenger, ByteLevel};
+use transcripts::{
+    ByteChallenger, CanObserve, CanSampleBits, CanSampleUniformBits, ChallengerError, GrindError,
+    GrindingChallenger, Hash, HashChallenger, MerkleCap, Sha256Hasher, Transcript,
 };
-use transcripts::{ByteChallenger, ChallengerError, HashChallenger, Sha256Hasher};
 
 /// A call, its bits, its operand, and what it returns, elements by their representations. 0 observes the operand, 1 samples an
 /// element, 2 samples bits, 3 checks the operand as a witness and returns 1 where it passes, 4 searches for a witness, and 5

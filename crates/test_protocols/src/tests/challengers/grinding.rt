@@ -2,8 +2,8 @@
 use std::alloc::Global;
 use std::fmt::Display;
 use test_support::is_text;
-use transcript_elements::{GrindError, TranscriptError};
-use transcripts::ChallengerError;
+use transcript_elements::TranscriptError;
+use transcripts::{ChallengerError, GrindError};
 
 /// An initial state as eight bytes from the lowest, the least witness of eight bits at `BinaryField16`, and the element that is
 /// sampled after it, by the Rust crate p3-binary-field 0.8.0. The states were drawn by splitmix64 from the seed 7.

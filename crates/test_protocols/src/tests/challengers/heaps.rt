@@ -12,8 +12,8 @@ use linked_list_allocator::LocalHeap;
 use std::alloc::{AllocError, Allocator, Global};
 use std::marker::PhantomData;
 use test_support::{Ending, Growing, Rest, fill_bytes, is_refused_in_turn, next_number};
-use transcript_elements::{BinaryChallenger, ByteLevel, Recorder, TranscriptField};
-use transcripts::{ChallengerError, HashChallenger, Sha256Hasher};
+use transcript_elements::{BinaryChallenger, ByteLevel, TranscriptField};
+use transcripts::{ChallengerError, HashChallenger, Recorder, Sha256Hasher};
 
 /// A challenger over SHA-256 in a heap.
 pub(crate) type InHeap<'a, F> = BinaryChallenger<F, HashChallenger<Sha256Hasher, &'a LocalHeap>>;

@@ -1,6 +1,6 @@
 // Digests and caps to JSON and back: a digest is the array of its words, and one of another number of words is refused.
 use std::alloc::Global;
-use transcript_elements::{Hash, MerkleCap};
+use transcripts::{Hash, MerkleCap};
 
 // What digests are of.
 struct Tree;

@@ -1,7 +1,8 @@
 // Seeds as elements, and elements as bytes. `decode` of fewer bytes than an element's gives `Short` with both counts.
 use super::asked::{are, element, number_of};
 use std::alloc::Global;
-use transcript_elements::{Recorder, TranscriptError, TranscriptField};
+use transcript_elements::{TranscriptError, TranscriptField};
+use transcripts::Recorder;
 
 /// Whether these elements are observed of a seed, by their representations.
 pub(crate) fn seed_is<F: TranscriptField>(alloc: Global, seed: &[u8], wanted: &[u128]) -> bool {

@@ -12,9 +12,10 @@ use super::partners::{
 use super::scripts::SCRIPTS;
 use super::seeds::{bytes_are, is_read, seed_is, too_few_bytes_are_refused};
 use super::vectors::vectors_are_taken;
+use field_bytes::ShortWord;
 use field_element::{Element, Poly64, Poly192};
 use std::alloc::Global;
-use transcript_elements::{ShortWord, TranscriptField, TranscriptKernel};
+use transcript_elements::{TranscriptField, TranscriptKernel};
 use word_tower::{Bits8, Bits16, Bits32, Bits128, Tower};
 
 /// A trial of a field. Elements stand by their representations.

@@ -12,8 +12,8 @@ use std::alloc::{AllocError, Global};
 use std::cell::Cell;
 use std::marker::PhantomData;
 use test_support::{Copies, Double, Ending, Growing, Rest, Seen, is_refused_in_turn};
-use transcript_elements::{BinaryChallenger, ByteLevel, CanSample, FieldChallenger};
-use transcripts::{ByteChallenger, ChallengerError, Sha256Hasher};
+use transcript_elements::{BinaryChallenger, ByteLevel, FieldChallenger};
+use transcripts::{ByteChallenger, CanSample, ChallengerError, Sha256Hasher};
 
 /// A challenger of a field that is asked for elements of an extension. To the rows of `asked` come 20, which samples an element of
 /// the extension by `sample` and returns the coefficient in the place of the bits, 21, which does so by `sample_algebra_element`, and

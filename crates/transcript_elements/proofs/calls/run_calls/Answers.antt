@@ -2,7 +2,8 @@ use Rattle.std.proofs.Common.{◌≡◌, ◌++◌, ◌∷◌, [], ◌∙◌, ◌
 use Rattle.transcripts.specs.ByteCalls.{IsPartlyRun}
 use Rattle.transcript_elements.specs.Calls.{byte_calls, call_sayings, AppendsSayings, StopsAtCall}
 use Rattle.transcript_elements.specs.Challengers.{inner_of, state_of}
-use Rattle.transcript_elements.proofs.CallLists.{call_apart, called_next, has_room, nothing_called, nothing_replied, on_err, replied_next, room_left}
+use Rattle.transcript_elements.proofs.CallLists.{call_apart, called_next, has_room, nothing_called, nothing_replied, replied_next, room_left}
+use Rattle.transcripts.proofs.GuardedLemmas.{on_err}
 use Rattle.transcript_elements.proofs.calls.run_calls.Goals as goal
 
 pub calls-init : goal.calls-init

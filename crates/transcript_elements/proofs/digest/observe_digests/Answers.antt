@@ -3,7 +3,7 @@ use Rattle.std.proofs.lemmas.List.{take_all}
 use Rattle.std.specs.List.{flat_map}
 use Rattle.transcripts.specs.ByteCalls.{observing}
 use Rattle.transcripts.specs.Guarded.{guarded_after, guarded_state}
-use Rattle.transcript_elements.proofs.ManyCalls.{none_observed, one_more_observed}
+use Rattle.transcripts.proofs.ObservedLists.{none_observed, one_more_observed}
 use Rattle.transcript_elements.proofs.digest.observe_digests.Goals as goal
 
 pub digests-init : goal.digests-init

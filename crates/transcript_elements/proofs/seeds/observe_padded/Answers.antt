@@ -2,7 +2,7 @@
 use Rattle.std.proofs.Common.{◌≡◌, ◌<◌, ◌%◌, ◌^◌, ◌∙◌, ℕ, ap, arith, get_or, length, min, subst, sym}
 use Rattle.std.proofs.lemmas.Bool.{false≢true}
 use Rattle.field_bytes.specs.Bytes.{number_of_bytes}
-use Rattle.transcript_elements.proofs.CallLists.{on_err}
+use Rattle.transcripts.proofs.GuardedLemmas.{on_err}
 use Rattle.transcript_elements.proofs.SeedLemmas.{absorbed_all, absorbed_more, absorbed_none, absorbed_part, Absorbed, fits-drop}
 use Rattle.transcript_elements.proofs.seeds.observe_padded.Goals as goal
 

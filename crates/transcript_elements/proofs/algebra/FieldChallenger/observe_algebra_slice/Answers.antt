@@ -1,7 +1,7 @@
 use Rattle.std.proofs.Common.{◌∙◌, subst, sym}
 use Rattle.std.proofs.lemmas.List.{take_all}
-use Rattle.transcript_elements.specs.Lists.{InTurn}
-use Rattle.transcript_elements.proofs.ListLemmas.{next_in_turn, none_in_turn}
+use Rattle.transcripts.specs.Lists.{InTurn}
+use Rattle.transcripts.proofs.ListLemmas.{next_in_turn, none_in_turn}
 use Rattle.transcript_elements.proofs.algebra.FieldChallenger.observe_algebra_slice.Goals as goal
 
 pub elements-init : goal.elements-init

@@ -1,5 +1,5 @@
 use Rattle.std.proofs.Common.{◌≡◌, false, take}
-use Rattle.transcript_elements.specs.Lists.{InTurn}
+use Rattle.transcripts.specs.Lists.{InTurn}
 use Rattle.transcript_elements.proofs.algebra.FieldChallenger.observe_algebra_slice.Given as goal
 
 -- the elements before the index were observed, and nothing has failed

@@ -1,5 +1,5 @@
 use Rattle.std.proofs.Common.{◌<◌, arith}
-use Rattle.transcript_elements.specs.Grinding.{candidate_count}
+use Rattle.transcripts.specs.Grinding.{candidate_count}
 use Rattle.transcript_elements.proofs.Candidates.{candidate_lt}
 use Rattle.transcript_elements.proofs.challenger.BinaryChallenger.first_passing.Goals as goal
 

@@ -1,4 +1,4 @@
-use Rattle.transcript_elements.specs.Grinding.{NonePasses}
+use Rattle.transcripts.specs.Grinding.{NonePasses}
 use Rattle.transcript_elements.specs.Sampled.{challenger_passes}
 use Rattle.transcript_elements.proofs.challenger.BinaryChallenger.first_passing.Given as goal
 

@@ -1,7 +1,7 @@
 use Rattle.std.proofs.Common.{◌∙◌, ap, arith, length, Ok}
 use Rattle.std.proofs.lemmas.List.{length-append}
-use Rattle.transcript_elements.specs.BigEndian.{be_bytes}
-use Rattle.transcript_elements.proofs.LowBytes.{be-begins, decoded, length-be, same_number}
+use Rattle.field_bytes.specs.BigEndian.{be_bytes}
+use Rattle.field_bytes.proofs.LowBytes.{be-begins, decoded, length-be, same_number}
 use Rattle.transcript_elements.proofs.field.TranscriptField.decode.Goals as goal
 
 pub returns-then-bytes-NUM_BYTES-clause-encoded : goal.returns-then-bytes-NUM_BYTES-clause-encoded

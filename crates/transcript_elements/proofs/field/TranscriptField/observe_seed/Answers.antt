@@ -1,8 +1,8 @@
 -- The length and the bytes of a seed, one after the other.
 use Rattle.std.proofs.Common.{◌∙◌, [], arith, length, refl}
 use Rattle.field_bytes.proofs.WordBytes.{eight_bytes}
-use Rattle.transcript_elements.proofs.CallLists.{on_err}
-use Rattle.transcript_elements.proofs.ListLemmas.{none_in_turn}
+use Rattle.transcripts.proofs.GuardedLemmas.{on_err}
+use Rattle.transcripts.proofs.ListLemmas.{none_in_turn}
 use Rattle.transcript_elements.proofs.SeedLemmas.{neither_begins, on_err-with, on_ok-with, seed_is_long, seed_observed, seed_part_of_both, seed_part_of_first}
 use Rattle.transcript_elements.proofs.field.TranscriptField.observe_seed.Goals as goal
 

@@ -1,0 +1,11 @@
+mod Binding
+mod CapPaths
+mod OpenedLeaves
+mod OpeningPaths
+mod OpeningTrees
+mod OpeningTurns
+mod Outcomes
+mod PathChecks
+mod Paths
+mod Roots
+mod Statements

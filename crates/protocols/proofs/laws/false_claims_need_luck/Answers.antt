@@ -1,5 +1,0 @@
-use Rattle.protocols.proofs.Soundness.{false_claims_need_luck}
-use Rattle.protocols.proofs.laws.false_claims_need_luck.Goals as goal
-
-pub returns : goal.returns
-returns c = false_claims_need_luck

@@ -1,5 +1,0 @@
-use Rattle.protocols.proofs.ZeroChecks.{lines_have_one_root}
-use Rattle.protocols.proofs.laws.lines_have_one_root.Goals as goal
-
-pub returns : goal.returns
-returns c = lines_have_one_root

@@ -1,5 +1,0 @@
-use Rattle.protocols.proofs.ZeroChecks.{zero_check_evaluates}
-use Rattle.protocols.proofs.laws.zero_check_evaluates.Goals as goal
-
-pub returns : goal.returns
-returns c = zero_check_evaluates

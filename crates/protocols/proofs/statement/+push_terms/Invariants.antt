@@ -1,5 +1,0 @@
-use Rattle.std.proofs.Common.{length}
-use Rattle.protocols.proofs.statement.+push_terms.Given as goal
-
-abbrev pub decreases-push_terms : goal.decreases-push_terms
-decreases-push_terms g l = length l.terms.now

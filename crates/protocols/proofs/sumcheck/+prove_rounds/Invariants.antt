@@ -1,4 +1,0 @@
-use Rattle.protocols.proofs.sumcheck.+prove_rounds.Given as goal
-
-abbrev pub decreases-prove_rounds : goal.decreases-prove_rounds
-decreases-prove_rounds g l = l.rounds

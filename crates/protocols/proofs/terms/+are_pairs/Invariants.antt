@@ -1,5 +1,0 @@
-use Rattle.std.proofs.Common.{length}
-use Rattle.protocols.proofs.terms.+are_pairs.Given as goal
-
-abbrev pub decreases-are_pairs : goal.decreases-are_pairs
-decreases-are_pairs g l = length l.terms.now

@@ -1,5 +1,0 @@
-use Rattle.std.proofs.Common.{length}
-use Rattle.protocols.proofs.terms.+are_within.Given as goal
-
-abbrev pub decreases-are_within : goal.decreases-are_within
-decreases-are_within g l = length l.terms.now

@@ -1,5 +1,0 @@
-use Rattle.std.proofs.Common.{length}
-use Rattle.protocols.proofs.terms.+degree.Given as goal
-
-abbrev pub decreases-degree : goal.decreases-degree
-decreases-degree g l = length l.terms.now

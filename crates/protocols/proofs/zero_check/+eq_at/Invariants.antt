@@ -1,5 +1,0 @@
-use Rattle.std.proofs.Common.{length}
-use Rattle.protocols.proofs.zero_check.+eq_at.Given as goal
-
-abbrev pub decreases-eq_at : goal.decreases-eq_at
-decreases-eq_at g l = length l.point.now

@@ -1,0 +1,13 @@
+mod BlockSums
+mod ColumnSteps
+mod Refusals
+mod RoundValues
+pub mod Rows
+mod Soundness
+mod SumcheckStatements
+mod SumcheckSteps
+mod SumcheckWhole
+mod TermSteps
+mod ZeroChecks
+mod ZeroRuns
+mod ZeroSums

@@ -1,0 +1,24 @@
+use Rattle.std.proofs.Common.{◌<◌, ℕ, length, map, sym, ◌∙◌, arith}
+use Rattle.std.specs.List.{range_with_len}
+use Rattle.sum_checks.specs.Terms.{row_entry}
+use Rattle.field_base.proofs.Written.{written_step}
+use Rattle.sum_checks.proofs.ColumnSteps.{listed-at, row_entry-read}
+use Rattle.sum_checks.proofs.columns.put_column.Goals as goal
+
+pub loop-row-preserved : goal.loop-row-preserved
+loop-row-preserved g c =
+    let repr = g.F.Represented.repr in
+    let entry = λ (i : ℕ). row_entry c.args.count (map repr c.args.rows.now) i c.args.place in
+    let size = length c.args.column.now in
+    let row = c.loop-row.row in
+    let below : row < size = omega arith in
+    written_step repr (map entry (range_with_len 0 size)) c.args.column.now c.loop-row.column row c.index-rows-row.result (omega arith)
+    (row_entry-read repr c.args.rows.now c.args.count size row c.args.place c.index-rows-row.result c.requires.size below c.requires.inside
+    c.index-rows-row.is
+    ∙ sym (listed-at entry size row below))
+    c.loop-row.invariant
+
+pub returns : goal.returns
+returns g c i below =
+    c.loop-row.invariant.done i (omega (arith, below))
+    ∙ listed-at (λ (k : ℕ). row_entry c.args.count (map g.F.Represented.repr c.args.rows.now) k c.args.place) (length c.args.column.now) i below

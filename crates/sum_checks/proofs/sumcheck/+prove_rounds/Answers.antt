@@ -1,0 +1,55 @@
+use Rattle.std.proofs.Common.{◌≡◌, ℕ, ◌/◌, ◌-◌, ◌<◌, length, map, take, sym, ◌∙◌, ap, arith, rules}
+use Rattle.sum_checks.specs.Products.{term_product}
+use Rattle.sum_checks.specs.Terms.{degree_of}
+use Rattle.sum_checks.proofs.SumcheckSteps.{cube-even, cube-more, half-size, honest-long, proved-more, proved-none}
+use Rattle.sum_checks.proofs.TermSteps.{degree-some}
+use Rattle.sum_checks.proofs.sumcheck.+prove_rounds.Goals as goal
+
+pub returns-then-rounds-eq0-clause-run : goal.returns-then-rounds-eq0-clause-run
+returns-then-rounds-eq0-clause-run g t c =
+    let repr = g.F.Represented.repr in
+    let terms = map (term_product repr) c.args.terms.now in
+    proved-none g.C.CanObserve.observes g.C.CanSample.gives g.F.Represented.width g.F.Represented.product repr (degree_of terms) terms c.args.count
+    c.args.challenger.now c.args.rounds c.args.values.now c.args.proven.now.messages.items c.args.proven.now.point.items
+    c.in_ok-left.left.items c.if-rounds-eq0.true c.in_ok-left.ensures.items
+
+pub message-requires-clause-size : goal.message-requires-clause-size
+message-requires-clause-size g t c =
+    let some : 0 < c.args.rounds = omega arith in
+    cube-more (length c.args.values.now) c.args.rounds c.args.count some c.requires.size
+
+pub fold-requires : goal.fold-requires
+fold-requires g t c =
+    let some : 0 < c.args.rounds = omega arith in
+    cube-even (length c.args.values.now) (c.args.rounds - 1) c.args.count
+    (cube-more (length c.args.values.now) c.args.rounds c.args.count some c.requires.size)
+
+pub returns-clause-run : goal.returns-clause-run
+returns-clause-run g t c =
+    let repr = g.F.Represented.repr in
+    let times = g.F.Represented.product in
+    let terms = map (term_product repr) c.args.terms.now in
+    let sent = c.as_slice-sent.result.now in
+    let some : 0 < c.args.rounds = omega arith in
+    let same : length c.fold.new.values ≡ length c.args.values.now = omega arith in
+    let honest = ap (map repr) c.as_slice-sent.ensures.value ∙ c.in_ok-message.ensures.honest in
+    proved-more g.C.CanObserve.observes g.C.CanSample.gives g.F.Represented.width times repr (degree_of terms) terms c.args.count
+    c.args.challenger.now c.observe_slice.new.self c.sample.new.self c.prove_rounds.new.challenger c.args.rounds (map repr c.args.values.now) _
+    sent c.args.proven.now.messages.items c.extend_from_slice.new.self.items c.prove_rounds.new.proven.messages.items
+    c.args.proven.now.point.items c.push.new.self.items c.prove_rounds.new.proven.point.items c.prove_rounds.new.proven.values.items
+    c.in_ok-challenge.challenge some
+    (honest-long repr times terms c.args.count _ (degree_of terms) (map repr c.args.values.now) sent (degree-some terms) honest)
+    honest c.in_ok-observe_slice.ensures.ok c.in_ok-challenge.ensures.ok c.in_ok-extend_from_slice.ensures.items c.in_ok-push.ensures.items
+    (ap (λ (n : ℕ). map repr (take (n / 2) c.fold.new.values)) same ∙ c.fold.ensures.folded) c.in_ok-prove_rounds.ensures.run
+
+pub prove_rounds-requires : goal.prove_rounds-requires
+prove_rounds-requires g t c =
+    let some : 0 < c.args.rounds = omega arith in
+    let same : length c.fold.new.values ≡ length c.args.values.now = omega arith in
+    let half =
+    half-size c.fold.new.values (length c.fold.new.values) (length c.args.values.now) c.args.rounds c.args.count some c.requires.size same same in
+    let room =
+    half-size c.message.new.scratch (length c.fold.new.values) (length c.args.values.now) c.args.rounds c.args.count some c.requires.size same
+    (c.message.ensures.room ∙ c.requires.room) in
+    let both = room ∙ sym half in
+    search rules
