@@ -9,6 +9,7 @@ use Rattle.std.proofs.lemmas.Simd.{length-zip2}
 use Rattle.ghash_slices.specs.LowStages.{ghash_product}
 use Rattle.ghash_slices.specs.Stages.{add_multiple}
 use Rattle.additive_transforms.specs.Stages.{IsButterfly, TakesBlock, TakesSlices}
+pub use Rattle.additive_transforms.specs.Pairs.{PairsSoFar, taken_pair}
 use Rattle.additive_transforms.proofs.Butterflies.{read_both, read_lower, read_upper, taken_back, taken_on}
 use Rattle.field_base.proofs.RingLemmas.{xor_back}
 
@@ -24,18 +25,6 @@ inverse_of times s x y x' y' = (y' ≡ bit_xor y x) × (x' ≡ add_multiple time
 abbrev pub one_of : Bool → (ℕ → ℕ → ℕ) → ℕ → ℕ → ℕ → ℕ → ℕ → Type 0
 one_of false = forward_of
 one_of true = inverse_of
-
--- the same where a pair is a block of two places
-abbrev pub taken_pair : Bool → (ℕ → ℕ → ℕ) → ℕ → ℕ → ℕ → ℕ → ℕ → Type 0
-taken_pair inverse times s x y x' y' = TakesBlock inverse times s 1 (slice_index (x ∷ y ∷ [])) (slice_index (x' ∷ y' ∷ []))
-
--- the pairs before place n are done, and those from it on are as they were
-pub record PairsSoFar (pair : ℕ → ℕ → ℕ → ℕ → Type 0) (n : ℕ) (lo hi lo' hi' : List ℕ) : Type 0 where
-  pub low_length : length lo' ≡ length lo
-  pub high_length : length hi' ≡ length hi
-  pub done : (p : ℕ) → p < n → pair (slice_index lo p) (slice_index hi p) (slice_index lo' p) (slice_index hi' p)
-  pub low_rest : (p : ℕ) → n ≤ p → slice_index lo' p ≡ slice_index lo p
-  pub high_rest : (p : ℕ) → n ≤ p → slice_index hi' p ≡ slice_index hi p
 
 -- before the first pair nothing is done
 pub pairs_start : (pair : ℕ → ℕ → ℕ → ℕ → Type 0) (lo hi : List ℕ) → PairsSoFar pair 0 lo hi lo hi

@@ -2,11 +2,13 @@ pub mod ChunkLemmas
 pub mod Chunks
 pub mod Columns
 pub mod Elements
+pub mod Halves
 pub mod ImageLemmas
 pub mod Images
 pub mod LaneLemmas
 pub mod LevelVectors
 pub mod PairLemmas
+pub mod Pairs
 pub mod Products
 pub mod Rows
 pub mod Stages

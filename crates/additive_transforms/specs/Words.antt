@@ -1,7 +1,7 @@
 -- Words that hold elements of a level of the tower, and pairs of them that are computed place by place.
 use Rattle.std.specs.Prelude.{ℕ, ◌%◌, ◌^◌, Bool, List, ◌++◌, length, map, slice_index}
 use Rattle.additive_transforms.specs.Stages.{TakesBlock}
-use Rattle.additive_transforms.proofs.PairLoops.{PairsSoFar, taken_pair}
+use Rattle.additive_transforms.specs.Pairs.{PairsSoFar, taken_pair}
 use Rattle.field_base.specs.Tower.{tower_mul}
 -- the Cantor vectors, which all levels have in common
 pub use Rattle.word_tables.specs.Cantor.{cantor_vector}

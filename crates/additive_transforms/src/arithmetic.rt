@@ -8,7 +8,7 @@ ghost use Rattle.ghash_slices.specs.Cantor.{subspace_value};
 ghost use Rattle.additive_transforms.specs.LevelVectors.{level_vectors};
 ghost use Rattle.additive_transforms.specs.Words.{TakesWords, cantor_vector, level_element};
 
-use crate::StageArithmetic;
+use crate::elements::arithmetic::StageArithmetic;
 use crate::level_pairs::run_all;
 use crate::multiples::{multiples_8, multiples_16, multiples_32};
 use crate::products::{ChunkScalar, WholeScalar};

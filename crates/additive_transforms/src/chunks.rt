@@ -5,7 +5,8 @@ ghost use Rattle.additive_transforms.specs.Stages.{TakesBlock};
 ghost use Rattle.field_base.specs.Tower.{tower_mul};
 ghost use Rattle.additive_transforms.specs.ChunkLemmas.{no_halves, one_half, two_halves};
 ghost use Rattle.additive_transforms.specs.Chunks.{AreExchanged, AreHalfTimes, AreMerged, AreRegrouped, AreTimes, TakesChunks, chunk_of};
-ghost use Rattle.additive_transforms.specs.Products.{AreMultiples, AreMultiplesOfHalves};
+ghost use Rattle.additive_transforms.specs.Halves.{are_of_halves};
+ghost use Rattle.additive_transforms.specs.Products.{AreMultiples};
 ghost use Rattle.additive_transforms.specs.Rows.{level_of};
 
 use crate::multiples::{ByteMultiples, HalfMultiples};
@@ -15,7 +16,7 @@ use word_carryless::{bytes_of_128, number_of_bytes};
 use word_tables::{ByteVector, entry_sums};
 
 /// The multiples of a scalar of 8, 16 or 32 bits, by which all elements of so many bits in a vector are multiplied at once.
-pub trait Scales {
+pub(crate) trait Scales {
     // The elements have 2 to the power of so many bytes.
     ghost depth: { ℕ };
 
@@ -35,7 +36,7 @@ pub trait Scales {
 }
 
 /// The multiples of scalars whose elements stand in pairs, as the halves of wider ones.
-pub trait Paired: Scales {
+pub(crate) trait Paired: Scales {
     /// The two elements of each pair exchanged.
     fn exchanged<V: ChunkVector>(bytes: V) -> V
         ensures { AreExchanged Self.Scales.depth (V.ByteVector.bytes bytes) (V.ByteVector.bytes result) };
@@ -97,7 +98,7 @@ impl Paired for HalfMultiples<ByteMultiples> {
 impl<M: Paired> Scales for HalfMultiples<M> {
     ghost depth = { suc M.Scales.depth };
 
-    ghost are_multiples = { AreMultiplesOfHalves (level_of M.Scales.depth) M.Scales.are_multiples };
+    ghost are_multiples = { are_of_halves M.Scales.depth M.Scales.are_multiples };
 
     // (s0 + s1 X) (a0 + a1 X), where q = s1 (a0 + a1), is q + (s0 + s1) a0 and q + (s0 + s1 + t s1) a1.
     #[inline(always)]
@@ -126,7 +127,7 @@ impl<M: Paired> Scales for HalfMultiples<M> {
 // The products of elements whose low halves are those of one vector and whose high halves those of another.
 #[inline(always)]
 fn half_products<M: Paired, V: ChunkVector>(multiples: &HalfMultiples<M>, low: V, high: V) -> (V, V)
-    ensures { (s : ℕ) → AreMultiplesOfHalves (level_of M.Scales.depth) M.Scales.are_multiples multiples.now s
+    ensures { (s : ℕ) → are_of_halves M.Scales.depth M.Scales.are_multiples multiples.now s
         → AreHalfTimes M.Scales.depth s (V.ByteVector.bytes low) (V.ByteVector.bytes high) (V.ByteVector.bytes result.0)
         (V.ByteVector.bytes result.1) }
 {
@@ -151,19 +152,8 @@ fn transposed<M: Paired, V: ChunkVector>(first: V, second: V) -> (V, V)
     (low, M::merged(M::exchanged(first), second))
 }
 
-/// The product by the scalar of a number of 128 bits, an element of the level of so many.
-#[inline(always)]
-pub fn times_number<M: Scales>(multiples: &M, x: u128) -> u128
-    ensures { (s : ℕ) → M.are_multiples multiples.now s → s < 2 ^ 2 ^ level_of M.depth → result ≡ tower_mul 7 s x }
-{
-    let bytes = bytes_of_128(x);
-    bytes.holds_bytes();
-    let products = multiples.times(bytes);
-    products.holds_bytes();
-    number_of_bytes(products)
-}
-
-/// The forward butterfly of two such numbers, `lo += s * hi` and then `hi += lo`, or, where `inverse` is true, the inverse one.
+/// The forward butterfly of two numbers of 128 bits, elements of the level of so many, `lo += s * hi` and then `hi += lo`, or, where
+/// `inverse` is true, the inverse one.
 #[inline(always)]
 pub(crate) fn pair_of_numbers<M: Scales>(
     multiples: &M,

@@ -7,8 +7,8 @@ ghost use Rattle.additive_transforms.specs.Words.{level_element};
 ghost use Rattle.word_tables.specs.Cantor.{cantor_vector};
 
 use crate::arithmetic::OfLevel;
+use crate::elements::columns::{forward_columns_by, inverse_columns_by};
 use crate::word_bytes::WordBytes;
-use crate::{forward_columns_by, inverse_columns_by};
 use field_base::Unsigned;
 use word_tower::Level;
 

@@ -3,10 +3,11 @@ ghost use Rattle.std.specs.Prelude.{◌≡◌, ◌↔◌, ℕ, ◌^◌, ◌<◌,
 ghost use Rattle.additive_transforms.specs.Transform.{AreOnlyCoefficients, CountsPairs, FitsTransform, HasStages, HoldPolynomialValues};
 ghost use Rattle.additive_transforms.specs.Images.{IsWideShift};
 
+use crate::elements::whole::{forward_by, inverse_by};
 use crate::images::{OfImages, change_basis};
 use crate::whole::{forward_words, inverse_words};
-use crate::{PolyKernel, forward_by, forward_with, half_of, inverse_by, stages_of};
-use field_base::Holds;
+use crate::{PolyKernel, forward_with, half_of, stages_of};
+use field_base::{Holds, Stored};
 use ghash_slices::Width;
 use std::alloc::{AllocError, Allocator};
 use std::simd::prelude::*;
@@ -34,15 +35,35 @@ pub fn forward<A: Allocator>(
 {
     if is_narrow(to_tower_128(z)) {
         *products += pairs_of(values.len());
-        transform_ghash::<u64x2, u128>(values, z, false);
+        transform_numbers(values, z, false);
         return Ok(());
     }
     let mut kernel = PolyKernel {
         products: *products,
     };
-    forward_with(alloc, &mut kernel, values, z)?;
+    forward_polynomials(alloc, &mut kernel, values, z)?;
     *products = kernel.products;
     Ok(())
+}
+
+// The transform by products of polynomials, over the numbers themselves.
+fn forward_polynomials<A: Allocator>(
+    alloc: A,
+    kernel: &mut PolyKernel,
+    values: &mut [u128],
+    z: u128,
+) -> Result<(), AllocError>
+    requires { FitsTransform (length values.old) kernel.old.products }
+    ensures length { length values.new ≡ length values.old }
+    ensures values { IfOk result (λ _. HoldPolynomialValues z values.old values.new) }
+    ensures count { IfOk result (λ _. CountsPairs (length values.old) kernel.old.products kernel.new.products) }
+    ensures refused { IfErr result (λ _. (values.new ≡ values.old) × (kernel.new ≡ kernel.old)) }
+    ensures large { IfErr result (λ _. 16 ≤ length values.old) }
+{
+    u128::words_fit(values);
+    let done = forward_with(alloc, kernel, values, z);
+    u128::words_fit(values);
+    done
 }
 
 /// Replaces the values at the points by the coefficients of their polynomial, of which there is one list: with the same `z` it
@@ -54,7 +75,7 @@ pub fn inverse(values: &mut [u128], z: u128, products: &mut u64)
     ensures count { CountsPairs (length values.old) products.old products.new }
 {
     *products += pairs_of(values.len());
-    transform_ghash::<u64x2, u128>(values, z, true);
+    transform_numbers(values, z, true);
 }
 
 /// The transform `forward` without a count. The length of `values` has to be 2^m for an m from 0 to 40. Where `alloc` refuses the
@@ -87,6 +108,16 @@ pub fn inverse_numbers(values: &mut [u128], z: u128)
 {
     let mut products = 0;
     inverse(values, z, &mut products);
+}
+
+// The transform `transform_ghash` of numbers themselves.
+fn transform_numbers(values: &mut [u128], z: u128, is_inverse: bool)
+    requires { (m : ℕ) × HasStages m (length values.old) }
+    ensures length { length values.new ≡ length values.old }
+    ensures values { ¬ IsTrue is_inverse → HoldPolynomialValues z values.old values.new }
+    ensures coefficients { IsTrue is_inverse → AreOnlyCoefficients z values.old values.new }
+{
+    transform_ghash::<u64x2, u128>(values, z, is_inverse);
 }
 
 /// The transform `forward` of words that hold numbers, where they lie, without a count, or, where `is_inverse` is true, the transform

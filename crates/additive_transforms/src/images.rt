@@ -5,8 +5,8 @@ ghost use Rattle.ghash_slices.specs.LowStages.{ghash_cantor_vector, ghash_produc
 ghost use Rattle.additive_transforms.specs.ImageLemmas.{ghash_ring_laws, ghash_vector_laws, image_fits};
 ghost use Rattle.additive_transforms.specs.Images.{after_change, before_change, tower_image};
 
-use crate::StageArithmetic;
 use crate::arithmetic::{run_block, shift_of};
+use crate::elements::arithmetic::StageArithmetic;
 use field_base::Holds;
 use ghash_slices::{number_at, put_number};
 use std::marker::PhantomData;

@@ -6,8 +6,8 @@ ghost use Rattle.field_base.specs.Tower.{tower_mul};
 ghost use Rattle.additive_transforms.specs.Words.{cantor_vector, level_element};
 
 use crate::arithmetic::OfLevel;
+use crate::elements::whole::{forward_by, inverse_by};
 use crate::word_bytes::WordBytes;
-use crate::{forward_by, inverse_by};
 use field_base::Unsigned;
 use word_tower::Level;
 

@@ -3,7 +3,8 @@
 ghost use Rattle.std.specs.Prelude.{◌≡◌, ℕ, ◌+◌, ◌*◌, ◌<◌, ◌≤◌, length, slice_index};
 ghost use Rattle.std.specs.Simd.Lanes.{chunk};
 ghost use Rattle.field_base.specs.Tower.{root, tower_mul};
-ghost use Rattle.additive_transforms.specs.Products.{AreMultiples, AreMultiplesOfHalves};
+ghost use Rattle.additive_transforms.specs.Halves.{are_of_halves};
+ghost use Rattle.additive_transforms.specs.Products.{AreMultiples};
 
 mod literals;
 
@@ -29,7 +30,7 @@ pub struct HalfMultiples<M> {
 
 /// The multiples of a byte.
 #[inline]
-pub fn multiples_8(scalar: u8) -> ByteMultiples
+pub(crate) fn multiples_8(scalar: u8) -> ByteMultiples
     ensures { AreMultiples result scalar }
 {
     let start = 32 * scalar as usize;
@@ -41,16 +42,16 @@ pub fn multiples_8(scalar: u8) -> ByteMultiples
 
 /// The multiples of a scalar of 16 bits.
 #[inline]
-pub fn multiples_16(scalar: u16) -> HalfMultiples<ByteMultiples>
-    ensures { AreMultiplesOfHalves 3 AreMultiples result scalar }
+pub(crate) fn multiples_16(scalar: u16) -> HalfMultiples<ByteMultiples>
+    ensures { are_of_halves 0 AreMultiples result scalar }
 {
     <Pair<u8x16> as PlaneScalars<_>>::multiples(u128::from(scalar), 16)
 }
 
 /// The multiples of a scalar of 32 bits.
 #[inline]
-pub fn multiples_32(scalar: u32) -> HalfMultiples<HalfMultiples<ByteMultiples>>
-    ensures { AreMultiplesOfHalves 4 (AreMultiplesOfHalves 3 AreMultiples) result scalar }
+pub(crate) fn multiples_32(scalar: u32) -> HalfMultiples<HalfMultiples<ByteMultiples>>
+    ensures { are_of_halves 1 (are_of_halves 0 AreMultiples) result scalar }
 {
     <Pair<Pair<u8x16>> as PlaneScalars<_>>::multiples(u128::from(scalar), 32)
 }

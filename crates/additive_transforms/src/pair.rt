@@ -1,9 +1,7 @@
 // Elements of the next level, by the planes of their halves.
 ghost use Rattle.std.specs.Prelude.{◌≡◌, ◌^◌, ℕ, suc};
-ghost use Rattle.field_base.specs.Quadratic.{pair};
-ghost use Rattle.additive_transforms.specs.Rows.{level_of};
-ghost use Rattle.additive_transforms.specs.Products.{AreMultiplesOfHalves};
-ghost use Rattle.additive_transforms.specs.PairLemmas.{pair_fits};
+ghost use Rattle.additive_transforms.specs.Halves.{are_of_halves, lane_of_halves};
+ghost use Rattle.additive_transforms.specs.PairLemmas.{lane_fits};
 
 use crate::multiples::HalfMultiples;
 use crate::planes::Planes;
@@ -22,9 +20,9 @@ impl<M, P: Planes<M>> Planes<HalfMultiples<M>> for Pair<P> {
 
     ghost lanes = { P.lanes };
 
-    ghost lane = { λ x l. pair (2 ^ level_of P.depth) (P.lane x.low l) (P.lane x.high l) };
+    ghost lane = { lane_of_halves P.depth P.lane };
 
-    ghost are_multiples = { AreMultiplesOfHalves (level_of P.depth) P.are_multiples };
+    ghost are_multiples = { are_of_halves P.depth P.are_multiples };
 
     #[inline(always)]
     fn lane_count() -> usize {
@@ -50,5 +48,5 @@ impl<M, P: Planes<M>> Planes<HalfMultiples<M>> for Pair<P> {
         self.high.add(&both);
     }
 
-    ghost fits_law = { λ x l. pair_fits (level_of P.depth) (P.lane x.low l) (P.lane x.high l) (P.fits_law x.low l) (P.fits_law x.high l) };
+    ghost fits_law = { lane_fits P.depth P.lane P.fits_law };
 }

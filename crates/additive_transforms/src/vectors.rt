@@ -5,7 +5,7 @@ use std::simd::prelude::*;
 use word_tables::ByteVector;
 
 /// A vector of sixteen or thirty-two bytes as elements of 8 and of 16 bits that stand in pairs.
-pub trait ChunkVector: ByteVector {
+pub(crate) trait ChunkVector: ByteVector {
     /// The two bytes of each pair exchanged.
     fn exchanged_8(self) -> Self
         ensures { AreExchanged 0 (Self.ByteVector.bytes self) (Self.ByteVector.bytes result) };

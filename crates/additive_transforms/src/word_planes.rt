@@ -115,6 +115,7 @@ impl<R: Stored, W: WordBytes<R>, M, P: WordPlanes<R, W, M>> WordPlanes<R, W, Hal
     }
 
     #[inline(always)]
+    #[tactic(auto, unfolding(crate::specs::Halves::lane_of_halves))]
     fn unwoven(first: Pair<P>, second: Pair<P>) -> (Pair<P>, Pair<P>) {
         let (low, next_low) = P::unwoven(first.low, second.low);
         let (high, next_high) = P::unwoven(first.high, second.high);
@@ -126,6 +127,7 @@ impl<R: Stored, W: WordBytes<R>, M, P: WordPlanes<R, W, M>> WordPlanes<R, W, Hal
     }
 
     #[inline(always)]
+    #[tactic(auto, unfolding(crate::specs::Halves::lane_of_halves))]
     fn woven(evens: Pair<P>, odds: Pair<P>) -> (Pair<P>, Pair<P>) {
         let (low, next_low) = P::woven(evens.low, odds.low);
         let (high, next_high) = P::woven(evens.high, odds.high);

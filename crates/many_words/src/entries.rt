@@ -45,6 +45,7 @@ impl Entries<ByteMultiples> for u8x16 {
 
 impl<M, P: Entries<M>> Entries<HalfMultiples<M>> for Pair<P> {
     #[inline(always)]
+    #[tactic(auto, unfolding(additive_transforms::specs::Halves::lane_of_halves))]
     fn zeros() -> Pair<P> {
         Pair {
             low: P::zeros(),
@@ -53,6 +54,7 @@ impl<M, P: Entries<M>> Entries<HalfMultiples<M>> for Pair<P> {
     }
 
     #[inline(always)]
+    #[tactic(auto, unfolding(additive_transforms::specs::Halves::lane_of_halves))]
     fn low_entries(&self, bytes: u8x16) -> Pair<P> {
         Pair {
             low: self.low.low_entries(bytes),
@@ -61,6 +63,7 @@ impl<M, P: Entries<M>> Entries<HalfMultiples<M>> for Pair<P> {
     }
 
     #[inline(always)]
+    #[tactic(auto, unfolding(additive_transforms::specs::Halves::lane_of_halves))]
     fn high_entries(&self, bytes: u8x16) -> Pair<P> {
         Pair {
             low: self.low.high_entries(bytes),

@@ -12,7 +12,7 @@ use std::marker::PhantomData;
 
 /// What the stages of a transform compute with: what the places hold, the twiddles, and the butterflies. All of these stand for
 /// elements of one field that has Cantor vectors.
-pub trait StageArithmetic {
+pub(crate) trait StageArithmetic {
     /// What a place holds.
     type Value;
 

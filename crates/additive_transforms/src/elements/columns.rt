@@ -1,19 +1,19 @@
 // Transforms of rows that lie one behind the other: each column takes the whole transform, all columns at once. What a stage does to a
 // block of 2^(stage + 1) places of a column, it does to as many rows: their halves are slices, and none is short where a row is not.
-ghost use Rattle.std.specs.Prelude.{◌≡◌, ◌+◌, ◌-◌, ◌^◌, ◌<◌, ◌≤◌, cond, length, map, slice_index};
+ghost use Rattle.std.specs.Prelude.{◌≡◌, ◌+◌, ◌-◌, ◌^◌, ◌<◌, ◌≤◌, length, map, slice_index};
 ghost use Rattle.additive_transforms.specs.Columns.{FitsColumns, HasRows, InEachColumn};
 ghost use Rattle.additive_transforms.specs.Elements.{level_shifts, twiddle_basis};
 ghost use Rattle.additive_transforms.specs.Stages.{TakesStage};
 ghost use Rattle.additive_transforms.specs.Transform.{AreTheCoefficients, HoldValuesAtPoints, TakesTransform};
 
 use crate::elements::arithmetic::StageArithmetic;
-use crate::elements::stages::run_blocks;
+use crate::elements::stages::{run_blocks, stage_after};
 use crate::{half_of, stages_of};
 
 /// The transform `forward_by` of each column of rows of `columns` values that lie one behind the other: of value c of each row, for each c
 /// below `columns`. There has to be a column, and 2^m rows, where m is at most 40 and at most the bits of the arithmetic's field. It takes
 /// no memory, and goes through all values once a stage: where they are more than a cache holds, call it for a few columns at a time.
-pub fn forward_columns_by<K: StageArithmetic>(
+pub(crate) fn forward_columns_by<K: StageArithmetic>(
     values: &mut [K::Value],
     columns: usize,
     z: K::Twiddle,
@@ -28,7 +28,7 @@ pub fn forward_columns_by<K: StageArithmetic>(
 
 /// The transform `inverse_by` of each column: with the same `z` it takes back what `forward_columns_by` did. It requires what
 /// `forward_columns_by` requires, and takes no memory.
-pub fn inverse_columns_by<K: StageArithmetic>(
+pub(crate) fn inverse_columns_by<K: StageArithmetic>(
     values: &mut [K::Value],
     columns: usize,
     z: K::Twiddle,
@@ -58,17 +58,6 @@ fn run_columns<K: StageArithmetic>(
         let stage = stage_after(done, stages, inverse);
         run_column_stage::<K>(values, columns, stages, stage, z, inverse);
     }
-}
-
-// The stage that follows so many: they go from the highest down, or, where `inverse` is true, from the lowest up.
-fn stage_after(done: usize, stages: usize, inverse: bool) -> usize
-    requires { done < stages }
-    ensures { result ≡ cond inverse done (stages - 1 - done) }
-{
-    if inverse {
-        return done;
-    }
-    stages - 1 - done
 }
 
 // One of the stages, of each column.

@@ -1,12 +1,12 @@
 // Transforms depth first: a slice that is too large for the first cache takes its highest stage alone, and then each of its halves takes
 // all the others before the next half does.
-ghost use Rattle.std.specs.Prelude.{◌≡◌, ◌+◌, ◌-◌, ◌/◌, ◌^◌, ◌<◌, ◌≤◌, bit_xor, cond, drop, length, map, slice_index, take};
+ghost use Rattle.std.specs.Prelude.{◌≡◌, ◌+◌, ◌-◌, ◌/◌, ◌^◌, ◌<◌, ◌≤◌, bit_xor, drop, length, map, slice_index, take};
 ghost use Rattle.additive_transforms.specs.Elements.{level_shifts, twiddle_basis};
 ghost use Rattle.additive_transforms.specs.Stages.{TakesStage};
 ghost use Rattle.additive_transforms.specs.Transform.{HasStages, TakesTransform};
 
 use crate::elements::arithmetic::StageArithmetic;
-use crate::elements::stages::run_stage;
+use crate::elements::stages::{run_stage, stage_after};
 use crate::half_of;
 
 // The stages of a slice that fits the first cache, which is 32 KB or more: so many stages have 2^10 values, which are 16 KB where a value
@@ -65,14 +65,6 @@ fn both_halves<K: StageArithmetic>(
     let (lower, upper) = values.split_at_mut(half_of(highest));
     run_halves::<K>(lower, highest, z, inverse);
     run_halves::<K>(upper, highest, next, inverse);
-}
-
-// The stage that runs when so many are done: they go from the highest down, or, of the inverse transform, from the lowest up.
-fn stage_after(done: usize, stages: usize, inverse: bool) -> usize
-    requires { done < stages }
-    ensures { result ≡ cond inverse done (stages - 1 - done) }
-{
-    if inverse { done } else { stages - 1 - done }
 }
 
 // A stage, with its shift.

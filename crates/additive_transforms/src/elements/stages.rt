@@ -1,11 +1,19 @@
 // One stage of a transform, block by block.
-ghost use Rattle.std.specs.Prelude.{◌≡◌, ◌+◌, ◌-◌, ◌*◌, ◌/◌, ◌%◌, ◌^◌, ◌<◌, ◌≤◌, length, map, slice_index};
+ghost use Rattle.std.specs.Prelude.{◌≡◌, ◌+◌, ◌-◌, ◌*◌, ◌/◌, ◌%◌, ◌^◌, ◌<◌, ◌≤◌, cond, length, map, slice_index};
 ghost use Rattle.additive_transforms.specs.Elements.{twiddle_basis};
 ghost use Rattle.additive_transforms.specs.Stages.{TakesBlock, TakesBlocks, TakesStage};
 
 use crate::elements::arithmetic::StageArithmetic;
 use crate::elements::twiddles::block_twiddle;
 use crate::{half_of, start_of};
+
+/// The stage that runs when so many are done: they go from the highest down, or, of the inverse transform, from the lowest up.
+pub(crate) fn stage_after(done: usize, stages: usize, inverse: bool) -> usize
+    requires { done < stages }
+    ensures { result ≡ cond inverse done (stages - 1 - done) }
+{
+    if inverse { done } else { stages - 1 - done }
+}
 
 /// A stage of the forward transform, or, where `inverse` is true, of the inverse one: the butterfly in each block of 2^(stage + 1) places,
 /// with the block's twiddle.

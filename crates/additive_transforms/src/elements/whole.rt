@@ -35,7 +35,7 @@ pub fn inverse_elements<F: TowerLevel>(values: &mut [F], z: F)
 
 /// The transform `forward_elements` by an arithmetic: nothing but it computes on the values. The length of `values` has to be 2^m, where
 /// m is at most 40 and at most the bits of the arithmetic's field. It takes no memory.
-pub fn forward_by<K: StageArithmetic>(values: &mut [K::Value], z: K::Twiddle)
+pub(crate) fn forward_by<K: StageArithmetic>(values: &mut [K::Value], z: K::Twiddle)
     requires { FitsField K.width (length values.old) }
     ensures length { length values.new ≡ length values.old }
     ensures values { HoldValuesAtPoints K.width K.product K.vector (K.number z) (map K.value values.old) (map K.value values.new) }
@@ -45,7 +45,7 @@ pub fn forward_by<K: StageArithmetic>(values: &mut [K::Value], z: K::Twiddle)
 
 /// The transform `inverse_elements` by an arithmetic: with the same `z` it takes back what `forward_by` did. It requires what
 /// `forward_by` requires, and takes no memory.
-pub fn inverse_by<K: StageArithmetic>(values: &mut [K::Value], z: K::Twiddle)
+pub(crate) fn inverse_by<K: StageArithmetic>(values: &mut [K::Value], z: K::Twiddle)
     requires { FitsField K.width (length values.old) }
     ensures length { length values.new ≡ length values.old }
     ensures coefficients { AreTheCoefficients K.width K.product K.vector (K.number z) (map K.value values.old) (map K.value values.new) }

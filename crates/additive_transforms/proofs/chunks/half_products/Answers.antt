@@ -1,8 +1,10 @@
+use Rattle.additive_transforms.specs.Halves.{are_of_halves}
 use Rattle.additive_transforms.proofs.ChunkProducts.{bytes_of}
 use Rattle.additive_transforms.proofs.VectorPairs.{half_products}
 use Rattle.additive_transforms.proofs.chunks.half_products.Goals as goal
 
 pub returns : goal.returns
+unfolding are_of_halves
 returns g c s are =
     let n = g.V.ByteVector.lanes in
     half_products n g.M.Scales.depth s are.0 are.1 _ _ _ _ _ _ _ _ are.2 are.3 are.4

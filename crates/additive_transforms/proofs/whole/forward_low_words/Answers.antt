@@ -34,7 +34,7 @@ returns-clause-values g c =
     let twiddles = c.new-twiddles.result in
     let upper = c.stages_down_to.new.values in
     let is = c.stages_of-stages.ensures.stages in
-    subst (λ (z : ℕ). HoldPolynomialValues z (map value c.args.words.now) (map value c.run_low_words.new.values)) c.new-twiddles.ensures
+    subst (λ (z : ℕ). HoldPolynomialValues z (map value c.args.words.now) (map value c.run_low_words.new.words)) c.new-twiddles.ensures
     (forward_leaves twiddles.shifts twiddles.basis twiddles.z twiddles.are twiddles.reach c.stages_of-stages.result is.0
     (omega arith) _ _ (map value c.args.words.now) (map value upper) _ c.low_shifts.ensures refl
     (length-map c.args.words.now value ∙ is.1) (length-map upper value ∙ c.stages_down_to.ensures.length ∙ is.1) c.stages_down_to.ensures.left

@@ -10,8 +10,8 @@ loop-place-preserved g c =
     let within : place < length words = omega arith in
     let room : place < length c.loop-place.numbers = omega (arith, c.loop-place.invariant.0) in (
       search (rules, c.loop-place.invariant.0),
-      take_more_set c.loop-place.numbers place c.number.result room
-          ∙ ap₂ (λ (xs : List ℕ) (v : ℕ). xs ++ v ∷ []) c.loop-place.invariant.1 (c.number.ensures ∙ ap wide_number c.index-words-place.is)
+      take_more_set c.loop-place.numbers place c.stored.result room
+          ∙ ap₂ (λ (xs : List ℕ) (v : ℕ). xs ++ v ∷ []) c.loop-place.invariant.1 (c.stored.ensures ∙ ap wide_number c.index-words-place.is)
           ∙ sym (map_more wide_number words place c.index-words-place.result within),
     )
 

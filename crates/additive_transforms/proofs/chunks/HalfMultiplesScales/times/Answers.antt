@@ -1,7 +1,9 @@
+use Rattle.additive_transforms.specs.Halves.{are_of_halves}
 use Rattle.additive_transforms.proofs.ChunkProducts.{bytes_of, bytes_summed, pairs_times}
 use Rattle.additive_transforms.proofs.chunks.HalfMultiplesScales.times.Goals as goal
 
 pub returns : goal.returns
+unfolding are_of_halves
 returns g c s are =
     let n = g.V.ByteVector.lanes in
     let bytes = g.V.ByteVector.bytes in

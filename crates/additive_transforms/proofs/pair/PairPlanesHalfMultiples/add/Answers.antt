@@ -1,8 +1,10 @@
+use Rattle.additive_transforms.specs.Halves.{lane_of_halves}
 use Rattle.additive_transforms.specs.Rows.{level_of}
 use Rattle.additive_transforms.proofs.LaneFacts.{sum_of_pairs}
 use Rattle.additive_transforms.proofs.pair.PairPlanesHalfMultiples.add.Goals as goal
 
 pub returns : goal.returns
+unfolding lane_of_halves
 returns g c l below =
     let lane = g.P.Planes.lane in
     let fits = g.met.P.Planes.fits_law in

@@ -1,8 +1,10 @@
+use Rattle.additive_transforms.specs.Halves.{are_of_halves, lane_of_halves}
 use Rattle.additive_transforms.specs.Rows.{level_of}
 use Rattle.additive_transforms.proofs.Scalars.{product_of_pairs}
 use Rattle.additive_transforms.proofs.pair.PairPlanesHalfMultiples.set_product.Goals as goal
 
 pub returns : goal.returns
+unfolding are_of_halves lane_of_halves
 returns g c s are l below =
     let lane = g.P.Planes.lane in
     let fits = g.met.P.Planes.fits_law in

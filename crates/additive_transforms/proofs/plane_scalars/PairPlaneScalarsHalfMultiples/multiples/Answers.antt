@@ -1,4 +1,5 @@
 use Rattle.std.proofs.Common.{◌/◌}
+use Rattle.additive_transforms.specs.Halves.{are_of_halves}
 use Rattle.additive_transforms.specs.Rows.{level_of}
 use Rattle.additive_transforms.proofs.ScalarHalves.{multiples_of_scalar}
 use Rattle.additive_transforms.proofs.plane_scalars.PairPlaneScalarsHalfMultiples.multiples.Goals as goal
@@ -17,6 +18,7 @@ multiples-requires-3-clause-fits g c =
     (c.halves_of-low.ensures (level_of g.P.Planes.depth) c.times_root.result c.requires.bits c.requires.fits).both_sum_fits c.times_root.ensures
 
 pub returns : goal.returns
+unfolding are_of_halves
 returns g c =
     let k = level_of g.P.Planes.depth in
     multiples_of_scalar k (c.args.bits / 2) c.args.scalar c.halves_of-low.result.0 c.halves_of-low.result.1 c.times_root.result

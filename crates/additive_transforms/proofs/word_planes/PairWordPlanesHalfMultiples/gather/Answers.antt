@@ -1,4 +1,5 @@
 use Rattle.std.proofs.Common.{◌/◌, map}
+use Rattle.additive_transforms.specs.Halves.{lane_of_halves}
 use Rattle.additive_transforms.proofs.UnitFacts.{half_units, joint, joint-first, joint-second, evens_of, odds_of, pairs_read, two_read}
 use Rattle.additive_transforms.proofs.word_planes.PairWordPlanesHalfMultiples.gather.Goals as goal
 
@@ -11,6 +12,7 @@ gather-second-requires-clause-count g c =
     (half_units g.P.Planes.depth g.W.WordBytes.size c.args.count g.P.Planes.lanes g.met.W.WordBytes.size_law g.met.P.WordPlanes.whole_law c.requires.count).0
 
 pub returns : goal.returns
+unfolding lane_of_halves
 returns g c =
     let d = g.P.Planes.depth in
     let size = g.W.WordBytes.size in

@@ -1,11 +1,13 @@
 use Rattle.std.proofs.Common.{◌≡◌, ◌+◌, ◌*◌, ◌/◌, ◌^◌, ◌≤◌, ℕ, ◌∙◌, ap, arith, length}
 use Rattle.std.specs.Prelude.{bit_xor}
 use Rattle.std.proofs.Math.Nat.{pow-succ'}
+use Rattle.additive_transforms.specs.Halves.{lane_of_halves}
 use Rattle.additive_transforms.specs.Rows.{level_of}
 use Rattle.many_words.proofs.TableLanes.{digits_bits, first_tables, second_tables, two_images}
 use Rattle.many_words.proofs.entries.PairDigitsHalfMultiples.add_images.Goals as goal
 
 pub returns : goal.returns
+unfolding lane_of_halves
 returns g c f from are l below =
     let lane = g.S.Planes.lane in
     let tables = c.args.tables.now in
