@@ -90,7 +90,7 @@ impl<R: HoldsTriple> FieldKernel<R> for CubicKernel {
         low
     }
 
-    ghost room_law = { R.room_law };
+    ghost room_law = { R.triple_law };
 
     ghost reduced_fits = { λ low high. R.range_law low };
 

@@ -74,7 +74,7 @@ pub trait HoldsTriple: Stored {
     fn of_triple(words: Triple) -> Self
         ensures { Self.number result ≡ triple_number words };
 
-    ghost room_law: { 192 ≤ Self.bits };
+    ghost triple_law: { 192 ≤ Self.bits };
 
     ghost range_law: { (x : Self) → Self.number x < 2 ^ 192 };
 
@@ -100,7 +100,7 @@ impl HoldsTriple for Triple {
         words
     }
 
-    ghost room_law = { lit≤ tt };
+    ghost triple_law = { lit≤ tt };
 
     ghost range_law = { fits_192 };
 

@@ -97,7 +97,7 @@ impl HoldsTriple for Coefficients {
         Coefficients::of_words(words)
     }
 
-    ghost room_law = { lit≤ tt };
+    ghost triple_law = { lit≤ tt };
 
     ghost range_law = { λ x. fits_192 (stored_words x) };
 
