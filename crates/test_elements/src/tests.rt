@@ -4,6 +4,7 @@ mod matrices;
 mod packings;
 mod slices;
 mod spaces;
+mod streams;
 mod texts;
 mod transforms;
 mod types;

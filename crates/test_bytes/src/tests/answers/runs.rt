@@ -2,9 +2,12 @@
 // whole. A reader that fails in the second line, interrupted: `Read`, once, behind a beginning of the first answer. A writer that fails, or
 // takes no byte, after 0 to 7: `Write`, once. A flush that fails: `Write`; it is not tried again. A line of 100,000 spaces: its error. That
 // a flush is passed on, the contract of `Watched` lets through.
+ghost use Rattle.std.specs.Prelude.{◌≡◌, IfOk};
+ghost use Rattle.calculator.specs.Lines.{answers};
+
 use super::ends::{Sink, Source, run_over};
 use super::repeated;
-use calculator::Watched;
+use calculator::{RunError, Watched, run};
 use std::alloc::Global;
 use std::io::{Read, Write};
 use std::test::Fail;
@@ -25,6 +28,23 @@ fn is_answered_by_steps(alloc: Global, input: &[u8], want: &[u8], step: usize) -
     let all = usize::MAX;
     run_over(alloc, Source::new(input, step), Sink::new(alloc, all)).is_ok(want)
         && run_over(alloc, Source::new(input, all), Sink::new(alloc, step)).is_ok(want)
+}
+
+/// What a run over `input` writes, which a caller over memory learns from the contract of `run`.
+fn answered(alloc: Global, input: &[u8]) -> Result<Vec<u8>, RunError>
+    ensures { IfOk result (λ bytes. bytes.items ≡ answers input.now) }
+{
+    let mut reader = Watched::new(input);
+    let mut writer = Watched::new(Vec::new(alloc));
+    run(alloc, &mut reader, &mut writer)?;
+    Ok(writer.into_inner())
+}
+
+#[test]
+fn a_run_over_memory_is_granted(rt: HostRuntime) {
+    for (input, _) in &INPUTS {
+        assert!(rt; answered(rt.alloc(), *input).is_ok());
+    }
 }
 
 #[test]

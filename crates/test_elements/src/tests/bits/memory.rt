@@ -1,6 +1,6 @@
 // Rows and packed bits that are taken apart into vectors: a worked row, and `split_copied`, `narrow_copied` and `bytes_copied` of 0 to 257
-// rows of 16 and of 128 bits, drawn from the seed 29 plus their number. Each growth is refused in turn, nothing is left behind, and where
-// there is memory the call succeeds. A call that refuses some lengths, some rows or some contents fails here.
+// rows of 16 bits and of 0 to 65 of 128 bits, drawn from the seed 29 plus their number. Each growth is refused in turn, nothing is left
+// behind, and where there is memory the call succeeds. A call that refuses some lengths, some rows or some contents fails here.
 use bits_packed::{PackedGf2, PackedGf2x8, PackedGf2x16};
 use bits_rows::{Divisible, M128, Underlier};
 use linked_list_allocator::LocalHeap;
@@ -107,8 +107,11 @@ impl<U: Divisible<V>, V: Underlier> Growing for Rows<U, V> {
     }
 }
 
-fn are_refused<U: Divisible<V> + Drawn, V: Underlier>(alloc: Global) -> Result<bool, AllocError> {
-    for len in 0..258usize {
+fn are_refused<U: Divisible<V> + Drawn, V: Underlier>(
+    alloc: Global,
+    end: usize,
+) -> Result<bool, AllocError> {
+    for len in 0..end {
         for cut in [Cut::Split, Cut::Narrow, Cut::Bytes] {
             let rows: Rows<U, V> = Rows {
                 cut,
@@ -126,6 +129,8 @@ fn are_refused<U: Divisible<V> + Drawn, V: Underlier>(alloc: Global) -> Result<b
 
 #[test]
 fn parts_are_granted_or_refused(rt: HostRuntime) -> Result<(), Fail> {
-    assert!(rt; are_refused::<u16, u8>(rt.alloc())? && are_refused::<M128, u32>(rt.alloc())?);
+    assert!(rt;
+        are_refused::<u16, u8>(rt.alloc(), 258)? && are_refused::<M128, u32>(rt.alloc(), 66)?
+    );
     Ok(())
 }
