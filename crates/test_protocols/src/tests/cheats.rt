@@ -11,8 +11,8 @@ use protocols::sumcheck::{prove, verify};
 use protocols::terms::{Term, are_within, cube_sum, terms_at};
 use std::alloc::Global;
 use std::test::Fail;
-use transcript_elements::{BinaryChallenger, FieldChallenger};
-use transcripts::{HashChallenger, Sha256Hasher};
+use transcript_elements::BinaryChallenger;
+use transcripts::{CanObserve, CanSample, HashChallenger, Sha256Hasher};
 
 // What the verifier has that the prover had not.
 #[derive(Clone, Copy)]
@@ -69,7 +69,7 @@ fn value_at<F: Field>(rows: &[F; 32], table: usize, point: &[F]) -> F {
 }
 
 // Whether a verifier that has these tables accepts.
-fn is_accepted<F: Field, C: FieldChallenger<F>>(
+fn is_accepted<F: Field, C: CanObserve<F> + CanSample<F>>(
     alloc: Global,
     verifier: &mut C,
     terms: &[Term<F>],
@@ -92,7 +92,7 @@ fn is_accepted<F: Field, C: FieldChallenger<F>>(
 }
 
 // The sum of the terms, and an honest prover's messages.
-fn honest<F: Field, C: FieldChallenger<F>>(
+fn honest<F: Field, C: CanObserve<F> + CanSample<F>>(
     alloc: Global,
     prover: &mut C,
     terms: &[Term<F>],
@@ -115,7 +115,7 @@ fn increment<F: Field>(elements: &mut [F], place: usize) {
 }
 
 // Whether an honest proof of tables of the powers of an element is accepted by a verifier that has something else.
-fn passes<F: Field, C: FieldChallenger<F>>(
+fn passes<F: Field, C: CanObserve<F> + CanSample<F>>(
     alloc: Global,
     prover: &mut C,
     verifier: &mut C,

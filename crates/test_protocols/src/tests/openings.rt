@@ -4,7 +4,6 @@ ghost use Rattle.transcripts.specs.Grinding.{MayGrind};
 use field_base::LevelKernel;
 use field_bytes::ShortWord;
 use field_element::{Element, HasPacking};
-use protocols::ProtocolError;
 use protocols::caps::verify_to_cap;
 use protocols::commitment::{accepts, prove};
 use protocols::merkle_tree::MerkleTree;
@@ -12,7 +11,7 @@ use std::alloc::{AllocError, Global};
 use std::test::Fail;
 use test_support::next_word;
 use transcript_elements::BinaryChallenger;
-use transcripts::{MerkleCap, Sha256Hasher};
+use transcripts::{GrindError, MerkleCap, Sha256Hasher};
 use word_tower::{Bits64, Tower};
 
 // What is changed between the prover and the verifier.
@@ -57,7 +56,7 @@ fn words() -> [u64; 8] {
 fn is_accepted<R: ShortWord, K: LevelKernel<R> + HasPacking<R>>(
     alloc: Global,
     change: Change,
-) -> Result<bool, ProtocolError>
+) -> Result<bool, GrindError>
     requires work { MayGrind K.width 8 }
 {
     let words = words();

@@ -6,8 +6,8 @@ use field_slices::evaluate_multilinear;
 use protocols::ProtocolError;
 use protocols::zero_check::{prove_zero, verify_zero};
 use std::alloc::Global;
-use transcript_elements::{BinaryChallenger, FieldChallenger};
-use transcripts::{HashChallenger, Sha256Hasher};
+use transcript_elements::BinaryChallenger;
+use transcripts::{CanObserve, CanSample, HashChallenger, Sha256Hasher};
 
 type Wide = BinaryField128;
 
@@ -22,7 +22,7 @@ fn value_at<F: Field>(table: &[F; 4], point: &[F]) -> F {
 }
 
 // Whether a verifier that has the tables a, b and a b accepts what was proved of them, after this is added to the first message.
-fn is_accepted<F: Field, C: FieldChallenger<F>>(
+fn is_accepted<F: Field, C: CanObserve<F> + CanSample<F>>(
     alloc: Global,
     prover: &mut C,
     verifier: &mut C,
