@@ -9,7 +9,6 @@ mod companions;
 mod cube;
 mod decompositions;
 mod determinants;
-mod draws;
 mod horner;
 mod identities;
 mod inverses;

@@ -5,7 +5,6 @@ pub use crate::columns::{columns_into, put_columns};
 pub use crate::companions::companion_into;
 pub use crate::decompositions::plu_decompose;
 pub use crate::determinants::determinant;
-pub use crate::draws::random_into;
 pub use crate::identities::identity_into;
 pub use crate::inverses::invert_beside;
 pub use crate::matrix_laws::{
@@ -19,3 +18,4 @@ pub use crate::products::{multiply_into, transpose_into};
 pub use crate::reduction::{row_reduce, row_reduce_augmented};
 pub use crate::scalars::{Elements, Scalars};
 pub use crate::systems::solve_augmented;
+pub use packed_lanes::random_into;

@@ -1,6 +1,7 @@
 // Packings drawn at random.
 ghost use Rattle.std.specs.Array.{FillsFrom};
 
+use crate::draws::random_into;
 use crate::packed::{Packed, WiderField};
 use rand::distr::SampleStandard;
 use rand_core::Rng;
@@ -11,9 +12,7 @@ impl<F: WiderField + SampleStandard, const N: usize> SampleStandard for Packed<F
 
     fn sample_standard<R: Rng>(rng: &mut R) -> Packed<F, N> {
         let mut lanes = [F::ZERO; N];
-        for lane in 0..N {
-            lanes[lane] = F::sample_standard(rng);
-        }
+        random_into(lanes.as_mut_slice(), rng);
         Packed { lanes }
     }
 }

@@ -1,6 +1,6 @@
 use Rattle.std.proofs.Common.{◌≡◌, length, take}
 use Rattle.std.specs.Array.{FillsFrom}
-use Rattle.field_slices.proofs.draws.random_into.Given as goal
+use Rattle.packed_lanes.proofs.draws.random_into.Given as goal
 
 -- the draws so far gave the places before this one
 abbrev pub invariant-loop-place : goal.invariant-loop-place

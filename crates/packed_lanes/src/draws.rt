@@ -1,4 +1,4 @@
-// Matrices drawn at random.
+// Places drawn at random: the lanes of a packing, and the entries of a matrix.
 ghost use Rattle.std.specs.Prelude.{◌≡◌, length};
 ghost use Rattle.std.specs.Array.{FillsFrom};
 

@@ -2,7 +2,7 @@ use Rattle.std.proofs.Common.{◌≡◌, ◌+◌, ◌<◌, ◌≤◌, length, ta
 use Rattle.std.proofs.lemmas.List.{length-set, length-take, take_all, take_more_set}
 use Rattle.std.specs.Array.{FillsFrom}
 use Rattle.field_base.proofs.Calls.{fills_more}
-use Rattle.field_slices.proofs.draws.random_into.Goals as goal
+use Rattle.packed_lanes.proofs.draws.random_into.Goals as goal
 
 pub loop-place-preserved : goal.loop-place-preserved
 loop-place-preserved g c =
