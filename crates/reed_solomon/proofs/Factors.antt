@@ -106,10 +106,6 @@ weighed_factor point count own x all inverse weight within fits is inverts weigh
     (factors-lt 8 erasure_product erasure_field (lit< tt) point own (point own) count) fits weighs)
 
 -- a sum with one term more
-pub sum_none : (term : ℕ → ℕ) → 0 ≡ sum_below term 0
-unfolding sum_below
-sum_none term = refl
-
 pub sum_more : (term : ℕ → ℕ) (j sum next : ℕ) → sum ≡ sum_below term j → next ≡ term j → bit_xor sum next ≡ sum_below term (j + 1)
 unfolding sum_below
 sum_more term j sum next so_far is = ap₂ bit_xor so_far is ∙ ap (sum_below term) (sym (add-one j))

@@ -5,6 +5,7 @@ mod GroupWriting
 mod NibbleTables
 mod ParityWords
 mod PreparedTables
+mod RestoreErrors
 mod Restoring
 mod RoundTrip
 mod RowTables

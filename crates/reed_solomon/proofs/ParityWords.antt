@@ -29,15 +29,6 @@ first_places k bound within =
       differ = λ i j i_below j_below same. same;
     }
 
--- and so do those of a list that has them
-pub listed_places : (k : ℕ) (places : List ℕ) → k ≤ 256 → ((j : ℕ) → j < k → get_or places j 0 ≡ j)
-    → AreDistinctBelow k (2 ^ 8) (λ i. get_or places i 0)
-listed_places k places fits are =
-    record {
-      below = λ i inside. subst (λ (p : ℕ). p < 2 ^ 8) (sym (are i inside)) (omega (arith, inside, fits));
-      differ = λ i j i_below j_below same. sym (are i i_below) ∙ same ∙ are j j_below;
-    }
-
 -- products of equal factors
 product_below-same : (n : ℕ) (f g : ℕ → ℕ) → ((i : ℕ) → i < n → f i ≡ g i) → product_below erasure_product f n ≡ product_below erasure_product g n
 unfolding product_below

@@ -12,14 +12,6 @@ use Rattle.reed_solomon.proofs.Factors.{sum_more}
 use Rattle.reed_solomon.proofs.Samples.{below_next}
 use Rattle.field_base.proofs.BasisSums.{sum_below-same}
 
-pub no_rows : (value : ℕ → ℕ → ℕ) (place : ℕ → ℕ) (width : ℕ) (old : List ℕ) → AreWritten value place 0 width old old
-no_rows value place width old =
-    record { long = refl; written = λ row column below inside. absurd (omega (arith, below)); others = λ i outside. refl }
-
-pub no_columns : (value : ℕ → ℕ → ℕ) (place : ℕ → ℕ) (rows : ℕ) (old : List ℕ) → AreWritten value place rows 0 old old
-no_columns value place rows old =
-    record { long = refl; written = λ row column below inside. absurd (omega (arith, inside)); others = λ i outside. refl }
-
 -- other names of the values
 pub written_by : (value other : ℕ → ℕ → ℕ) (place : ℕ → ℕ) (rows width : ℕ) (old now : List ℕ) → AreWritten value place rows width old now
     → ((row column : ℕ) → row < rows → column < width → value row column ≡ other row column) → AreWritten other place rows width old now
@@ -317,14 +309,3 @@ row_added term rows row j sums so_far product before within so_far_is long terms
         get_or-zip2 bit_xor so_far product lane 0 0 0 (omega (arith, was_long, lane_below)) (omega (arith, long, lane_below))
         ∙ sum_more (term row lane) j (get_or so_far lane 0) (get_or product lane 0)
         (ap (λ (xs : List ℕ). get_or xs lane 0) so_far_is ∙ before.others row lane (omega arith) within lane_below) (terms lane lane_below)
-
--- the terms of one shard
-pub shard_added : (term : ℕ → ℕ → ℕ → ℕ) (rows done j : ℕ) (sums : List (List ℕ)) → HasSums term rows done j sums → rows ≤ done
-    → HasSums term rows 0 (j + 1) sums
-shard_added term rows done j sums all end =
-    record {
-      count = all.count;
-      long = all.long;
-      added = λ row lane below inside. absurd (omega (arith, below));
-      others = λ row lane from below inside. all.added row lane (omega (arith, below, end)) inside;
-    }

@@ -21,11 +21,6 @@ abbrev pub symbol_at : ℕ → ℕ → (ℕ → ℕ) → List ℕ → ℕ → �
 symbol_at count size place shards column x =
     interpolated 8 erasure_product place (λ j. shard_byte size shards (place j) column) count x
 
--- shard x has in each column the symbol that the shards at the places give it
-abbrev pub MatchesShard : ℕ → ℕ → (ℕ → ℕ) → List ℕ → ℕ → Type 0
-MatchesShard count size place shards x =
-    (column : ℕ) → column < size → shard_byte size shards x column ≡ symbol_at count size place shards column x
-
 -- the weight of each of `count` points: the inverse of the product of its differences to the others (J.-P. Berrut and
 -- L. N. Trefethen, Barycentric Lagrange interpolation, 2004)
 abbrev pub AreWeights : (ℕ → ℕ) → ℕ → (ℕ → ℕ) → Type 0
