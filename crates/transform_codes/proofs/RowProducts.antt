@@ -1,5 +1,5 @@
 -- Rows of words that are multiplied by one factor, within a slice, and word by word.
-use Rattle.std.proofs.Common.{◌≡◌, ◌≢◌, ◌⊎◌, inl, inr, ℕ, zero, suc, ◌+◌, ◌-◌, ◌*◌, ◌%◌, ◌^◌, ◌<◌, ◌≤◌, Bool, true, false, List, ◌++◌, length, get_or, map, set, refl, sym, ◌∙◌, ap, subst, arith, below_more}
+use Rattle.std.proofs.Common.{◌≡◌, ◌≢◌, ◌⊎◌, inl, inr, ℕ, zero, suc, ◌+◌, ◌-◌, ◌*◌, ◌%◌, ◌^◌, ◌<◌, ◌≤◌, Bool, true, false, List, ◌++◌, length, get_or, map, set, sym, ◌∙◌, ap, subst, arith, below_more}
 use Rattle.std.specs.Prelude.{bit_xor}
 use Rattle.std.proofs.lemmas.Bool.{cases_eq, cases_lt}
 use Rattle.std.proofs.Math.Nat.{mul-le-mul_left}
@@ -60,10 +60,6 @@ module _ {W : Type 0} (number : W → ℕ) (zero : W) (level factor : ℕ) where
             let moved : p ≡ length before + (length new + d) = omega (arith, place, same) in
             ap (λ (s : ℕ). get_or (before ++ (new ++ behind)) s zero) moved ∙ past_row new d
             ∙ sym (past_row row d) ∙ ap (λ (s : ℕ). get_or (before ++ (row ++ behind)) s zero) place
-
-  -- no words are multiplied
-  pub none_multiplied : (words : List W) → ArePutProducts number zero level 0 0 factor words words
-  none_multiplied words = record { product = λ c below. absurd (omega (arith, below)); kept = λ p side. refl }
 
   -- the first words are multiplied by the element of a factor
   pub first_products : ((x y : W) → number x ≡ number y → x ≡ y) → (n s : ℕ) (old new : List W) → s ≡ factor % 2 ^ 2 ^ level

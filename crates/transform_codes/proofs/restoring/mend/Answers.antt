@@ -29,3 +29,21 @@ loop-i-preserved g c =
           (mended_passed zero strip.size strip.start strip.width i c.args.from c.args.first present values c.args.shards.now c.loop-i.shards
           c.loop-i.invariant w.if-not-present-first.false)
     ]
+
+pub overflow_mul-place : goal.overflow_mul-place
+overflow_mul-place g c =
+    let strip = c.args.strip in
+    let within = strip_within strip.size c.args.count c.loop-i.i strip.start strip.width (omega (arith, c.loop-i-test.true)) strip.inside in
+    omega (arith, within, c.requires.whole)
+
+pub overflow_add-place : goal.overflow_add-place
+overflow_add-place g c =
+    let strip = c.args.strip in
+    let within = strip_within strip.size c.args.count c.loop-i.i strip.start strip.width (omega (arith, c.loop-i-test.true)) strip.inside in
+    omega (arith, within, c.requires.whole)
+
+pub copy_words-requires-clause-enough : goal.copy_words-requires-clause-enough
+copy_words-requires-clause-enough g c =
+    let width = c.args.strip.width in
+    let row = strip_within width (c.args.from + c.args.count) (c.args.from + c.loop-i.i) 0 width (omega (arith, c.loop-i-test.true)) (omega arith) in
+    omega (arith, row, c.requires.enough)
