@@ -1,9 +1,7 @@
 // The key, from a word, a file or a variable.
 use anyhow::{Result, bail};
 use hex::FromHex;
-use std::env::{self, Env};
-use std::fs;
-use std::rt::Files;
+use std::{env, fs};
 
 /// Where the key is.
 #[derive(Clone, Copy, Drop)]
@@ -17,7 +15,7 @@ pub(crate) enum Source<'a> {
 }
 
 /// The key. An error names the file or the variable.
-pub(crate) fn read_key<R: Files + Env + AllocGlobal>(rt: &R, source: Source) -> Result<[u8; 16]> {
+pub(crate) fn read_key(rt: &HostRuntime, source: Source) -> Result<[u8; 16]> {
     match source {
         Source::Word(digits) => match key_of(digits.as_bytes()) {
             Some(key) => Ok(key),
@@ -37,7 +35,7 @@ pub(crate) fn read_key<R: Files + Env + AllocGlobal>(rt: &R, source: Source) -> 
 }
 
 // The key in a file, behind which spaces and line feeds may stand.
-fn key_of_file<R: Files + AllocGlobal>(rt: &R, file: &str) -> Result<[u8; 16]> {
+fn key_of_file(rt: &HostRuntime, file: &str) -> Result<[u8; 16]> {
     let Ok(content) = fs::read_to_string(rt, file) else {
         bail!("the file {file} of the key cannot be read, or is no text")
     };
