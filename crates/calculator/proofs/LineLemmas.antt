@@ -72,13 +72,6 @@ finished-line (b ∷ bs) rest =
     ∙ onto_some-line b bs (finished rest))
     (cases_eq b 10)
 
--- a line with no line feed is not
-pub finished-last : (line : List ℕ) → IsLine line → finished line ≡ []
-finished-last [] is_line = finished-nil
-finished-last (b ∷ bs) is_line =
-    finished-other b bs (All-head (λ b. b ≢ 10) b bs is_line)
-    ∙ ap (onto_some b) (finished-last bs (All-tail (λ b. b ≢ 10) b bs is_line))
-
 -- ---- some lines in front
 
 -- (line, line feed, us), rest = line, line feed, (us, rest)

@@ -93,10 +93,6 @@ GainsFront-more {a} {b} {all} more front = (
   },
 )
 
--- a writer that gains nothing gains an empty front
-pub GainsFront-none : (a : Option (List ℕ)) (all : List ℕ) → GainsFront a a all
-GainsFront-none a all = (all, Takes-none a all)
-
 -- ---- the lines that were answered
 
 -- where nothing was done, no line was answered
