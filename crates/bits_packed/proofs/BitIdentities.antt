@@ -1,7 +1,7 @@
 -- The identity matrix over GF(2) behind the words of another, and the inverse that reducing the two leaves.
 use Rattle.std.proofs.Common.{◌≡◌, ◌≢◌, ◌⊎◌, inl, inr, ℕ, ◌+◌, ◌-◌, ◌*◌, ◌<◌, ◌≤◌, Bool, List, length, refl, sym, ◌∙◌, ap, arith, below_more}
 use Rattle.std.specs.Prelude.{bit_xor, if◌then◌else◌, nat_lt}
-use Rattle.std.proofs.lemmas.Bool.{cases_eq, cases_lt, eq-eqb, le-ltb, lt-ltb, ne_eqb}
+use Rattle.std.proofs.lemmas.Bool.{cases_eq, cases_lt, le-ltb, lt-ltb}
 use Rattle.field_base.specs.BitRingLemmas.{bits_ring}
 use Rattle.field_base.proofs.BasisSums.{sum_below-same}
 use Rattle.field_base.proofs.RingLemmas.{times-zero}
@@ -12,12 +12,7 @@ use Rattle.field_slices.proofs.RowSpaces.{combination_row}
 use Rattle.bits_packed.specs.BitMatrices.{IsBitRowWritten, IsBitWritten, bit_entry, kept_before}
 use Rattle.bits_packed.proofs.BitRows.{entry-lt, kept-behind, kept-front, space_of_columns}
 use Rattle.bits_packed.proofs.FourRowTables.{sum_zero}
-
-identity-own : (i j : ℕ) → i ≡ j → 1 ≡ identity_entry i j
-identity-own i j same = sym (ap (λ (b : Bool). if b then 1 else 0) (eq-eqb i j same))
-
-identity-other : (i j : ℕ) → i ≢ j → 0 ≡ identity_entry i j
-identity-other i j differs = sym (ap (λ (b : Bool). if b then 1 else 0) (ne_eqb i j differs))
+use Rattle.bits_packed.proofs.PendingSums.{identity-other, identity-same}
 
 -- a row that is cleared from a word on, and has then a bit added, has a row of the identity matrix there
 pub identity_row : (words row from place : ℕ) (old mid now : List ℕ)
@@ -44,10 +39,10 @@ identity_row words row from place old mid now cleared added = record {
     behind j inside past (inl same) =
         ap (bit_entry words now row) same ∙ added.written
         ∙ ap (λ (x : ℕ). bit_xor x 1) (ap (bit_entry words mid row) (sym same) ∙ zero_there j inside past)
-        ∙ identity-own place (j - 64 * from) (omega (arith, same))
+        ∙ sym (identity-same place (j - 64 * from) (omega (arith, same)))
     behind j inside past (inr differs) =
         added.others row j inside (inr differs) ∙ zero_there j inside past
-        ∙ identity-other place (j - 64 * from) (λ e. differs (omega (arith, e, past)))
+        ∙ sym (identity-other place (j - 64 * from) (λ e. differs (omega (arith, e, past))))
 
 -- ---- row after row
 
@@ -196,4 +191,4 @@ module _ (half n r : ℕ) (fits : n ≤ 64 * half) (pivot : ℕ → ℕ) (old be
           let back : 64 * half + j - 64 * half ≡ j = omega arith in
           identity k (64 * half + j) below (omega (arith, within))
           ∙ beside-right (64 * half) (bit_entry (half + half) old) k (64 * half + j) (omega arith) ∙ ap (identity_entry k) back
-          ∙ sym (identity-other k j (λ e. absurd (omega (arith, e, below, past))))
+          ∙ identity-other k j (λ e. absurd (omega (arith, e, below, past)))

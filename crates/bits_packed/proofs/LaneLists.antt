@@ -12,7 +12,7 @@ use Rattle.field_base.proofs.Calls.{may_go_on}
 use Rattle.field_base.proofs.ChunkLists.{chunk_pushed}
 use Rattle.bits_rows.specs.ChunkLemmas.{chunks-front}
 use Rattle.bits_rows.specs.Parts.{IsFilled, IsWithPart}
-use Rattle.bits_rows.proofs.LaneLemmas.{bit_at_shr}
+use Rattle.field_base.proofs.BasisSums.{bit_at-add}
 use Rattle.bits_rows.proofs.WordLists.{Filled, more_filled}
 use Rattle.bits_packed.specs.Lanes.{IsWithLane, bits_of, lanes_from}
 
@@ -48,7 +48,7 @@ first_lane (suc width) (suc next) n less =
     let front = chunks-front 1 width n in
     ap (λ (xs : List ℕ). drop (suc next) xs) front
     ∙ first_lane width next (n / 2 ^ 1) (omega arith)
-    ∙ ap (λ (x : ℕ). x ∷ lanes_from width (suc next) (n / 2 ^ 1)) (bit_at_shr n 1 next ∙ ap (bit_at n) place)
+    ∙ ap (λ (x : ℕ). x ∷ lanes_from width (suc next) (n / 2 ^ 1)) (sym (bit_at-add n 1 next) ∙ ap (bit_at n) place)
     ∙ ap (λ (xs : List ℕ). bit_at n (suc next) ∷ drop (suc (suc next)) xs) (sym front)
 
 -- lane `next`, and the lanes after it

@@ -12,27 +12,19 @@ use Rattle.field_base.proofs.BasisSums.{sum_below-same}
 use Rattle.field_slices.specs.Matrices.{cleared_entry, identity_entry}
 use Rattle.field_slices.proofs.Elimination.{cleared-other, cleared-own}
 use Rattle.field_slices.proofs.RowSpaces.{sum_of_sums}
+use Rattle.packed_lanes.specs.BitImageLemmas.{bit_sum}
 use Rattle.bits_packed.specs.BitMatrices.{ArePivotPlaces, pending_sum, present_entry, entry_within}
 use Rattle.bits_packed.proofs.FourRowTables.{bit_times, sum_zero}
 use Rattle.field_base.proofs.RingLemmas.{xor_exchange}
 
 -- ---- sums
 
--- bits over sums, and sums of bits
+-- a bit over a sum
 bit_over_sum : (b x y : ℕ) → b < 2 → b * bit_xor x y ≡ bit_xor (b * x) (b * y)
 bit_over_sum b x y small =
     two_cases (λ c. c * bit_xor x y ≡ bit_xor (c * x) (c * y))
     (zero-mul (bit_xor x y) ∙ sym (ap₂ bit_xor (zero-mul x) (zero-mul y)))
     (one-mul (bit_xor x y) ∙ sym (ap₂ bit_xor (one-mul x) (one-mul y))) b small
-
-sum_over_bit : (a b x : ℕ) → a < 2 → b < 2 → bit_xor a b * x ≡ bit_xor (a * x) (b * x)
-sum_over_bit a b x small other_small =
-    two_cases (λ c. bit_xor c b * x ≡ bit_xor (c * x) (b * x))
-    (two_cases (λ d. bit_xor 0 d * x ≡ bit_xor (0 * x) (d * x)) (zero-mul x ∙ sym (xor_self (0 * x)))
-    (sym (ap (λ (y : ℕ). bit_xor y (1 * x)) (zero-mul x) ∙ xor_comm 0 (1 * x) ∙ xor_zero_r (1 * x))) b other_small)
-    (two_cases (λ d. bit_xor 1 d * x ≡ bit_xor (1 * x) (d * x)) (sym (ap (bit_xor (1 * x)) (zero-mul x) ∙ xor_zero_r (1 * x)))
-    (zero-mul x ∙ sym (xor_self (1 * x))) b other_small)
-    a small
 
 -- a product of bits
 bit_product : (a b : ℕ) → a < 2 → b < 2 → a * b < 2
@@ -290,7 +282,7 @@ module _ (rows first columns rank row : ℕ) (place : ℕ → ℕ) (A B : ℕ �
           (λ b inside.
           ap₂ (λ (x y : ℕ). x * y) (adds (first + b) (omega (arith, inside, within)))
           (pivot-kept rows first columns place A B within pivots b j inside fits)
-          ∙ sum_over_bit (A rank (first + b)) (A row (first + b)) (entry_within rows A (place b) j) (bits rank (first + b)) (bits row (first + b)))
+          ∙ bit_sum (entry_within rows A (place b) j) (A rank (first + b)) (bits rank (first + b)) (A row (first + b)) (bits row (first + b)))
           ∙ sum_of_sums (λ b. A rank (first + b) * entry_within rows A (place b) j) (λ b. A row (first + b) * entry_within rows A (place b) j) 64
 
 -- ---- a pivot is taken
@@ -346,15 +338,6 @@ module _ (rows first columns rank bit : ℕ) (place next : ℕ → ℕ) (A B : �
 
   pivot-none : (j : ℕ) → entry_within rows A (place bit) j ≡ 0
   pivot-none j = entry-none rows A (place bit) j free
-
-  -- a bit b of the strip that is not the one of the pivot
-  module _ (P : ℕ → Type 0) (own_column : P (first + bit)) (other_columns : (b : ℕ) → b < 64 → b ≢ bit → P (first + b)) where
-    each_bit : (b : ℕ) → b < 64 → P (first + b)
-    each_bit b inside =
-        elim (cases_eq b bit) [
-          | inl same ↦ subst (λ (c : ℕ). P (first + c)) (sym same) own_column
-          | inr other ↦ other_columns b inside other
-        ]
 
   -- the row of the pivot stands for what it did
   rank_sum : (j : ℕ) → j < columns → first + 64 ≤ j → pending_sum rows first next B rank j ≡ pending_sum rows first place A rank j
@@ -413,7 +396,7 @@ module _ (rows first columns rank bit : ℕ) (place next : ℕ → ℕ) (A B : �
         bit_within
         (λ b inside other.
         ap₂ (λ (x y : ℕ). x * y) (others i b inside_rows differs inside other) (pivot-stays b j inside other fits past)
-        ∙ sum_over_bit (A i (first + b)) (s * A rank (first + b)) (entry_within rows A (place b) j) (bits i (first + b))
+        ∙ bit_sum (entry_within rows A (place b) j) (A i (first + b)) (bits i (first + b)) (s * A rank (first + b))
         (bit_product s (A rank (first + b)) (bits i (first + bit)) (bits rank (first + b)))
         ∙ ap (bit_xor (term i j b)) (swap_factors s (A rank (first + b)) (entry_within rows A (place b) j) (bits i (first + bit))))
         (ap₂ (λ (x y : ℕ). x * y) (others_bit i inside_rows differs) (pivot-new j fits past)

@@ -401,7 +401,3 @@ pub double_inside : (width log s : ℕ) → width ≡ 2 ^ log → IsBlockSize wi
 double_inside width log s power size =
     let halves = block_divides width log s power size in
     let fits = double_fits width halves.0 s halves.1 size.2 in omega (arith, fits)
-
--- 8 s is at most the width where s is at most an eighth of it
-pub eightfold_inside : (width s : ℕ) → s ≤ width / 8 → 8 * s ≤ width
-eightfold_inside width s less = let whole = div-add-mod' width 8 in omega arith

@@ -330,21 +330,29 @@ module _ (rows words word mask : ℕ) (place : ℕ → ℕ) (old behind cleared 
       (omega (arith, before, within)) (inl before)
       ∙ early i j (omega (arith, before))
 
+  -- entries of the word are cleared where the mask has a bit
+  masked : (i b : ℕ) → i < rows → b < 64
+      → ((bit_at mask b ≡ 1) → bit_entry words cleared i (first + b) ≡ 0)
+      × ((bit_at mask b ≡ 0) → bit_entry words cleared i (first + b) ≡ bit_entry words behind i (first + b))
+  masked i b inside short =
+      masked_bit words word rows (λ i w. bit_and (word_of words behind i word) mask) behind cleared clears i b mask inside short refl
+
+  set_column : (i b x y : ℕ) → i < rows → b < 64 → bit_entry words cleared i (first + b) ≡ x
+      → entry_within rows identity_entry (place b) i ≡ y → bit_entry words now i (first + b) ≡ bit_xor x y
+  set_column i b x y inside short left right = sets.set i b inside short ∙ ap₂ bit_xor left right
+
   taken_column : (i b : ℕ) → i < rows → b < 64 → place b < rows → bit_entry words now i (first + b) ≡ identity_entry (place b) i
   taken_column i b inside short taken =
-      sets.set i b inside short
-      ∙ ap₂ bit_xor
-      ((masked_bit words word rows (λ i w. bit_and (word_of words behind i word) mask) behind cleared clears i b mask inside short refl).0
-      (is_mask b short ∙ entry-inside rows (λ k j. 1) (place b) 0 taken))
+      let own = identity_entry (place b) i in
+      set_column i b 0 own inside short
+      ((masked i b inside short).0 (is_mask b short ∙ entry-inside rows (λ k j. 1) (place b) 0 taken))
       (entry-inside rows identity_entry (place b) i taken)
-      ∙ xor_zero_l (identity_entry (place b) i)
+      ∙ xor_zero_l own
 
   free_column : (i b : ℕ) → i < rows → b < 64 → rows ≤ place b → bit_entry words now i (first + b) ≡ A i (first + b)
   free_column i b inside short free =
-      sets.set i b inside short
-      ∙ ap₂ bit_xor
-      ((masked_bit words word rows (λ i w. bit_and (word_of words behind i word) mask) behind cleared clears i b mask inside short refl).1
-      (is_mask b short ∙ entry-none rows (λ k j. 1) (place b) 0 free))
+      set_column i b (bit_entry words behind i (first + b)) 0 inside short
+      ((masked i b inside short).1 (is_mask b short ∙ entry-none rows (λ k j. 1) (place b) 0 free))
       (entry-none rows identity_entry (place b) i free)
       ∙ xor_zero_r (bit_entry words behind i (first + b)) ∙ early i (first + b) (omega (arith, short))
 

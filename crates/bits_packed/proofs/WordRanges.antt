@@ -120,12 +120,22 @@ pub front_read : (n : ℕ) (wanted : ℕ → ℕ) (old now : List ℕ) → IsRan
 front_read n wanted old now write p inside = let e : p ≡ 0 + p = omega arith in ap (slice_index now) e ∙ write.written p inside
 
 -- one word more at the front
-pub front_more : (n value : ℕ) (wanted : ℕ → ℕ) (now : List ℕ) → n < length now → value ≡ wanted n
+front_more : (n value : ℕ) (wanted : ℕ → ℕ) (now : List ℕ) → n < length now → value ≡ wanted n
     → ((p : ℕ) → p < n → slice_index now p ≡ wanted p) → (p : ℕ) → p < n + 1 → slice_index (slice_set now n value) p ≡ wanted p
 front_more n value wanted now inside is before =
     below_more (λ p. slice_index (slice_set now n value) p ≡ wanted p) n
     (λ p below. get_or-set_other now n p value 0 (λ e. absurd (omega (arith, e, below))) ∙ before p below)
     (get_or-set_same now n value 0 inside ∙ is)
+
+-- a list of so many words of which the first n have these values
+abbrev pub IsFilledTo : ℕ → (ℕ → ℕ) → ℕ → List ℕ → Type 0
+IsFilledTo size wanted n now = (length now ≡ size) × ((p : ℕ) → p < n → slice_index now p ≡ wanted p)
+
+-- and one more has its own
+pub one_more_filled : (size n value : ℕ) (wanted : ℕ → ℕ) (now : List ℕ) → n < size → value ≡ wanted n → IsFilledTo size wanted n now
+    → IsFilledTo size wanted (n + 1) (slice_set now n value)
+one_more_filled size n value wanted now inside is so_far =
+    (length-set now n value ∙ so_far.0, front_more n value wanted now (omega (arith, so_far.0, inside)) is so_far.1)
 
 -- a range that lies in a wider one keeps what is outside of that
 pub range_keeps : (first size start count : ℕ) (wanted : ℕ → ℕ) (old now : List ℕ) → first ≤ start → start + count ≤ first + size

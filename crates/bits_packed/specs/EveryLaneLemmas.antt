@@ -1,7 +1,5 @@
 -- A bit in every lane: how GF(2) lies in packed bits. These lemmas stand here since the implementation of the algebra cites them.
-use Rattle.std.proofs.Common.{◌≡◌, ◌≢◌, ℕ, ◌*◌, ◌-◌, ◌^◌, ◌<◌, refl, sym, ◌∙◌, ap, ap₂}
-use Rattle.std.specs.Prelude.{bit_xor}
-use Rattle.std.specs.Int.Bits.{xor_self, xor_zero_l, xor_zero_r}
+use Rattle.std.proofs.Common.{◌≡◌, ℕ, ◌*◌, ◌-◌, ◌^◌, ◌<◌, sym, ◌∙◌, ap, ap₂}
 use native.Mathlib.Nat.{mod-eq_of_lt, one-mul, zero-mul}
 use Rattle.field_base.specs.BitRingLemmas.{two_cases}
 use Rattle.field_base.specs.Ring.{IsRing}
@@ -9,26 +7,6 @@ use Rattle.field_base.specs.Tower.{tower_mul}
 use Rattle.field_base.proofs.RingLemmas.{times-zero, zero-times}
 use Rattle.bits_packed.specs.BitsRingLemmas.{bits_ring, ones_fit}
 use Rattle.bits_packed.specs.Lanes.{bitwise_product}
-
--- the sum of two bits, times n, is the sum of the bits times n
-pub every_sum : (n a b : ℕ) → a < 2 → b < 2 → bit_xor a b * n ≡ bit_xor (a * n) (b * n)
-every_sum n a b p q =
-    two_cases (λ x. (y : ℕ) → y < 2 → bit_xor x y * n ≡ bit_xor (x * n) (y * n))
-    (two_cases (λ y. bit_xor 0 y * n ≡ bit_xor (0 * n) (y * n))
-    (zero-mul n ∙ sym (ap₂ bit_xor (zero-mul n) (zero-mul n)))
-    (one-mul n ∙ sym (ap₂ bit_xor (zero-mul n) (one-mul n) ∙ xor_zero_l n)))
-    (two_cases (λ y. bit_xor 1 y * n ≡ bit_xor (1 * n) (y * n))
-    (one-mul n ∙ sym (ap₂ bit_xor (one-mul n) (zero-mul n) ∙ xor_zero_r n))
-    (zero-mul n ∙ sym (ap₂ bit_xor (one-mul n) (one-mul n) ∙ xor_self n)))
-    a p b q
-
--- bits of the same multiple of a nonzero n are equal
-pub every_same : (n a b : ℕ) → n ≢ 0 → a < 2 → b < 2 → a * n ≡ b * n → a ≡ b
-every_same n a b some p q =
-    two_cases (λ x. (y : ℕ) → y < 2 → x * n ≡ y * n → x ≡ y)
-    (two_cases (λ y. 0 * n ≡ y * n → 0 ≡ y) (λ e. refl) (λ e. absurd (some (sym (one-mul n) ∙ sym e ∙ zero-mul n))))
-    (two_cases (λ y. 1 * n ≡ y * n → 1 ≡ y) (λ e. absurd (some (sym (one-mul n) ∙ e ∙ zero-mul n))) (λ e. refl))
-    a p b q
 
 module _ (w : ℕ) where
   -- 2 ^ w - 1 is neutral

@@ -4,7 +4,8 @@ ghost use Rattle.std.proofs.Common.{◌∙◌, ap};
 ghost use Rattle.std.specs.Prelude.{bit_xor};
 ghost use native.Mathlib.Nat.{one-mul};
 ghost use Rattle.field_base.specs.Operators.{algebra_gives};
-ghost use Rattle.bits_packed.specs.EveryLaneLemmas.{every_product, every_same, every_sum, times_every};
+ghost use Rattle.packed_lanes.specs.BitImageLemmas.{bit_same, bit_sum};
+ghost use Rattle.bits_packed.specs.EveryLaneLemmas.{every_product, times_every};
 ghost use Rattle.bits_packed.specs.Lanes.{bitwise_product};
 
 use crate::packed::PackedGf2;
@@ -19,11 +20,11 @@ impl<U: Underlier> Algebra<Gf2> for PackedGf2<U> {
 
     ghost image_unit_law = { one-mul (2 ^ U.BITS - 1) };
 
-    ghost image_sum_law = { λ a b a_fits b_fits. every_sum (2 ^ U.BITS - 1) a b a_fits b_fits };
+    ghost image_sum_law = { λ a b a_fits b_fits. bit_sum (2 ^ U.BITS - 1) a a_fits b b_fits };
 
     ghost image_product_law = { λ a b a_fits b_fits. every_product U.BITS a b a_fits b_fits };
 
-    ghost image_injective_law = { λ proper a b a_fits b_fits same. every_same (2 ^ U.BITS - 1) a b proper a_fits b_fits same };
+    ghost image_injective_law = { λ proper a b a_fits b_fits same. bit_same (2 ^ U.BITS - 1) proper a a_fits b b_fits same };
 
     ghost image_from_law = { λ x r is. is };
 

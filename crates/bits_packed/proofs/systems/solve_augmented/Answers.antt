@@ -20,25 +20,23 @@ pub returns-in-Some-clause-unsolvable : goal.returns-in-Some-clause-unsolvable
 returns-in-Some-clause-unsolvable c = λ _.
     let unknowns = c.args.unknowns in
     let words = unknowns / 64 + 1 in
-    let old = c.args.augmented.now in
     let step = c.reduce_words-rank in
     let found = c.in-Some.ensures in
-    subst (λ (n : ℕ). (x : ℕ → ℕ) → IsSolution (tower_mul 0) c.args.rows unknowns (bit_entry n old) x → ⊥) (words_are unknowns)
+    subst (λ (n : ℕ). (x : ℕ → ℕ) → IsSolution (tower_mul 0) c.args.rows unknowns (bit_entry n c.args.augmented.now) x → ⊥) (words_are unknowns)
     (solution_missing 1 (tower_mul 0) bits_ring c.args.rows (64 * words) unknowns (omega arith) step.result (slice_index step.new.pivots)
-    (bit_entry words old) (bit_entry words step.new.matrix) (entry-lt words old) (entry-lt words step.new.matrix) step.ensures.reduced
+    (bit_entry words c.args.augmented.now) (bit_entry words step.new.matrix) (entry-lt words c.args.augmented.now) (entry-lt words step.new.matrix) step.ensures.reduced
     step.ensures.space c.in-Some.field-0 found.inside.0 found.inside.1 found.nonzero)
 
 pub returns-in-None-clause-solution : goal.returns-in-None-clause-solution
 returns-in-None-clause-solution c = λ _.
     let unknowns = c.args.unknowns in
     let words = unknowns / 64 + 1 in
-    let old = c.args.augmented.now in
     let step = c.reduce_words-rank in
     let enough = (div_ceil_times unknowns 64 (omega arith)).0 in
     let x = bit_entry (words_for unknowns) c.write_solution.new.solution 0 in
-    subst (λ (n : ℕ). IsSolution (tower_mul 0) c.args.rows unknowns (bit_entry n old) x) (words_are unknowns)
+    subst (λ (n : ℕ). IsSolution (tower_mul 0) c.args.rows unknowns (bit_entry n c.args.augmented.now) x) (words_are unknowns)
     (solution_found 1 (tower_mul 0) bits_ring c.args.rows (64 * words) unknowns (omega arith) step.result (slice_index step.new.pivots)
-    (bit_entry words old) (bit_entry words step.new.matrix) (entry-lt words old) (entry-lt words step.new.matrix) step.ensures.reduced
+    (bit_entry words c.args.augmented.now) (bit_entry words step.new.matrix) (entry-lt words c.args.augmented.now) (entry-lt words step.new.matrix) step.ensures.reduced
     step.ensures.space x
     (record {
       at_pivots = c.write_solution.ensures.at_pivots;

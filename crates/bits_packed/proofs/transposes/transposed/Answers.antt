@@ -3,7 +3,7 @@ use Rattle.std.specs.Prelude.{slice_index}
 use Rattle.std.specs.Int.{bit_at}
 use Rattle.std.proofs.lemmas.List.{length-set}
 use Rattle.bits_packed.proofs.BitTransposes.{number_more, number_read}
-use Rattle.bits_packed.proofs.WordRanges.{front_more}
+use Rattle.bits_packed.proofs.WordRanges.{one_more_filled}
 use Rattle.bits_packed.proofs.transposes.transposed.Goals as goal
 
 pub loop-row-init : goal.loop-row-init
@@ -26,14 +26,10 @@ loop-column-init c = (refl, λ k below. absurd (omega (arith, below)))
 
 pub loop-column-preserved : goal.loop-column-preserved
 loop-column-preserved c =
-    let column = c.loop-column.column in
-    let so_far = c.loop-column.invariant in (
-      length-set c.loop-column.out column c.to_bits.result ∙ so_far.0,
-      front_more column c.to_bits.result (slice_index (map (λ x. x.bits) c.transpose.new.rows)) c.loop-column.out (omega (arith, so_far.0))
-          (c.to_bits.ensures
-          ∙ number_read c.transpose.new.rows column c.index-rows-column.result (λ x. x.bits) (omega arith))
-          so_far.1,
-    )
+    one_more_filled 64 c.loop-column.column c.to_bits.result (slice_index (map (λ x. x.bits) c.transpose.new.rows)) c.loop-column.out
+    (omega arith)
+    (c.to_bits.ensures
+    ∙ number_read c.transpose.new.rows c.loop-column.column c.index-rows-column.result (λ x. x.bits) (omega arith)) c.loop-column.invariant
 
 pub returns : goal.returns
 returns c = λ i j inside fits.

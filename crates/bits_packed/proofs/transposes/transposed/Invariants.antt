@@ -1,5 +1,6 @@
 use Rattle.std.proofs.Common.{◌≡◌, ℕ, ◌<◌, length, map}
 use Rattle.std.specs.Prelude.{slice_index}
+use Rattle.bits_packed.proofs.WordRanges.{IsFilledTo}
 use Rattle.bits_packed.proofs.transposes.transposed.Given as goal
 
 -- the rows before this one are packed
@@ -9,5 +10,4 @@ invariant-loop-row l =
 
 -- and those before this one are read
 abbrev pub invariant-loop-column : goal.invariant-loop-column
-invariant-loop-column l =
-    (length l.out ≡ 64) × ((k : ℕ) → k < l.column → slice_index l.out k ≡ slice_index (map (λ x. x.bits) l.rows) k)
+invariant-loop-column l = IsFilledTo 64 (slice_index (map (λ x. x.bits) l.rows)) l.column l.out
