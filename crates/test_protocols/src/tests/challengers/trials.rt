@@ -101,7 +101,9 @@ fn all_succeed(alloc: Global, field: Field, trials: &[Trial<'_>]) -> bool {
 }
 
 // The fields of the scripts, which are followed from an empty initial state.
-static SCRIPTED: [Field; 6] = [
+static SCRIPTED: [Field; 8] = [
+    Field::Tower8,
+    Field::Tower16,
     Field::Tower8,
     Field::Tower8,
     Field::Tower8,
@@ -124,7 +126,7 @@ fn is_found(alloc: Global, row: &(u64, u16, u16)) -> bool {
 #[test]
 fn scripts_are_followed_and_searches_end(rt: HostRuntime) {
     let alloc = rt.alloc();
-    for place in 0..6usize {
+    for place in 0..8usize {
         let script = Trial::Script(&[], SCRIPTS[place]);
         assert!(rt;
             succeeds_in(alloc, SCRIPTED[place], script),
