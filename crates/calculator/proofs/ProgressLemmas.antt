@@ -11,7 +11,7 @@ use Rattle.std.proofs.lemmas.Result.{on_ok_weaker, on_err_weaker}
 use Rattle.calculator.specs.Answer.{answer_of}
 use Rattle.calculator.specs.Lines.{with_feed, unlines, IsLine, finished, answers_to, answers}
 use Rattle.calculator.proofs.LineLemmas.{answers-unlines, finished-unlines}
-use Rattle.calculator.specs.Progress.{Takes, GainsFront, AnswersLines, AnswersAll, AnswersFront, AnswersWhole, LeavesLines, GaveSome}
+use Rattle.calculator.specs.Progress.{TakesFront, GainsFront, AnswersLines, AnswersAll, AnswersFront, AnswersWhole, LeavesLines, GaveSome}
 
 -- a part of a list, from either end first
 pub take-drop : (i j : ℕ) (xs : List ℕ) → i ≤ j → take (j - i) (drop i xs) ≡ drop i (take j xs)
@@ -22,13 +22,13 @@ take-drop i j xs le =
 -- ---- what a writer takes
 
 -- a writer that takes nothing leaves all
-pub Takes-none : (a : Option (List ℕ)) (all : List ℕ) → Takes a a all all
-Takes-none a all = record { taken = []; appended = Appends-nil a; split = refl }
+pub TakesFront-none : (a : Option (List ℕ)) (all : List ℕ) → TakesFront a a all all
+TakesFront-none a all = record { taken = []; appended = Appends-nil a; split = refl }
 
 -- more bytes wait behind what was left, and the writer takes a front of both
-pub Takes-trans : {a b c : Option (List ℕ)} {all left last : List ℕ} (more : List ℕ)
-    → Takes a b all left → Takes b c (left ++ more) last → Takes a c (all ++ more) last
-Takes-trans {a} {b} {c} {all} {left} {last} more first second = record {
+pub TakesFront-trans : {a b c : Option (List ℕ)} {all left last : List ℕ} (more : List ℕ)
+    → TakesFront a b all left → TakesFront b c (left ++ more) last → TakesFront a c (all ++ more) last
+TakesFront-trans {a} {b} {c} {all} {left} {last} more first second = record {
   taken = first.taken ++ second.taken;
   appended = Appends-trans a b c _ _ first.appended second.appended;
   split = ap (λ (t : List ℕ). t ++ more) first.split ∙ append_assoc first.taken left more
@@ -36,9 +36,9 @@ Takes-trans {a} {b} {c} {all} {left} {last} more first second = record {
 }
 
 -- the writer takes the first n bytes of what was left
-pub Takes-take : {a b c : Option (List ℕ)} {all left : List ℕ} (n : ℕ)
-    → Takes a b all left → Appends b c (take n left) → Takes a c all (drop n left)
-Takes-take {a} {b} {c} {all} {left} n first more = record {
+pub TakesFront-take : {a b c : Option (List ℕ)} {all left : List ℕ} (n : ℕ)
+    → TakesFront a b all left → Appends b c (take n left) → TakesFront a c all (drop n left)
+TakesFront-take {a} {b} {c} {all} {left} n first more = record {
   taken = first.taken ++ take n left;
   appended = Appends-trans a b c _ _ first.appended more;
   split = first.split ∙ ap (λ (t : List ℕ). first.taken ++ t) (sym (take-append-drop n left))
@@ -46,40 +46,40 @@ Takes-take {a} {b} {c} {all} {left} n first more = record {
 }
 
 -- nothing is left
-pub Takes-all : (a b : Option (List ℕ)) (all : List ℕ) → Takes a b all [] → Appends a b all
-Takes-all a b all takes = rw (takes.split, append-nil) takes.appended
+pub TakesFront-all : (a b : Option (List ℕ)) (all : List ℕ) → TakesFront a b all [] → Appends a b all
+TakesFront-all a b all takes = rw (takes.split, append-nil) takes.appended
 
 -- a writer that gains all leaves nothing
-pub Takes-whole : (a b : Option (List ℕ)) (all : List ℕ) → Appends a b all → Takes a b all []
-Takes-whole a b all appended = record { taken = all; appended = appended; split = sym (append-nil all) }
+pub TakesFront-whole : (a b : Option (List ℕ)) (all : List ℕ) → Appends a b all → TakesFront a b all []
+TakesFront-whole a b all appended = record { taken = all; appended = appended; split = sym (append-nil all) }
 
 -- the writer takes a front of all, then a front of what was left
-pub Takes-front : {a b c : Option (List ℕ)} {all left last : List ℕ}
-    → Takes a b all left → Takes b c left last → Takes a c all last
-Takes-front {a} {b} {c} {all} {left} {last} first second =
-    rw append-nil at (Takes-trans {c = c} {last = last} [] first (rw append-nil second))
+pub TakesFront-front : {a b c : Option (List ℕ)} {all left last : List ℕ}
+    → TakesFront a b all left → TakesFront b c left last → TakesFront a c all last
+TakesFront-front {a} {b} {c} {all} {left} {last} first second =
+    rw append-nil at (TakesFront-trans {c = c} {last = last} [] first (rw append-nil second))
 
 -- the writer takes what was left, and what comes behind it
-pub Takes-rest : {a b : Option (List ℕ)} {all left : List ℕ} (c : Option (List ℕ)) (more : List ℕ)
-    → Takes a b all left → Appends b c (left ++ more) → Appends a c (all ++ more)
-Takes-rest {a} {b} {all} {left} c more first rest =
-    Takes-all a c (all ++ more) (Takes-trans more first (Takes-whole b c (left ++ more) rest))
+pub TakesFront-rest : {a b : Option (List ℕ)} {all left : List ℕ} (c : Option (List ℕ)) (more : List ℕ)
+    → TakesFront a b all left → Appends b c (left ++ more) → Appends a c (all ++ more)
+TakesFront-rest {a} {b} {all} {left} c more first rest =
+    TakesFront-all a c (all ++ more) (TakesFront-trans more first (TakesFront-whole b c (left ++ more) rest))
 
 -- the writer takes a front of all, then what was left
-pub Takes-left : {a b : Option (List ℕ)} {all left : List ℕ} (c : Option (List ℕ))
-    → Takes a b all left → Appends b c left → Appends a c all
-Takes-left {a} {b} {all} {left} c first rest =
-    Takes-all a c all (Takes-front first (Takes-whole b c left rest))
+pub TakesFront-left : {a b : Option (List ℕ)} {all left : List ℕ} (c : Option (List ℕ))
+    → TakesFront a b all left → Appends b c left → Appends a c all
+TakesFront-left {a} {b} {all} {left} c first rest =
+    TakesFront-all a c all (TakesFront-front first (TakesFront-whole b c left rest))
 
 -- the writer takes a front of all, then a front of what was left and of more behind it
 pub GainsFront-rest : {a b c : Option (List ℕ)} {all left : List ℕ} (more : List ℕ)
-    → Takes a b all left → GainsFront b c (left ++ more) → GainsFront a c (all ++ more)
-GainsFront-rest more first rest = (rest.0, Takes-trans more first rest.1)
+    → TakesFront a b all left → GainsFront b c (left ++ more) → GainsFront a c (all ++ more)
+GainsFront-rest more first rest = (rest.0, TakesFront-trans more first rest.1)
 
 -- the writer takes a front of all, then a front of what was left
 pub GainsFront-left : {a b c : Option (List ℕ)} {all left : List ℕ}
-    → Takes a b all left → GainsFront b c left → GainsFront a c all
-GainsFront-left first rest = (rest.0, Takes-front first rest.1)
+    → TakesFront a b all left → GainsFront b c left → GainsFront a c all
+GainsFront-left first rest = (rest.0, TakesFront-front first rest.1)
 
 -- more bytes behind those of which the writer gained the front
 pub GainsFront-more : {a b : Option (List ℕ)} {all : List ℕ} (more : List ℕ)
@@ -101,7 +101,7 @@ AnswersLines-none a waiting bytes = record {
   ended = [];
   each = All-nil IsLine;
   cut = refl;
-  takes = rw append-nil (Takes-none a waiting);
+  takes = rw append-nil (TakesFront-none a waiting);
 }
 
 -- lines that were answered, and then the next lines of what was left
@@ -114,14 +114,14 @@ AnswersLines-trans {a} {b} {c} {waiting} {left} {last} {bytes} {middle} {rest} f
       ∙ sym (append_assoc (unlines first.ended) (unlines second.ended) rest)
       ∙ ap (λ (t : List ℕ). t ++ rest) (sym (flat_map-append with_feed first.ended second.ended));
   takes = rw (flat_map-append (λ line. answer_of line ++ 10 ∷ []) first.ended second.ended, ← append_assoc waiting (answers_to first.ended) (answers_to second.ended))
-      (Takes-trans (answers_to second.ended) first.takes second.takes);
+      (TakesFront-trans (answers_to second.ended) first.takes second.takes);
 }
 
 -- the writer takes a front of what was left, and no more lines are answered
 pub AnswersLines-front_left : {a b c : Option (List ℕ)} {waiting left last bytes rest : List ℕ}
-    → AnswersLines a b waiting left bytes rest → Takes b c left last → AnswersLines a c waiting last bytes rest
+    → AnswersLines a b waiting left bytes rest → TakesFront b c left last → AnswersLines a c waiting last bytes rest
 AnswersLines-front_left {a} {b} {c} {waiting} {left} {last} {bytes} {rest} fed more =
-    record { ended = fed.ended; each = fed.each; cut = fed.cut; takes = Takes-front fed.takes more }
+    record { ended = fed.ended; each = fed.each; cut = fed.cut; takes = TakesFront-front fed.takes more }
 
 -- more bytes behind what was left
 pub AnswersLines-more : {a b : Option (List ℕ)} {waiting left bytes rest : List ℕ} (more : List ℕ)
@@ -147,7 +147,7 @@ LeavesLines-told {a} {b} {waiting} {left} c leaves appended = record {
   is_line = leaves.is_line;
   tail = leaves.tail;
   few = leaves.few;
-  answered = AnswersLines-front_left leaves.answered (Takes-whole b c left appended);
+  answered = AnswersLines-front_left leaves.answered (TakesFront-whole b c left appended);
 }
 
 -- the lines that end before a place were answered, and no more are: what was left is written
@@ -160,7 +160,7 @@ LeavesLines-refused c line chunk start is_line answered appended =
 
 -- one line that ends
 pub AnswersLines-line : {a b : Option (List ℕ)} {waiting left : List ℕ} (line rest : List ℕ) → IsLine line
-    → Takes a b (waiting ++ (answer_of line ++ 10 ∷ [])) left → AnswersLines a b waiting left (line ++ 10 ∷ rest) rest
+    → TakesFront a b (waiting ++ (answer_of line ++ 10 ∷ [])) left → AnswersLines a b waiting left (line ++ 10 ∷ rest) rest
 AnswersLines-line {a} {b} {waiting} {left} line rest is_line takes = record {
   ended = line ∷ [];
   each = All-cons IsLine line [] is_line (All-nil IsLine);
@@ -186,7 +186,7 @@ answers-cut {a} {b} {left} {bytes} {rest} fed = ap answers fed.cut ∙ answers-u
 pub AnswersLines-all : {a b : Option (List ℕ)} {left bytes line : List ℕ} (c : Option (List ℕ))
     → AnswersLines a b [] left bytes line → Appends b c (left ++ answers line) → Appends a c (answers bytes)
 AnswersLines-all {a} {b} {left} {bytes} {line} c fed rest =
-    rw (answers-cut fed) (Takes-rest c (answers line) fed.takes rest)
+    rw (answers-cut fed) (TakesFront-rest c (answers line) fed.takes rest)
 
 -- or a front of that
 pub AnswersLines-last : {a b c : Option (List ℕ)} {left bytes line : List ℕ}

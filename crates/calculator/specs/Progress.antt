@@ -4,7 +4,7 @@ use Rattle.std.specs.Io.KnownBytes.{Appends, Consumes, IsAtEnd}
 use Rattle.calculator.specs.Lines.{unlines, IsLine, finished, answers_to, answers}
 
 -- the writer took the front of some bytes, and left the rest
-pub record Takes (old new : Option (List ℕ)) (all left : List ℕ) : Type 0 where
+pub record TakesFront (old new : Option (List ℕ)) (all left : List ℕ) : Type 0 where
   pub taken : List ℕ
   pub appended : Appends old new taken
   pub split : all ≡ taken ++ left
@@ -15,7 +15,7 @@ pub record AnswersLines (old new : Option (List ℕ)) (waiting left bytes rest :
   pub ended : List (List ℕ)
   pub each : All IsLine ended
   pub cut : bytes ≡ unlines ended ++ rest
-  pub takes : Takes old new (waiting ++ answers_to ended) left
+  pub takes : TakesFront old new (waiting ++ answers_to ended) left
 
 -- lines of `bytes` were answered as above, and what was not is a line's beginning and at most `most` bytes
 pub record LeavesLines (old new : Option (List ℕ)) (waiting left bytes : List ℕ) (most : ℕ) : Type 0 where
@@ -27,7 +27,7 @@ pub record LeavesLines (old new : Option (List ℕ)) (waiting left bytes : List 
 
 -- the writer gained the front of some bytes
 abbrev pub GainsFront : Option (List ℕ) → Option (List ℕ) → List ℕ → Type 0
-GainsFront old new all = (left : List ℕ) × Takes old new all left
+GainsFront old new all = (left : List ℕ) × TakesFront old new all left
 
 -- the reader was read to its end, and the writer gained the answers to the lines that it gave
 pub record AnswersAll (reader reader' writer writer' : Option (List ℕ)) : Type 0 where

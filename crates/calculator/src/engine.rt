@@ -4,7 +4,8 @@ ghost use Rattle.calculator.specs.Answer.{answer_of};
 ghost use Rattle.std.specs.Io.KnownBytes.{Appends};
 ghost use Rattle.calculator.specs.Lines.{lines, answers, finished, IsLine, AreLinesOf, IsFinished};
 ghost use Rattle.calculator.specs.Outbox.{waiting};
-ghost use Rattle.calculator.specs.Progress.{Takes, AnswersLines, AnswersAll, AnswersFront, AnswersWhole, LeavesLines, GainsFront, GaveSome};
+ghost use Rattle.calculator.specs.Progress.{TakesFront, AnswersLines, AnswersAll, AnswersFront, AnswersWhole};
+ghost use Rattle.calculator.specs.Progress.{LeavesLines, GainsFront, GaveSome};
 ghost use Rattle.calculator.specs.RunError.{FailedEnds, FailedWriter};
 ghost use Rattle.calculator.specs.Watched.{watched_inner, has_failed};
 ghost use Rattle.calculator.specs.declared.error.RunError.TheVariants.{Memory};
@@ -112,7 +113,7 @@ fn end_line<A: Allocator, W: Write>(
     writer: &mut Watched<W>,
 ) -> Result<(), RunError>
     requires writer { has_failed writer.old ≡ false }
-    ensures ok { OnOk result (Takes (W.contents (watched_inner writer.old))
+    ensures ok { OnOk result (TakesFront (W.contents (watched_inner writer.old))
         (W.contents (watched_inner writer.new))
         (waiting outbox.old ++ (answer_of (line.old.items ++ tail.now) ++ 10 ∷ []))
         (waiting outbox.new)) }
@@ -155,7 +156,7 @@ fn answer_line<W: Write>(
     writer: &mut Watched<W>,
 ) -> Result<(), RunError>
     requires { has_failed writer.old ≡ false }
-    ensures ok { OnOk result (Takes (W.contents (watched_inner writer.old))
+    ensures ok { OnOk result (TakesFront (W.contents (watched_inner writer.old))
         (W.contents (watched_inner writer.new)) (waiting outbox.old ++ (answer_of line.now ++ 10 ∷ []))
         (waiting outbox.new)) }
     ensures err { OnErr result (GainsFront (W.contents (watched_inner writer.old))

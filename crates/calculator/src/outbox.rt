@@ -1,7 +1,7 @@
 //! A buffer that gathers lines for a writer.
 ghost use Rattle.std.specs.Prelude.{◌≡◌, ℕ, ◌+◌, ◌<◌, ◌≤◌, false, List, [], ◌∷◌, ◌++◌, length, OnOk, IfErr, OnErr};
 ghost use Rattle.std.specs.Io.KnownBytes.{Appends};
-ghost use Rattle.calculator.specs.Progress.{Takes, GainsFront};
+ghost use Rattle.calculator.specs.Progress.{TakesFront, GainsFront};
 ghost use Rattle.calculator.specs.RunError.{FailedWriter};
 ghost use Rattle.calculator.specs.Watched.{watched_inner, has_failed};
 
@@ -60,7 +60,7 @@ impl Outbox {
     ) -> Result<(), RunError>
         requires short { length line.now < 8192 }
         requires writer { has_failed writer.old ≡ false }
-        ensures ok { OnOk result (Takes (W.contents (watched_inner writer.old))
+        ensures ok { OnOk result (TakesFront (W.contents (watched_inner writer.old))
             (W.contents (watched_inner writer.new)) (waiting self.old ++ (line.now ++ 10 ∷ []))
             (waiting self.new)) }
         ensures err { OnErr result (GainsFront (W.contents (watched_inner writer.old))

@@ -4,7 +4,7 @@ use Rattle.std.proofs.lemmas.Bool.{eqb-true, eqb-false}
 use Rattle.std.proofs.lemmas.Result.{on_ok_weaker, on_err_weaker}
 use Rattle.calculator.specs.Lines.{answers}
 use Rattle.calculator.proofs.LineLemmas.{answers-none, answers-last}
-use Rattle.calculator.proofs.ProgressLemmas.{OnErr-from, GainsFront-more, GainsFront-left, Takes-left}
+use Rattle.calculator.proofs.ProgressLemmas.{OnErr-from, GainsFront-more, GainsFront-left, TakesFront-left}
 use Rattle.calculator.proofs.engine.finish.Goals as goal
 
 pub returns-then-is_empty-clause-ok : goal.returns-then-is_empty-clause-ok
@@ -26,7 +26,7 @@ returns-clause-ok g c =
     let some = eqb-false (length c.args.line.now) 0 (sym c.if-is_empty.ensures) in
     let more : 0 < length c.args.line.now = omega arith in
     rw (answers-last c.args.line.now c.requires.line more)
-    (on_ok_weaker c.write_out-2.result (λ appended. Takes-left _ c.in_ok-answer_line.ensures.ok appended) c.write_out-2.ensures.ok)
+    (on_ok_weaker c.write_out-2.result (λ appended. TakesFront-left _ c.in_ok-answer_line.ensures.ok appended) c.write_out-2.ensures.ok)
 
 pub returns-clause-err : goal.returns-clause-err
 returns-clause-err g c =

@@ -1,7 +1,7 @@
 -- What holds between two writes.
 use Rattle.std.proofs.Common.{◌≡◌, ◌-◌, ◌≤◌, false, drop}
 use Rattle.calculator.specs.Outbox.{waiting}
-use Rattle.calculator.specs.Progress.{Takes}
+use Rattle.calculator.specs.Progress.{TakesFront}
 use Rattle.calculator.specs.Watched.{watched_inner, has_failed}
 use Rattle.calculator.proofs.outbox.Outbox.write_to.Given as goal
 
@@ -9,7 +9,7 @@ use Rattle.calculator.proofs.outbox.Outbox.write_to.Given as goal
 abbrev pub invariant-loop-taken : goal.invariant-loop-taken
 invariant-loop-taken g l = record {
   within : l.taken ≤ l.self.len;
-  takes : Takes (g.W.Write.contents (watched_inner l.fn.writer)) (g.W.Write.contents (watched_inner l.writer)) (waiting l.fn.self) (drop l.taken (waiting l.fn.self));
+  takes : TakesFront (g.W.Write.contents (watched_inner l.fn.writer)) (g.W.Write.contents (watched_inner l.writer)) (waiting l.fn.self) (drop l.taken (waiting l.fn.self));
   passed : has_failed l.writer ≡ false;
 }
 
