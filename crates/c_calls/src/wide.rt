@@ -1,7 +1,12 @@
 // Two words of 64 bits that are a number of 128.
+ghost use prog.Memory.{size};
+ghost use denote.Param.{layout};
+ghost use Rattle.std.proofs.Common.{lit<};
+ghost use Rattle.c_calls.specs.Fields.{wide_number};
 ghost use Rattle.c_calls.specs.Fits.{FitsTwo};
+ghost use Rattle.field_base.specs.Room.{few_fit};
 
-use field_base::Holds;
+use field_base::{Holds, Reads};
 
 /// A word of 128 bits as two of 64, low half first.
 #[repr(C)]
@@ -12,9 +17,7 @@ pub struct Wide {
     ghost in_range: { FitsTwo low high },
 }
 
-impl Holds<u128> for Wide {
-    ghost use Rattle.c_calls.specs.Fields.{wide_number};
-
+impl Reads<u128> for Wide {
     ghost number = { wide_number };
 
     #[inline]
@@ -22,6 +25,11 @@ impl Holds<u128> for Wide {
         u128::from(self.high) * 0x10000000000000000 + u128::from(self.low)
     }
 
+    #[inline(always)]
+    fn numbers_fit(places: &[Wide]) {}
+}
+
+impl Holds<u128> for Wide {
     #[inline]
     fn of_stored(number: u128) -> Wide {
         Wide {
@@ -30,6 +38,5 @@ impl Holds<u128> for Wide {
         }
     }
 
-    #[inline(always)]
-    fn numbers_fit(words: &[Wide]) {}
+    ghost room_law = { few_fit 1024 16 (lit< tt) };
 }

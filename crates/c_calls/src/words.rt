@@ -1,12 +1,13 @@
 // The words of 192 bits in which elements cross to other languages, and the words of a field's arithmetic that they hold.
+ghost use prog.Memory.{size};
+ghost use denote.Param.{layout};
 ghost use Rattle.c_calls.specs.Fields.{cubic_number};
 ghost use Rattle.field_base.specs.Room.{few_fit};
 ghost use Rattle.word_polynomial.specs.Fits.{FitsThree};
 ghost use Rattle.std.proofs.Common.{lit<};
 
-use field_base::Holds;
-use many_words::Many;
-use word_polynomial::{CubicKernel, Triple};
+use field_base::{Holds, Reads};
+use word_polynomial::Triple;
 
 /// A word of 192 bits as three of 64, the coefficient of 1 first, then that of y and of y².
 #[repr(C)]
@@ -18,7 +19,7 @@ pub struct Cubic {
     ghost in_range: { FitsThree c0 c1 c2 },
 }
 
-impl Holds<Triple> for Cubic {
+impl Reads<Triple> for Cubic {
     ghost number = { cubic_number };
 
     #[inline]
@@ -30,6 +31,11 @@ impl Holds<Triple> for Cubic {
         }
     }
 
+    #[inline(always)]
+    fn numbers_fit(places: &[Cubic]) {}
+}
+
+impl Holds<Triple> for Cubic {
     #[inline]
     fn of_stored(x: Triple) -> Cubic {
         Cubic {
@@ -39,10 +45,5 @@ impl Holds<Triple> for Cubic {
         }
     }
 
-    #[inline(always)]
-    fn numbers_fit(words: &[Cubic]) {}
-}
-
-impl Many<Triple, Cubic> for CubicKernel {
     ghost room_law = { few_fit 1024 24 (lit< tt) };
 }

@@ -5,7 +5,6 @@
 pub mod byte_tables;
 mod decimal;
 mod gf2;
-mod holds;
 mod integer;
 mod kernel;
 pub mod laws;
@@ -18,10 +17,9 @@ mod word;
 
 pub use crate::decimal::write_decimal;
 pub use crate::gf2::Gf2;
-pub use crate::holds::Holds;
 pub use crate::integer::Integer;
 pub use crate::kernel::{Contains, FieldKernel, Joins, LevelKernel};
 pub use crate::prime::{PrimeField, PrimeField32, PrimeField64, QuotientMap};
 pub use crate::reading::ReadWord;
-pub use crate::reads::Reads;
+pub use crate::reads::{Holds, Reads};
 pub use crate::word::{Stored, Unsigned};

@@ -17,9 +17,9 @@ returns-after-is_inverse-clause-values g c forward =
     elim c.if-is_inverse.branch [
       | then-is_inverse w ↦ absurd (forward w.if-is_inverse.true)
       | else-is_inverse w ↦
-          through_images g.W.Holds.number HoldPolynomialValues c.args.z c.to_tower_128-shift.result c.args.words.now c.change_basis.new.words
+          through_images g.W.Reads.number HoldPolynomialValues c.args.z c.to_tower_128-shift.result c.args.words.now c.change_basis.new.words
           w.forward_by.new.values c.change_basis-then-is_narrow.new.words c.to_tower_128-shift.ensures.image c.change_basis.ensures.changed
-          (c.change_basis-then-is_narrow.ensures.changed ∙ ap (λ l. map (before_change true) (map g.W.Holds.number l)) w.words-is)
+          (c.change_basis-then-is_narrow.ensures.changed ∙ ap (λ l. map (before_change true) (map g.W.Reads.number l)) w.words-is)
           w.forward_by.ensures.values
     ]
 
@@ -27,9 +27,9 @@ pub returns-after-is_inverse-clause-coefficients : goal.returns-after-is_inverse
 returns-after-is_inverse-clause-coefficients g c inverse =
     elim c.if-is_inverse.branch [
       | then-is_inverse w ↦
-          through_images g.W.Holds.number AreOnlyCoefficients c.args.z c.to_tower_128-shift.result c.args.words.now c.change_basis.new.words
+          through_images g.W.Reads.number AreOnlyCoefficients c.args.z c.to_tower_128-shift.result c.args.words.now c.change_basis.new.words
           w.inverse_by.new.values c.change_basis-then-is_narrow.new.words c.to_tower_128-shift.ensures.image c.change_basis.ensures.changed
-          (c.change_basis-then-is_narrow.ensures.changed ∙ ap (λ l. map (before_change true) (map g.W.Holds.number l)) w.words-is)
+          (c.change_basis-then-is_narrow.ensures.changed ∙ ap (λ l. map (before_change true) (map g.W.Reads.number l)) w.words-is)
           w.inverse_by.ensures.coefficients
       | else-is_inverse w ↦ absurd (false≢true (sym w.if-is_inverse.false ∙ inverse))
     ]

@@ -6,5 +6,5 @@ use Rattle.additive_transforms.proofs.images.change_basis.Given as goal
 abbrev pub invariant-loop-place : goal.invariant-loop-place
 invariant-loop-place g l =
     (length l.words ≡ length l.fn.words)
-    × (map (after_change l.back) (take l.place (map g.W.Holds.number l.words)) ++ map (before_change l.back) (drop l.place (map g.W.Holds.number l.words))
-    ≡ map (before_change l.back) (map g.W.Holds.number l.fn.words))
+    × (map (after_change l.back) (take l.place (map g.W.Reads.number l.words)) ++ map (before_change l.back) (drop l.place (map g.W.Reads.number l.words))
+    ≡ map (before_change l.back) (map g.W.Reads.number l.fn.words))

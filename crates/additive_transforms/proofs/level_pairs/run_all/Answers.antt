@@ -7,7 +7,7 @@ use Rattle.additive_transforms.proofs.level_pairs.run_all.Goals as goal
 pub returns-clause-values : goal.returns-clause-values
 returns-clause-values g c s is =
     let k = g.S.Multiplies.level in
-    let element = level_element g.W.Holds.number k in
+    let element = level_element g.W.Reads.number k in
     taken_ends element (tower_mul k) s (length c.args.lo.now) c.args.lo.now c.args.hi.now c.run_pairs.new.lo c.run_pairs.new.hi c.requires
     (omega arith) c.args.inverse
     (c.run_pairs.ensures.values s is (map element c.args.lo.now) (map element c.args.hi.now)

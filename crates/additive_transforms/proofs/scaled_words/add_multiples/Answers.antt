@@ -9,8 +9,8 @@ loop-block-preserved g c =
       c.scatter.ensures.length ∙ c.loop-block.invariant.0,
       λ s are.
           block_added g.P.Planes.depth g.W.WordBytes.size g.P.Planes.lanes c.lane_count-lanes.result c.loop-block.block s c.requires.size
-          c.lane_count-lanes.ensures.count _ _ _ (map g.W.Holds.number c.args.words.now) (map g.W.Holds.number c.args.sums.now)
-          (map g.W.Holds.number c.loop-block.sums) (map g.W.Holds.number c.scatter.new.words) c.requires.fit (c.loop-block.invariant.1 s are)
+          c.lane_count-lanes.ensures.count _ _ _ (map g.W.Reads.number c.args.words.now) (map g.W.Reads.number c.args.sums.now)
+          (map g.W.Reads.number c.loop-block.sums) (map g.W.Reads.number c.scatter.new.words) c.requires.fit (c.loop-block.invariant.1 s are)
           (c.products_at-products.ensures s are) c.gather.ensures c.add.ensures c.scatter.ensures.words,
       omega (arith, within),
     )

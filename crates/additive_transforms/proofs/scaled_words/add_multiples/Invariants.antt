@@ -10,7 +10,7 @@ abbrev pub invariant-loop-block : goal.invariant-loop-block
 invariant-loop-block g l =
     (length l.sums ≡ length l.fn.sums)
     × ((s : ℕ) → g.P.Planes.are_multiples l.multiples s → FirstAre (l.lanes * l.block)
-    (λ k. bit_xor (slice_index (map g.W.Holds.number l.fn.sums) k)
-    (tower_mul (level_of g.P.Planes.depth) s (slice_index (map g.W.Holds.number l.words) k)))
-    (map g.W.Holds.number l.fn.sums) (map g.W.Holds.number l.sums))
+    (λ k. bit_xor (slice_index (map g.W.Reads.number l.fn.sums) k)
+    (tower_mul (level_of g.P.Planes.depth) s (slice_index (map g.W.Reads.number l.words) k)))
+    (map g.W.Reads.number l.fn.sums) (map g.W.Reads.number l.sums))
     × (l.block ≤ l.blocks)

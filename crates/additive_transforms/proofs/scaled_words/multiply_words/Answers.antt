@@ -9,8 +9,8 @@ loop-block-preserved g c =
       c.scatter.ensures.length ∙ c.loop-block.invariant.0,
       λ s are.
           block_multiplied g.P.Planes.depth g.W.WordBytes.size g.P.Planes.lanes c.lane_count-lanes.result c.loop-block.block s c.requires
-          c.lane_count-lanes.ensures.count _ (map g.W.Holds.number c.args.words.now) (map g.W.Holds.number c.loop-block.words)
-          (map g.W.Holds.number c.scatter.new.words) (c.loop-block.invariant.1 s are) (c.products_at-products.ensures s are) c.scatter.ensures.words,
+          c.lane_count-lanes.ensures.count _ (map g.W.Reads.number c.args.words.now) (map g.W.Reads.number c.loop-block.words)
+          (map g.W.Reads.number c.scatter.new.words) (c.loop-block.invariant.1 s are) (c.products_at-products.ensures s are) c.scatter.ensures.words,
       omega (arith, within),
     )
 

@@ -10,6 +10,6 @@ abbrev pub invariant-loop-block : goal.invariant-loop-block
 invariant-loop-block g l =
     (length l.words ≡ length l.fn.words)
     × ((s : ℕ) → g.P.Planes.are_multiples l.multiples s → FirstAre (l.lanes * l.block)
-    (λ k. tower_mul (level_of g.P.Planes.depth) s (slice_index (map g.W.Holds.number l.fn.words) k))
-    (map g.W.Holds.number l.fn.words) (map g.W.Holds.number l.words))
+    (λ k. tower_mul (level_of g.P.Planes.depth) s (slice_index (map g.W.Reads.number l.fn.words) k))
+    (map g.W.Reads.number l.fn.words) (map g.W.Reads.number l.words))
     × (l.block ≤ l.blocks)

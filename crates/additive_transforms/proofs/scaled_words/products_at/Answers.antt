@@ -4,5 +4,5 @@ use Rattle.additive_transforms.proofs.scaled_words.products_at.Goals as goal
 
 pub returns : goal.returns
 returns g c s are =
-    products_read g.P.Planes.depth g.W.WordBytes.size c.args.start g.P.Planes.lanes s _ _ (map g.W.Holds.number c.args.words.now) c.requires.size
+    products_read g.P.Planes.depth g.W.WordBytes.size c.args.start g.P.Planes.lanes s _ _ (map g.W.Reads.number c.args.words.now) c.requires.size
     c.gather-elements.ensures (c.set_product.ensures s are)

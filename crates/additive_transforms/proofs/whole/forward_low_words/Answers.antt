@@ -30,7 +30,7 @@ run_low_words-requires-clause-numbered g c some =
 
 pub returns-clause-values : goal.returns-clause-values
 returns-clause-values g c =
-    let value = low_word g.W.Holds.number in
+    let value = low_word g.W.Reads.number in
     let twiddles = c.new-twiddles.result in
     let upper = c.stages_down_to.new.values in
     let is = c.stages_of-stages.ensures.stages in

@@ -9,5 +9,5 @@ inverse_with-requires g c = transform_room (length c.args.words.now) c.new.resul
 
 pub returns-clause-coefficients : goal.returns-clause-coefficients
 returns-clause-coefficients g c =
-    of_low g.W.Holds.number (AreOnlyCoefficients c.args.z) c.args.words.now c.inverse_with.new.values c.numbers_fit.ensures
+    of_low g.W.Reads.number (AreOnlyCoefficients c.args.z) c.args.words.now c.inverse_with.new.values c.numbers_fit.ensures
     c.numbers_fit-2.ensures c.inverse_with.ensures.coefficients

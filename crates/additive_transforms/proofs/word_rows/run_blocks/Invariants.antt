@@ -9,5 +9,5 @@ invariant-loop-block g l =
     (length l.lo ≡ length l.fn.lo) × (length l.hi ≡ length l.fn.hi)
     × ((s : ℕ) → g.M.Scales.are_multiples l.multiples s → s < 2 ^ 2 ^ level_of g.M.Scales.depth
     → (k : ℕ) → level_of g.M.Scales.depth ≤ k → k ≤ level_of g.W.WordBytes.size
-    → TakesWordPairs g.W.Holds.number k l.inverse s l.fn.first (l.fn.first + l.count * l.block) l.fn.lo l.fn.hi l.lo l.hi)
+    → TakesWordPairs g.W.Reads.number k l.inverse s l.fn.first (l.fn.first + l.count * l.block) l.fn.lo l.fn.hi l.lo l.hi)
     × (l.block ≤ l.blocks)

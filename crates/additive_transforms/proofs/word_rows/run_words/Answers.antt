@@ -9,7 +9,7 @@ use Rattle.additive_transforms.proofs.word_rows.run_words.Goals as goal
 pub returns-clause-values : goal.returns-clause-values
 returns-clause-values g c s is =
     let k = g.L.Level.LEVEL in
-    let element = level_element g.W.Holds.number k in
+    let element = level_element g.W.Reads.number k in
     let lo = c.args.lo.now in
     let hi = c.args.hi.now in
     let few = level_within k (level_of g.W.WordBytes.size)

@@ -5,11 +5,11 @@ use Rattle.ghash_slices.proofs.BlockLemmas.{bytes_end, bytes_start, bytes_step, 
 use Rattle.ghash_slices.proofs.blocks.bytes_from.Goals as goal
 
 pub loop-place-init : goal.loop-place-init
-loop-place-init g c = bytes_start (map g.W.Holds.number c.args.values.now) c.args.start
+loop-place-init g c = bytes_start (map g.W.Reads.number c.args.values.now) c.args.start
 
 pub loop-place-preserved : goal.loop-place-preserved
 loop-place-preserved g c =
-    let values = map g.W.Holds.number c.args.values.now in
+    let values = map g.W.Reads.number c.args.values.now in
     let place = c.loop-place.place in
     let few : place < 16 = let all = c.count_from-place-end.ensures.few in omega arith in
     subst (BytesSoFar values c.args.start (place + 1)) (sym c.put_lanes.ensures)
@@ -18,7 +18,7 @@ loop-place-preserved g c =
 
 pub returns : goal.returns
 returns g c =
-    let value = g.W.Holds.number in
+    let value = g.W.Reads.number in
     let place = c.loop-place.place in
     let count = c.count_from-place-end in
     let all = count.ensures.few in

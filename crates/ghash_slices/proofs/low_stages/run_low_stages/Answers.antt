@@ -6,7 +6,7 @@ use Rattle.ghash_slices.proofs.low_stages.run_low_stages.Goals.{then-run-gt0, el
 
 pub loop-run-preserved : goal.loop-run-preserved
 loop-run-preserved g c =
-    let value = g.W.Holds.number in
+    let value = g.W.Reads.number in
     let run = c.loop-run in
     let stepped = c.if-run-gt0 in
     let ready : ReadyFor c.args.shifts.now c.args.basis.now c.args.first_run run.run stepped.number stepped.twiddles =
@@ -34,7 +34,7 @@ loop-run-preserved g c =
 
 pub returns-clause-values : goal.returns-clause-values
 returns-clause-values g c =
-    let value = g.W.Holds.number in
+    let value = g.W.Reads.number in
     let run = c.loop-run in
     let old = map value c.args.values.now in
     let long = length-map c.args.values.now value in

@@ -73,7 +73,7 @@ add_to_pair-requires-in-loop-turn-3-clause-inside g c =
 pub loop-turn-init : goal.loop-turn-init
 loop-turn-init g c = (
   refl,
-  stage_starts c.args.twiddles.now c.args.low.now c.args.bit c.args.start (map g.W.Holds.number c.args.values.now),
+  stage_starts c.args.twiddles.now c.args.low.now c.args.bit c.args.start (map g.W.Reads.number c.args.values.now),
 )
 
 pub loop-turn-preserved : goal.loop-turn-preserved
@@ -83,7 +83,7 @@ loop-turn-preserved g c =
     let turn = c.loop-turn.turn in
     let twiddles = c.args.twiddles.now in
     let low = c.args.low.now in
-    let value = g.W.Holds.number in
+    let value = g.W.Reads.number in
     let old = map value c.args.values.now in
     let values = map value c.loop-turn.values in
     let whole : start + 16 ≤ length old = omega (arith, c.requires.whole, length-map c.args.values.now value) in
@@ -122,5 +122,5 @@ loop-turn-preserved g c =
 pub returns-clause-run : goal.returns-clause-run
 returns-clause-run g c =
     stage_ends c.args.twiddles.now c.args.low.now c.args.bit c.args.start (4 * c.loop-turn.turn)
-    (map g.W.Holds.number c.args.values.now) (map g.W.Holds.number c.loop-turn.values) c.requires.bit (omega arith)
+    (map g.W.Reads.number c.args.values.now) (map g.W.Reads.number c.loop-turn.values) c.requires.bit (omega arith)
     c.loop-turn.invariant.1

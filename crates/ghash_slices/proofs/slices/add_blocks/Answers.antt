@@ -5,7 +5,7 @@ use Rattle.ghash_slices.proofs.slices.add_blocks.Goals as goal
 
 pub loop-block-preserved : goal.loop-block-preserved
 loop-block-preserved g c =
-    let value = g.W.Holds.number in
+    let value = g.W.Reads.number in
     let old = map value c.args.values.now in
     let others = map value c.args.others.now in
     let block = c.loop-block.block in

@@ -6,6 +6,6 @@ use Rattle.ghash_slices.proofs.slices.add_blocks.Given as goal
 -- the blocks before are done
 abbrev pub invariant-loop-block : goal.invariant-loop-block
 invariant-loop-block g l =
-    let value = g.W.Holds.number in
+    let value = g.W.Reads.number in
     HoldsPlaces (added_at (scalar_of l.multiples) (map value l.fn.values) (map value l.others)) (16 * l.first) (16 * l.block)
     (map value l.fn.values) (map value l.values)

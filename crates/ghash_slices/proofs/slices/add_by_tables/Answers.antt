@@ -8,7 +8,7 @@ use Rattle.ghash_slices.proofs.slices.add_by_tables.Goals as goal
 
 pub returns : goal.returns
 returns g c =
-    let value = g.W.Holds.number in
+    let value = g.W.Reads.number in
     let old = map value c.args.values.now in
     let others = map value c.args.others.now in
     let new = map value c.add_products.new.values in

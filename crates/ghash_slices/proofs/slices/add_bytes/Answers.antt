@@ -7,7 +7,7 @@ use Rattle.ghash_slices.proofs.slices.add_bytes.Goals as goal
 
 pub loop-place-init : goal.loop-place-init
 loop-place-init g c =
-    let old = map g.W.Holds.number c.args.values.now in
+    let old = map g.W.Reads.number c.args.values.now in
     let start = c.args.start in
     let at : start ≡ start + 0 = omega arith in (
       refl,
@@ -18,7 +18,7 @@ loop-place-init g c =
 
 pub loop-place-preserved : goal.loop-place-preserved
 loop-place-preserved g c =
-    let value = g.W.Holds.number in
+    let value = g.W.Reads.number in
     let old = map value c.args.values.now in
     let start = c.args.start in
     let place = c.loop-place.place in
@@ -39,7 +39,7 @@ loop-place-preserved g c =
 
 pub returns : goal.returns
 returns g c added held =
-    let value = g.W.Holds.number in
+    let value = g.W.Reads.number in
     let old = map value c.args.values.now in
     let place = c.loop-place.place in
     let count = c.count_from-place-end in

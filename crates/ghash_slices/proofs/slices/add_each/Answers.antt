@@ -6,12 +6,12 @@ use Rattle.ghash_slices.proofs.slices.add_each.Goals as goal
 
 pub loop-place-init : goal.loop-place-init
 loop-place-init g c =
-    let value = g.W.Holds.number in
+    let value = g.W.Reads.number in
     none_held (λ p. bit_xor (slice_index (map value c.args.values.now) p) (slice_index (map value c.args.others.now) p)) 0 (map value c.args.values.now)
 
 pub loop-place-preserved : goal.loop-place-preserved
 loop-place-preserved g c =
-    let value = g.W.Holds.number in
+    let value = g.W.Reads.number in
     let long = length-map c.loop-place.values value in
     let here : c.loop-place.place ≤ c.loop-place.place = omega arith in
     place_written (λ p. bit_xor (slice_index (map value c.args.values.now) p) (slice_index (map value c.args.others.now) p)) 0 c.loop-place.place
@@ -21,7 +21,7 @@ loop-place-preserved g c =
 
 pub returns : goal.returns
 returns g c =
-    let value = g.W.Holds.number in
+    let value = g.W.Reads.number in
     let long = length-map c.args.values.now value in
     held_zip2 bit_xor c.loop-place.place (map value c.args.values.now) (map value c.args.others.now) (map value c.loop-place.values)
     (long ∙ c.requires ∙ sym (length-map c.args.others.now value)) (omega (arith, long)) c.loop-place.invariant

@@ -10,7 +10,7 @@ use Rattle.ghash_slices.proofs.slices.add_in_lanes.Goals as goal
 
 pub loop-pair-preserved : goal.loop-pair-preserved
 loop-pair-preserved g c =
-    let value = g.W.Holds.number in
+    let value = g.W.Reads.number in
     let scalar = c.args.multiples.now.scalar in
     let old = map value c.args.values.now in
     let others = map value c.args.others.now in
@@ -31,7 +31,7 @@ loop-pair-preserved g c =
 
 pub returns : goal.returns
 returns g c =
-    let value = g.W.Holds.number in
+    let value = g.W.Reads.number in
     let scalar = c.args.multiples.now.scalar in
     let old = map value c.args.values.now in
     let others = map value c.args.others.now in

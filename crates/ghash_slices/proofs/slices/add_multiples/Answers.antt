@@ -7,7 +7,7 @@ use Rattle.ghash_slices.proofs.slices.add_multiples.Goals as goal
 
 pub returns-then-values-lt-LEAST_IN_LANES : goal.returns-then-values-lt-LEAST_IN_LANES
 returns-then-values-lt-LEAST_IN_LANES g c =
-    let value = g.W.Holds.number in
+    let value = g.W.Reads.number in
     let long = length-map c.args.values.now value in
     held_zip2 (add_multiple ghash_product c.args.scalar) (length c.args.values.now) (map value c.args.values.now)
     (map value c.args.others.now) (map value c.add_few.new.values) (long ∙ c.requires ∙ sym (length-map c.args.others.now value))

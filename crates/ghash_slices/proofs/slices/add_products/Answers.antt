@@ -8,13 +8,13 @@ use Rattle.ghash_slices.proofs.slices.add_products.Goals as goal
 
 pub loop-place-init : goal.loop-place-init
 loop-place-init g c =
-    let value = g.W.Holds.number in
+    let value = g.W.Reads.number in
     let old = map value c.args.values.now in
     none_held (added_at (g.S.ScalarProducts.scalar c.args.products.now) old (map value c.args.others.now)) c.args.start old
 
 pub loop-place-preserved : goal.loop-place-preserved
 loop-place-preserved g c =
-    let value = g.W.Holds.number in
+    let value = g.W.Reads.number in
     let scalar = g.S.ScalarProducts.scalar c.args.products.now in
     let old = map value c.args.values.now in
     let others = map value c.args.others.now in
@@ -28,7 +28,7 @@ loop-place-preserved g c =
 
 pub returns : goal.returns
 returns g c =
-    let value = g.W.Holds.number in
+    let value = g.W.Reads.number in
     let old = map value c.args.values.now in
     let long = length-map c.args.values.now value in
     held_until (added_at (g.S.ScalarProducts.scalar c.args.products.now) old (map value c.args.others.now)) c.args.start c.loop-place.place

@@ -8,7 +8,7 @@ use Rattle.ghash_slices.proofs.slices.multiply_block.Goals as goal
 
 pub loop-place-init : goal.loop-place-init
 loop-place-init g c =
-    let value = g.W.Holds.number in
+    let value = g.W.Reads.number in
     let old = map value c.args.values.now in
     let at : c.args.start ≡ c.args.start + 0 = omega arith in
     subst (λ (n : ℕ). HoldsPlaces (multiplied_at c.args.multiples.now.scalar old) c.args.start n old old) at
@@ -16,7 +16,7 @@ loop-place-init g c =
 
 pub loop-place-preserved : goal.loop-place-preserved
 loop-place-preserved g c =
-    let value = g.W.Holds.number in
+    let value = g.W.Reads.number in
     let scalar = c.args.multiples.now.scalar in
     let old = map value c.args.values.now in
     let start = c.args.start in
@@ -33,7 +33,7 @@ loop-place-preserved g c =
 
 pub returns : goal.returns
 returns g c =
-    let value = g.W.Holds.number in
+    let value = g.W.Reads.number in
     let old = map value c.args.values.now in
     let place = c.loop-place.place in
     let count = c.count_from-place-end in

@@ -6,7 +6,7 @@ use Rattle.ghash_slices.proofs.slices.multiply_by_tables.Goals as goal
 
 pub returns : goal.returns
 returns g c =
-    let value = g.W.Holds.number in
+    let value = g.W.Reads.number in
     let old = map value c.args.values.now in
     let new = map value c.multiply_each.new.values in
     let long = length-map c.args.values.now value in

@@ -7,13 +7,13 @@ use Rattle.ghash_slices.proofs.slices.multiply_each.Goals as goal
 
 pub loop-place-init : goal.loop-place-init
 loop-place-init g c =
-    let value = g.W.Holds.number in
+    let value = g.W.Reads.number in
     let old = map value c.args.values.now in
     none_held (multiplied_at (g.S.ScalarProducts.scalar c.args.products.now) old) c.args.start old
 
 pub loop-place-preserved : goal.loop-place-preserved
 loop-place-preserved g c =
-    let value = g.W.Holds.number in
+    let value = g.W.Reads.number in
     let scalar = g.S.ScalarProducts.scalar c.args.products.now in
     let old = map value c.args.values.now in
     let place = c.loop-place.place in
@@ -26,7 +26,7 @@ loop-place-preserved g c =
 
 pub returns : goal.returns
 returns g c =
-    let value = g.W.Holds.number in
+    let value = g.W.Reads.number in
     let long = length-map c.args.values.now value in
     let old = map value c.args.values.now in
     held_until (multiplied_at (g.S.ScalarProducts.scalar c.args.products.now) old) c.args.start c.loop-place.place (length c.args.values.now)

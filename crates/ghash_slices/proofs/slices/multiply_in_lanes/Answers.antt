@@ -6,7 +6,7 @@ use Rattle.ghash_slices.proofs.slices.multiply_in_lanes.Goals as goal
 
 pub loop-block-preserved : goal.loop-block-preserved
 loop-block-preserved g c =
-    let value = g.W.Holds.number in
+    let value = g.W.Reads.number in
     let scalar = c.args.multiples.now.scalar in
     let old = map value c.args.values.now in
     let now = map value c.loop-block.values in

@@ -5,7 +5,7 @@ use Rattle.additive_transforms.proofs.word_bytes.AnyWordBytesU128.read_bytes.Goa
 
 pub returns : goal.returns
 returns g c =
-    let number = g.W.Holds.number in
+    let number = g.W.Reads.number in
     let words = c.args.words.now in
     let room = c.requires in
     let word = c.index-words-start.result in

@@ -6,7 +6,7 @@ use Rattle.additive_transforms.proofs.word_bytes.AnyWordBytesU128.write_bytes.Go
 
 pub returns-clause-words : goal.returns-clause-words
 returns-clause-words g c =
-    let number = g.W.Holds.number in
+    let number = g.W.Reads.number in
     let words = c.args.words.now in
     let room = c.requires in
     let long = length-map words number in

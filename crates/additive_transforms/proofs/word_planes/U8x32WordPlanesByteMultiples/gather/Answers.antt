@@ -19,7 +19,7 @@ pub returns : goal.returns
 returns g c =
     let size = g.W.WordBytes.size in
     let half = half_count size c.args.count 16 1 g.met.W.WordBytes.size_law refl c.requires.count in
-    let numbers = map g.W.Holds.number c.args.words.now in
+    let numbers = map g.W.Reads.number c.args.words.now in
     let a = c.read_bytes-first.result in
     let b = c.read_bytes-second.result in
     let long = c.holds_bytes.ensures.count in

@@ -19,7 +19,7 @@ pub returns-clause-words : goal.returns-clause-words
 returns-clause-words g c =
     let size = g.W.WordBytes.size in
     let half = half_count size c.args.count 16 1 g.met.W.WordBytes.size_law refl c.requires.count in
-    let numbers = map g.W.Holds.number in
+    let numbers = map g.W.Reads.number in
     let a = c.halves.result.0 in
     let b = c.halves.result.1 in
     let parts = halved c.args.self a b c.fits-self.0 c.halves.ensures in

@@ -14,5 +14,5 @@ returns g c =
     let first = c.holds_bytes.ensures in
     let second = c.holds_bytes-2.ensures in
     two_chunks_read g.W.WordBytes.size c.args.start c.args.count c.gather-first.result c.gather-second.result g.met.W.WordBytes.size_law
-    c.requires.count first.count second.count first.fit second.fit (map g.W.Holds.number c.args.words.now) c.gather-first.ensures
+    c.requires.count first.count second.count first.fit second.fit (map g.W.Reads.number c.args.words.now) c.gather-first.ensures
     c.gather-second.ensures

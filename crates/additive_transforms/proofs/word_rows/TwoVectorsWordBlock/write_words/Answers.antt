@@ -14,13 +14,13 @@ returns-clause-words g c =
     let first = c.holds_bytes.ensures in
     let second = c.holds_bytes-2.ensures in
     (two_chunks_put g.W.WordBytes.size c.args.start c.args.count c.args.self.first c.args.self.second g.met.W.WordBytes.size_law
-    c.requires.count first.count second.count first.fit second.fit _ (map g.W.Holds.number c.scatter.new.words)
-    (map g.W.Holds.number c.scatter-2.new.words) c.scatter.ensures.words c.scatter-2.ensures.words).0
+    c.requires.count first.count second.count first.fit second.fit _ (map g.W.Reads.number c.scatter.new.words)
+    (map g.W.Reads.number c.scatter-2.new.words) c.scatter.ensures.words c.scatter-2.ensures.words).0
 
 pub returns-clause-kept : goal.returns-clause-kept
 returns-clause-kept g c =
     let first = c.holds_bytes.ensures in
     let second = c.holds_bytes-2.ensures in
     (two_chunks_put g.W.WordBytes.size c.args.start c.args.count c.args.self.first c.args.self.second g.met.W.WordBytes.size_law
-    c.requires.count first.count second.count first.fit second.fit (map g.W.Holds.number c.args.words.now)
-    (map g.W.Holds.number c.scatter.new.words) (map g.W.Holds.number c.scatter-2.new.words) c.scatter.ensures.words c.scatter-2.ensures.words).1
+    c.requires.count first.count second.count first.fit second.fit (map g.W.Reads.number c.args.words.now)
+    (map g.W.Reads.number c.scatter.new.words) (map g.W.Reads.number c.scatter-2.new.words) c.scatter.ensures.words c.scatter-2.ensures.words).1
