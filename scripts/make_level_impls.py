@@ -578,8 +578,6 @@ TOWER_WORD = Template("""\
 impl TowerWord for u$bits {
     ghost LEVEL = { $level };
 
-    ghost number = { λ n. n };
-
     const BITS: usize = $bits;
 
     ghost BITS = { $bits };
@@ -613,8 +611,6 @@ impl TowerWord for u$bits {
     ghost bits_law = { refl };
 
     ghost whole_law = { refl };
-
-    ghost room_law = { lit< tt };
 }
 """)
 
@@ -623,7 +619,7 @@ def tower_words():
     yield """\
 // The unsigned integers of Rust as elements of the levels of 8 to 128 bits.
 ghost use Rattle.std.specs.Prelude.{◌≡◌, ◌<◌, ◌≤◌, ◌*◌, ◌%◌, ◌^◌, refl};
-ghost use Rattle.std.proofs.Common.{lit<, lit≤};
+ghost use Rattle.std.proofs.Common.{lit≤};
 
 use super::TowerWord;
 use word_tower::{Bits8, Bits16, Bits32, Bits64, Bits128, Level};
@@ -727,14 +723,14 @@ impl<V: Vector> Sliced for Slices$bits<V> {
 
     #[inline(always)]
     #[tactic(auto, unfolding(crate::specs::Called::lanes_$bits))]
-    fn read<W: TowerWord>(&mut self, words: &[W], start: usize) -> usize {
-        self.inner.read(words, start)
+    fn read<R: TowerWord, W: Holds<R>>(&mut self, words: &[W], start: usize) -> usize {
+        self.inner.read::<R, W>(words, start)
     }
 
     #[inline(always)]
     #[tactic(auto, unfolding(crate::specs::Called::lanes_$bits))]
-    fn write<W: TowerWord>(&self, words: &mut [W], start: usize) -> usize {
-        self.inner.write(words, start)
+    fn write<R: TowerWord, W: Holds<R>>(&self, words: &mut [W], start: usize) -> usize {
+        self.inner.write::<R, W>(words, start)
     }
 
     ghost some_law = { V.some_law };
@@ -790,6 +786,7 @@ use crate::slices::SlicedWord;
 use crate::tails::Tail;
 use crate::vector::Vector;
 use crate::word::TowerWord;
+use field_base::Holds;
 """
     for bits in UNSIGNED:
         inner = "Pair<Pair<Pair<Bit<V>>>>" if bits == 8 else f"Pair<Slices{bits // 2}<V>>"

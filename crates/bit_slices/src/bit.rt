@@ -12,6 +12,7 @@ use crate::tails::Tail;
 use crate::vector::Vector;
 use crate::word::TowerWord;
 use bits_rows::even_word;
+use field_base::Holds;
 
 /// The bits of a vector, which are the elements of level 0.
 #[derive(Clone, Copy)]
@@ -126,15 +127,15 @@ impl<V: Vector> Sliced for Bit<V> {
     fn turn(&mut self) {}
 
     #[inline(always)]
-    fn read<W: TowerWord>(&mut self, words: &[W], start: usize) -> usize {
-        let (read, end) = V::read(words, start);
+    fn read<R: TowerWord, W: Holds<R>>(&mut self, words: &[W], start: usize) -> usize {
+        let (read, end) = V::read::<R, W>(words, start);
         self.words = read;
         end
     }
 
     #[inline(always)]
-    fn write<W: TowerWord>(&self, words: &mut [W], start: usize) -> usize {
-        self.words.write(words, start)
+    fn write<R: TowerWord, W: Holds<R>>(&self, words: &mut [W], start: usize) -> usize {
+        self.words.write::<R, W>(words, start)
     }
 
     ghost some_law = { V.some_law };

@@ -13,6 +13,7 @@ use crate::slices::SlicedWord;
 use crate::tails::Tail;
 use crate::vector::Vector;
 use crate::word::TowerWord;
+use field_base::Holds;
 
 /// Elements of 8 bits, by slices in vectors `V`, with functions that are called.
 #[derive(Clone, Copy)]
@@ -99,14 +100,14 @@ impl<V: Vector> Sliced for Slices8<V> {
 
     #[inline(always)]
     #[tactic(auto, unfolding(crate::specs::Called::lanes_8))]
-    fn read<W: TowerWord>(&mut self, words: &[W], start: usize) -> usize {
-        self.inner.read(words, start)
+    fn read<R: TowerWord, W: Holds<R>>(&mut self, words: &[W], start: usize) -> usize {
+        self.inner.read::<R, W>(words, start)
     }
 
     #[inline(always)]
     #[tactic(auto, unfolding(crate::specs::Called::lanes_8))]
-    fn write<W: TowerWord>(&self, words: &mut [W], start: usize) -> usize {
-        self.inner.write(words, start)
+    fn write<R: TowerWord, W: Holds<R>>(&self, words: &mut [W], start: usize) -> usize {
+        self.inner.write::<R, W>(words, start)
     }
 
     ghost some_law = { V.some_law };
@@ -227,14 +228,14 @@ impl<V: Vector> Sliced for Slices16<V> {
 
     #[inline(always)]
     #[tactic(auto, unfolding(crate::specs::Called::lanes_16))]
-    fn read<W: TowerWord>(&mut self, words: &[W], start: usize) -> usize {
-        self.inner.read(words, start)
+    fn read<R: TowerWord, W: Holds<R>>(&mut self, words: &[W], start: usize) -> usize {
+        self.inner.read::<R, W>(words, start)
     }
 
     #[inline(always)]
     #[tactic(auto, unfolding(crate::specs::Called::lanes_16))]
-    fn write<W: TowerWord>(&self, words: &mut [W], start: usize) -> usize {
-        self.inner.write(words, start)
+    fn write<R: TowerWord, W: Holds<R>>(&self, words: &mut [W], start: usize) -> usize {
+        self.inner.write::<R, W>(words, start)
     }
 
     ghost some_law = { V.some_law };
@@ -355,14 +356,14 @@ impl<V: Vector> Sliced for Slices32<V> {
 
     #[inline(always)]
     #[tactic(auto, unfolding(crate::specs::Called::lanes_32))]
-    fn read<W: TowerWord>(&mut self, words: &[W], start: usize) -> usize {
-        self.inner.read(words, start)
+    fn read<R: TowerWord, W: Holds<R>>(&mut self, words: &[W], start: usize) -> usize {
+        self.inner.read::<R, W>(words, start)
     }
 
     #[inline(always)]
     #[tactic(auto, unfolding(crate::specs::Called::lanes_32))]
-    fn write<W: TowerWord>(&self, words: &mut [W], start: usize) -> usize {
-        self.inner.write(words, start)
+    fn write<R: TowerWord, W: Holds<R>>(&self, words: &mut [W], start: usize) -> usize {
+        self.inner.write::<R, W>(words, start)
     }
 
     ghost some_law = { V.some_law };
@@ -483,14 +484,14 @@ impl<V: Vector> Sliced for Slices64<V> {
 
     #[inline(always)]
     #[tactic(auto, unfolding(crate::specs::Called::lanes_64))]
-    fn read<W: TowerWord>(&mut self, words: &[W], start: usize) -> usize {
-        self.inner.read(words, start)
+    fn read<R: TowerWord, W: Holds<R>>(&mut self, words: &[W], start: usize) -> usize {
+        self.inner.read::<R, W>(words, start)
     }
 
     #[inline(always)]
     #[tactic(auto, unfolding(crate::specs::Called::lanes_64))]
-    fn write<W: TowerWord>(&self, words: &mut [W], start: usize) -> usize {
-        self.inner.write(words, start)
+    fn write<R: TowerWord, W: Holds<R>>(&self, words: &mut [W], start: usize) -> usize {
+        self.inner.write::<R, W>(words, start)
     }
 
     ghost some_law = { V.some_law };
@@ -611,14 +612,14 @@ impl<V: Vector> Sliced for Slices128<V> {
 
     #[inline(always)]
     #[tactic(auto, unfolding(crate::specs::Called::lanes_128))]
-    fn read<W: TowerWord>(&mut self, words: &[W], start: usize) -> usize {
-        self.inner.read(words, start)
+    fn read<R: TowerWord, W: Holds<R>>(&mut self, words: &[W], start: usize) -> usize {
+        self.inner.read::<R, W>(words, start)
     }
 
     #[inline(always)]
     #[tactic(auto, unfolding(crate::specs::Called::lanes_128))]
-    fn write<W: TowerWord>(&self, words: &mut [W], start: usize) -> usize {
-        self.inner.write(words, start)
+    fn write<R: TowerWord, W: Holds<R>>(&self, words: &mut [W], start: usize) -> usize {
+        self.inner.write::<R, W>(words, start)
     }
 
     ghost some_law = { V.some_law };

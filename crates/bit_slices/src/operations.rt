@@ -10,10 +10,11 @@ use crate::moduli::{PolynomialBlock, multiply_block};
 use crate::sliced::Sliced;
 use crate::vector::Vector;
 use crate::word::TowerWord;
+use field_base::Holds;
 use std::marker::PhantomData;
 
 /// An operation on elements of the level of words.
-pub trait Operation<W: TowerWord, T: Sliced> {
+pub trait Operation<R: TowerWord, W: Holds<R>, T: Sliced> {
     // Whether it can be done at a place, which the other words may have to have.
     ghost reaches: { List W → ℕ → Type 0 };
 
@@ -22,14 +23,14 @@ pub trait Operation<W: TowerWord, T: Sliced> {
 
     /// Changes each lane of the block whose words begin at `start`.
     fn change_block(block: &mut T, others: &[W], start: usize)
-        requires level { T.LEVEL ≡ W.LEVEL }
+        requires level { T.LEVEL ≡ R.LEVEL }
         requires reaches { (n : ℕ) → n < 128 * T.units → reaches others.now (start + n) }
-        ensures { (q r : ℕ) → q < T.units * W.COUNT → r < 2 ^ W.LEVEL → gives others.now (start + (r * (T.units * W.COUNT) + q))
-            (T.lane block.old (q * 2 ^ W.LEVEL + r)) (T.lane block.new (q * 2 ^ W.LEVEL + r)) };
+        ensures { (q r : ℕ) → q < T.units * R.COUNT → r < 2 ^ R.LEVEL → gives others.now (start + (r * (T.units * R.COUNT) + q))
+            (T.lane block.old (q * 2 ^ R.LEVEL + r)) (T.lane block.new (q * 2 ^ R.LEVEL + r)) };
 
     /// What becomes of the word at a place.
     fn result_at(word: W, others: &[W], place: usize) -> W
-        requires level { T.LEVEL ≡ W.LEVEL }
+        requires level { T.LEVEL ≡ R.LEVEL }
         requires reaches { reaches others.now place }
         ensures { gives others.now place (W.number word) (W.number result) };
 
@@ -47,22 +48,22 @@ pub trait Operation<W: TowerWord, T: Sliced> {
 /// The product by the other word.
 pub struct Product;
 
-impl<W: TowerWord, T: Sliced> Operation<W, T> for Product {
+impl<R: TowerWord, W: Holds<R>, T: Sliced> Operation<R, W, T> for Product {
     ghost reaches = { λ others k. k < length others };
 
-    ghost gives = { λ others k x y. (d : W) → y ≡ tower_mul W.LEVEL x (W.number (get_or others k d)) };
+    ghost gives = { λ others k x y. (d : W) → y ≡ tower_mul R.LEVEL x (W.number (get_or others k d)) };
 
     #[inline(always)]
     fn change_block(block: &mut T, others: &[W], start: usize) {
         let left = *block;
         let mut right = *block;
-        load(&mut right, others, start);
+        load::<R, W, T>(&mut right, others, start);
         block.set_product(&left, &right);
     }
 
     #[inline(always)]
     fn result_at(word: W, others: &[W], place: usize) -> W {
-        word.multiply(others[place])
+        W::of_stored(word.stored().multiply(others[place].stored()))
     }
 
     #[inline(always)]
@@ -73,16 +74,16 @@ impl<W: TowerWord, T: Sliced> Operation<W, T> for Product {
     ghost full_law = { λ others k inside. inside };
 
     ghost place_law = { λ others beside k n reached same x y is d.
-        is d ∙ ap (λ (w : W). tower_mul W.LEVEL x (W.number w)) (same reached d) };
+        is d ∙ ap (λ (w : W). tower_mul R.LEVEL x (W.number w)) (same reached d) };
 }
 
 /// The inverse, and 0 for 0.
 pub struct Inverse;
 
-impl<W: TowerWord, T: Sliced> Operation<W, T> for Inverse {
+impl<R: TowerWord, W: Holds<R>, T: Sliced> Operation<R, W, T> for Inverse {
     ghost reaches = { λ others k. Unit {0} };
 
-    ghost gives = { λ others k x y. (y < 2 ^ 2 ^ W.LEVEL) × IsInverseOrZero (tower_mul W.LEVEL) x y };
+    ghost gives = { λ others k x y. (y < 2 ^ 2 ^ R.LEVEL) × IsInverseOrZero (tower_mul R.LEVEL) x y };
 
     #[inline(always)]
     fn change_block(block: &mut T, _others: &[W], _start: usize) {
@@ -92,12 +93,12 @@ impl<W: TowerWord, T: Sliced> Operation<W, T> for Inverse {
 
     #[inline(always)]
     fn result_at(word: W, _others: &[W], _place: usize) -> W {
-        word.invert()
+        W::of_stored(word.stored().invert())
     }
 
     #[inline(always)]
     fn pays(count: usize) -> bool {
-        count >= 64 || W::BITS > 16 && count >= 32
+        count >= 64 || R::BITS > 16 && count >= 32
     }
 
     ghost full_law = { λ others k inside. tt };
@@ -108,21 +109,24 @@ impl<W: TowerWord, T: Sliced> Operation<W, T> for Inverse {
 /// The product of polynomials by the other word, modulo that of the block.
 pub struct PolynomialProduct<V>(PhantomData<V>);
 
-impl<V: Vector, W: TowerWord, T: PolynomialBlock<V>> Operation<W, T> for PolynomialProduct<V> {
+impl<V: Vector, R: TowerWord, W: Holds<R>, T: PolynomialBlock<V>> Operation<R, W, T>
+    for PolynomialProduct<V> {
     ghost reaches = { λ others k. k < length others };
 
-    ghost gives = { λ others k x y. (d : W) → y ≡ mul_mod (2 ^ W.LEVEL) T.modulus x (W.number (get_or others k d)) };
+    ghost gives = { λ others k x y. (d : W) → y ≡ mul_mod (2 ^ R.LEVEL) T.modulus x (W.number (get_or others k d)) };
 
     #[inline(always)]
     fn change_block(block: &mut T, others: &[W], start: usize) {
         let mut right = *block;
-        load(&mut right, others, start);
+        load::<R, W, T>(&mut right, others, start);
         multiply_block(block, &right);
     }
 
     #[inline(always)]
     fn result_at(word: W, others: &[W], place: usize) -> W {
-        W::of_number(T::multiply_numbers(word.to_number(), others[place].to_number()))
+        let left = word.stored().to_number();
+        let right = others[place].stored().to_number();
+        W::of_stored(R::of_number(T::multiply_numbers(left, right)))
     }
 
     #[inline(always)]
@@ -133,5 +137,5 @@ impl<V: Vector, W: TowerWord, T: PolynomialBlock<V>> Operation<W, T> for Polynom
     ghost full_law = { λ others k inside. inside };
 
     ghost place_law = { λ others beside k n reached same x y is d.
-        is d ∙ ap (λ (w : W). mul_mod (2 ^ W.LEVEL) T.modulus x (W.number w)) (same reached d) };
+        is d ∙ ap (λ (w : W). mul_mod (2 ^ R.LEVEL) T.modulus x (W.number w)) (same reached d) };
 }

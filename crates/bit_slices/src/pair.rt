@@ -9,6 +9,7 @@ use crate::sliced::Sliced;
 use crate::tails::Tail;
 use crate::vector::Vector;
 use crate::word::TowerWord;
+use field_base::Holds;
 
 /// The elements `low + high X` of the next level.
 #[derive(Clone, Copy)]
@@ -116,15 +117,15 @@ impl<T: Sliced> Sliced for Pair<T> {
     }
 
     #[inline(always)]
-    fn read<W: TowerWord>(&mut self, words: &[W], start: usize) -> usize {
-        let middle = self.low.read(words, start);
-        self.high.read(words, middle)
+    fn read<R: TowerWord, W: Holds<R>>(&mut self, words: &[W], start: usize) -> usize {
+        let middle = self.low.read::<R, W>(words, start);
+        self.high.read::<R, W>(words, middle)
     }
 
     #[inline(always)]
-    fn write<W: TowerWord>(&self, words: &mut [W], start: usize) -> usize {
-        let middle = self.low.write(words, start);
-        self.high.write(words, middle)
+    fn write<R: TowerWord, W: Holds<R>>(&self, words: &mut [W], start: usize) -> usize {
+        let middle = self.low.write::<R, W>(words, start);
+        self.high.write::<R, W>(words, middle)
     }
 
     ghost some_law = { T.some_law };

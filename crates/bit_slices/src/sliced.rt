@@ -5,6 +5,7 @@ ghost use Rattle.field_base.specs.Tower.{root, tower_mul};
 ghost use Rattle.bit_slices.specs.Layout.{AreLanesExchanged, AreKept, IsLaidOut, IsTurned};
 
 use crate::word::TowerWord;
+use field_base::Holds;
 
 /// As many elements of a level as a vector has bits: lane l has an element, bit i of which is bit l of vector i. Level k has 2^k vectors.
 pub trait Sliced: Copy {
@@ -67,19 +68,19 @@ pub trait Sliced: Copy {
         ensures { IsTurned LEVEL (lane self.old) (lane self.new) };
 
     /// Reads the vectors from word `start` on, and returns where they end.
-    fn read<W: TowerWord>(&mut self, words: &[W], start: usize) -> usize
-        requires { start + 2 ^ LEVEL * (units * W.COUNT) ≤ length words.now }
-        ensures read { (d : W) → IsLaidOut (2 ^ W.LEVEL) (units * W.COUNT) (2 ^ LEVEL) (lane self.new)
+    fn read<R: TowerWord, W: Holds<R>>(&mut self, words: &[W], start: usize) -> usize
+        requires { start + 2 ^ LEVEL * (units * R.COUNT) ≤ length words.now }
+        ensures read { (d : W) → IsLaidOut (2 ^ R.LEVEL) (units * R.COUNT) (2 ^ LEVEL) (lane self.new)
             (λ n. W.number (get_or words.now (start + n) d)) }
-        ensures end { result ≡ start + 2 ^ LEVEL * (units * W.COUNT) };
+        ensures end { result ≡ start + 2 ^ LEVEL * (units * R.COUNT) };
 
     /// Writes the vectors from word `start` on, and returns where they end.
-    fn write<W: TowerWord>(&self, words: &mut [W], start: usize) -> usize
-        requires { start + 2 ^ LEVEL * (units * W.COUNT) ≤ length words.old }
-        ensures written { (d : W) → IsLaidOut (2 ^ W.LEVEL) (units * W.COUNT) (2 ^ LEVEL) (lane self.now)
+    fn write<R: TowerWord, W: Holds<R>>(&self, words: &mut [W], start: usize) -> usize
+        requires { start + 2 ^ LEVEL * (units * R.COUNT) ≤ length words.old }
+        ensures written { (d : W) → IsLaidOut (2 ^ R.LEVEL) (units * R.COUNT) (2 ^ LEVEL) (lane self.now)
             (λ n. W.number (get_or words.new (start + n) d)) }
-        ensures kept { AreKept start (2 ^ LEVEL * (units * W.COUNT)) words.old words.new }
-        ensures end { result ≡ start + 2 ^ LEVEL * (units * W.COUNT) };
+        ensures kept { AreKept start (2 ^ LEVEL * (units * R.COUNT)) words.old words.new }
+        ensures end { result ≡ start + 2 ^ LEVEL * (units * R.COUNT) };
 
     ghost some_law: { 0 < units };
 }

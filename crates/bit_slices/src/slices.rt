@@ -11,6 +11,7 @@ use crate::operations::{Inverse, PolynomialProduct, Product};
 use crate::sliced::Sliced;
 use crate::vector::Vector;
 use crate::word::TowerWord;
+use field_base::Holds;
 
 /// A word, and the slices that hold as many of its kind as a vector `V` has bits.
 pub trait SlicedWord<V: Vector>: TowerWord {
@@ -22,23 +23,23 @@ pub trait SlicedWord<V: Vector>: TowerWord {
 }
 
 /// Multiplies each word by the factor at its place. Requires as many factors as words.
-pub fn multiply_each<V: Vector, W: SlicedWord<V>>(words: &mut [W], factors: &[W])
+pub fn multiply_each<V: Vector, R: SlicedWord<V>, W: Holds<R>>(words: &mut [W], factors: &[W])
     requires { length factors.now ≡ length words.old }
     ensures long { length words.new ≡ length words.old }
     ensures products { (k : ℕ) → k < length words.new → (d : W) → W.number (get_or words.new k d)
-        ≡ tower_mul W.LEVEL (W.number (get_or words.old k d)) (W.number (get_or factors.now k d)) }
+        ≡ tower_mul R.LEVEL (W.number (get_or words.old k d)) (W.number (get_or factors.now k d)) }
 {
-    change_each::<W, W::Block, Product>(words, factors);
+    change_each::<R, W, R::Block, Product>(words, factors);
 }
 
 /// Inverts each word, and leaves 0 at 0.
-pub fn invert_each<V: Vector, W: SlicedWord<V>>(words: &mut [W])
+pub fn invert_each<V: Vector, R: SlicedWord<V>, W: Holds<R>>(words: &mut [W])
     ensures long { length words.new ≡ length words.old }
-    ensures fit { (k : ℕ) → k < length words.new → (d : W) → W.number (get_or words.new k d) < 2 ^ 2 ^ W.LEVEL }
+    ensures fit { (k : ℕ) → k < length words.new → (d : W) → W.number (get_or words.new k d) < 2 ^ 2 ^ R.LEVEL }
     ensures inverses { (k : ℕ) → k < length words.new → (d : W)
-        → IsInverseOrZero (tower_mul W.LEVEL) (W.number (get_or words.old k d)) (W.number (get_or words.new k d)) }
+        → IsInverseOrZero (tower_mul R.LEVEL) (W.number (get_or words.old k d)) (W.number (get_or words.new k d)) }
 {
-    change_each::<W, W::Block, Inverse>(words, &[]);
+    change_each::<R, W, R::Block, Inverse>(words, &[]);
 }
 
 /// A word that is a polynomial over GF(2), and the slices that hold as many of its kind as a vector `V` has bits.
@@ -63,11 +64,14 @@ impl<V: Vector> PolynomialWord<V> for u128 {
 }
 
 /// Multiplies each polynomial by the factor at its place. Requires as many factors as words.
-pub fn multiply_polynomials_each<V: Vector, W: PolynomialWord<V>>(words: &mut [W], factors: &[W])
+pub fn multiply_polynomials_each<V: Vector, R: PolynomialWord<V>, W: Holds<R>>(
+    words: &mut [W],
+    factors: &[W],
+)
     requires { length factors.now ≡ length words.old }
     ensures long { length words.new ≡ length words.old }
     ensures products { (k : ℕ) → k < length words.new → (d : W) → W.number (get_or words.new k d)
-        ≡ mul_mod (2 ^ W.LEVEL) W.Polynomials.modulus (W.number (get_or words.old k d)) (W.number (get_or factors.now k d)) }
+        ≡ mul_mod (2 ^ R.LEVEL) R.Polynomials.modulus (W.number (get_or words.old k d)) (W.number (get_or factors.now k d)) }
 {
-    change_each::<W, W::Polynomials, PolynomialProduct<V>>(words, factors);
+    change_each::<R, W, R::Polynomials, PolynomialProduct<V>>(words, factors);
 }

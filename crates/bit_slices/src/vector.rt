@@ -7,6 +7,7 @@ ghost use Rattle.bit_slices.specs.Layout.{AreKept, AreWordsExchanged, IsLaidOut}
 
 use crate::word::TowerWord;
 use crate::words::{join, split};
+use field_base::Holds;
 use std::simd::prelude::*;
 use word_carryless::{WordVector, join_128, split_128};
 
@@ -30,19 +31,19 @@ pub trait Vector: WordVector {
             (slice_index (Self.words result.1)) };
 
     /// The vector of the words from `start` on, and where they end.
-    fn read<W: TowerWord>(words: &[W], start: usize) -> (Self, usize)
-        requires { start + units * W.COUNT ≤ length words.now }
-        ensures read { (d : W) → IsLaidOut (2 ^ W.LEVEL) (units * W.COUNT) 1 (bit_lane (Self.words result.0))
+    fn read<R: TowerWord, W: Holds<R>>(words: &[W], start: usize) -> (Self, usize)
+        requires { start + units * R.COUNT ≤ length words.now }
+        ensures read { (d : W) → IsLaidOut (2 ^ R.LEVEL) (units * R.COUNT) 1 (bit_lane (Self.words result.0))
             (λ n. W.number (get_or words.now (start + n) d)) }
-        ensures end { result.1 ≡ start + units * W.COUNT };
+        ensures end { result.1 ≡ start + units * R.COUNT };
 
     /// Writes the vector from word `start` on, and returns where it ends.
-    fn write<W: TowerWord>(self, words: &mut [W], start: usize) -> usize
-        requires { start + units * W.COUNT ≤ length words.old }
-        ensures written { (d : W) → IsLaidOut (2 ^ W.LEVEL) (units * W.COUNT) 1 (bit_lane (Self.words self))
+    fn write<R: TowerWord, W: Holds<R>>(self, words: &mut [W], start: usize) -> usize
+        requires { start + units * R.COUNT ≤ length words.old }
+        ensures written { (d : W) → IsLaidOut (2 ^ R.LEVEL) (units * R.COUNT) 1 (bit_lane (Self.words self))
             (λ n. W.number (get_or words.new (start + n) d)) }
-        ensures kept { AreKept start (units * W.COUNT) words.old words.new }
-        ensures end { result ≡ start + units * W.COUNT };
+        ensures kept { AreKept start (units * R.COUNT) words.old words.new }
+        ensures end { result ≡ start + units * R.COUNT };
 
     ghost some_law: { 0 < units };
 }
@@ -71,16 +72,16 @@ impl Vector for u64x2 {
     }
 
     #[inline(always)]
-    fn read<W: TowerWord>(words: &[W], start: usize) -> (u64x2, usize) {
-        let (low, high) = split_128(join(words, start));
-        (u64x2::from_array([low, high]), start + W::COUNT)
+    fn read<R: TowerWord, W: Holds<R>>(words: &[W], start: usize) -> (u64x2, usize) {
+        let (low, high) = split_128(join::<R, W>(words, start));
+        (u64x2::from_array([low, high]), start + R::COUNT)
     }
 
     #[inline(always)]
-    fn write<W: TowerWord>(self, words: &mut [W], start: usize) -> usize {
+    fn write<R: TowerWord, W: Holds<R>>(self, words: &mut [W], start: usize) -> usize {
         let a = self.to_array();
-        split(words, start, join_128(a[0], a[1]));
-        start + W::COUNT
+        split::<R, W>(words, start, join_128(a[0], a[1]));
+        start + R::COUNT
     }
 
     ghost some_law = { lit< tt };
@@ -110,20 +111,20 @@ impl Vector for u64x4 {
     }
 
     #[inline(always)]
-    fn read<W: TowerWord>(words: &[W], start: usize) -> (u64x4, usize) {
-        let middle = start + W::COUNT;
-        let (a, b) = split_128(join(words, start));
-        let (c, d) = split_128(join(words, middle));
-        (u64x4::from_array([a, b, c, d]), middle + W::COUNT)
+    fn read<R: TowerWord, W: Holds<R>>(words: &[W], start: usize) -> (u64x4, usize) {
+        let middle = start + R::COUNT;
+        let (a, b) = split_128(join::<R, W>(words, start));
+        let (c, d) = split_128(join::<R, W>(words, middle));
+        (u64x4::from_array([a, b, c, d]), middle + R::COUNT)
     }
 
     #[inline(always)]
-    fn write<W: TowerWord>(self, words: &mut [W], start: usize) -> usize {
-        let middle = start + W::COUNT;
+    fn write<R: TowerWord, W: Holds<R>>(self, words: &mut [W], start: usize) -> usize {
+        let middle = start + R::COUNT;
         let a = self.to_array();
-        split(words, start, join_128(a[0], a[1]));
-        split(words, middle, join_128(a[2], a[3]));
-        middle + W::COUNT
+        split::<R, W>(words, start, join_128(a[0], a[1]));
+        split::<R, W>(words, middle, join_128(a[2], a[3]));
+        middle + R::COUNT
     }
 
     ghost some_law = { lit< tt };

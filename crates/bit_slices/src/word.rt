@@ -1,19 +1,16 @@
 // Words that are elements of levels of the tower, one by one, and as many of them as have 128 bits.
-ghost use prog.Memory.{size};
-ghost use denote.Param.{layout};
 ghost use Rattle.std.specs.Prelude.{◌≡◌, ◌<◌, ◌≤◌, ◌*◌, ◌%◌, ◌^◌, ℕ};
 ghost use Rattle.field_base.specs.Field.{IsInverseOrZero};
 ghost use Rattle.field_base.specs.Tower.{tower_mul};
 
 mod impls;
 
+use field_base::Stored;
+
 /// A word of 8 to 128 bits that is an element of the level of the tower of as many bits.
-pub trait TowerWord: Copy {
+pub trait TowerWord: Stored {
     // The level, and how many words have 128 bits.
     ghost LEVEL: { ℕ };
-
-    // The number of a word.
-    ghost number: { Self → ℕ };
 
     /// How many bits a word has.
     const BITS: usize;
@@ -27,21 +24,21 @@ pub trait TowerWord: Copy {
 
     /// The number of the word.
     fn to_number(self) -> u128
-        ensures is { result ≡ number self }
+        ensures is { result ≡ Self.number self }
         ensures fits { result < 2 ^ 2 ^ LEVEL };
 
     /// The word of the low bits of a number.
     fn of_number(bits: u128) -> Self
-        ensures { number result ≡ bits % 2 ^ 2 ^ LEVEL };
+        ensures { Self.number result ≡ bits % 2 ^ 2 ^ LEVEL };
 
     /// The product.
     fn multiply(self, other: Self) -> Self
-        ensures { number result ≡ tower_mul LEVEL (number self) (number other) };
+        ensures { Self.number result ≡ tower_mul LEVEL (Self.number self) (Self.number other) };
 
     /// The inverse, and 0 for 0.
     fn invert(self) -> Self
-        ensures fits { number result < 2 ^ 2 ^ LEVEL }
-        ensures inverse { IsInverseOrZero (tower_mul LEVEL) (number self) (number result) };
+        ensures fits { Self.number result < 2 ^ 2 ^ LEVEL }
+        ensures inverse { IsInverseOrZero (tower_mul LEVEL) (Self.number self) (Self.number result) };
 
     // Levels of at most 128 bits, of which a whole number of words has 128.
     ghost few_law: { LEVEL ≤ 7 };
@@ -49,7 +46,4 @@ pub trait TowerWord: Copy {
     ghost bits_law: { BITS ≡ 2 ^ LEVEL };
 
     ghost whole_law: { BITS * COUNT ≡ 128 };
-
-    // An array of 128 words can be a value.
-    ghost room_law: { 128 * size (layout Self.row) < 2 ^ 63 };
 }

@@ -1,15 +1,13 @@
 // Written by scripts/make_level_impls.py; do not edit.
 // The unsigned integers of Rust as elements of the levels of 8 to 128 bits.
 ghost use Rattle.std.specs.Prelude.{◌≡◌, ◌<◌, ◌≤◌, ◌*◌, ◌%◌, ◌^◌, refl};
-ghost use Rattle.std.proofs.Common.{lit<, lit≤};
+ghost use Rattle.std.proofs.Common.{lit≤};
 
 use super::TowerWord;
 use word_tower::{Bits8, Bits16, Bits32, Bits64, Bits128, Level};
 
 impl TowerWord for u8 {
     ghost LEVEL = { 3 };
-
-    ghost number = { λ n. n };
 
     const BITS: usize = 8;
 
@@ -44,14 +42,10 @@ impl TowerWord for u8 {
     ghost bits_law = { refl };
 
     ghost whole_law = { refl };
-
-    ghost room_law = { lit< tt };
 }
 
 impl TowerWord for u16 {
     ghost LEVEL = { 4 };
-
-    ghost number = { λ n. n };
 
     const BITS: usize = 16;
 
@@ -86,14 +80,10 @@ impl TowerWord for u16 {
     ghost bits_law = { refl };
 
     ghost whole_law = { refl };
-
-    ghost room_law = { lit< tt };
 }
 
 impl TowerWord for u32 {
     ghost LEVEL = { 5 };
-
-    ghost number = { λ n. n };
 
     const BITS: usize = 32;
 
@@ -128,14 +118,10 @@ impl TowerWord for u32 {
     ghost bits_law = { refl };
 
     ghost whole_law = { refl };
-
-    ghost room_law = { lit< tt };
 }
 
 impl TowerWord for u64 {
     ghost LEVEL = { 6 };
-
-    ghost number = { λ n. n };
 
     const BITS: usize = 64;
 
@@ -170,14 +156,10 @@ impl TowerWord for u64 {
     ghost bits_law = { refl };
 
     ghost whole_law = { refl };
-
-    ghost room_law = { lit< tt };
 }
 
 impl TowerWord for u128 {
     ghost LEVEL = { 7 };
-
-    ghost number = { λ n. n };
 
     const BITS: usize = 128;
 
@@ -212,6 +194,4 @@ impl TowerWord for u128 {
     ghost bits_law = { refl };
 
     ghost whole_law = { refl };
-
-    ghost room_law = { lit< tt };
 }

@@ -24,6 +24,6 @@ pub loop-number-preserved : goal.loop-number-preserved
 loop-number-preserved g c =
     let size : ℕ = 128 * g.T.Sliced.units in
     let number = c.loop-number.number in
-    one_more_block size (g.O.Operation.gives c.args.others.now) g.W.TowerWord.number c.args.words.now c.loop-number.words
+    one_more_block size (g.O.Operation.gives c.args.others.now) g.W.Reads.number c.args.words.now c.loop-number.words
     c.change_block.new.words number (number * c.lanes.result) (ap (λ (n : ℕ). number * n) c.lanes.ensures) c.loop-number.invariant
     c.change_block.ensures.changed c.change_block.ensures.kept

@@ -8,7 +8,7 @@ returns g c = (c.loop-place.invariant.0, c.loop-place.invariant.1, λ k past wit
     gives = g.O.Operation.gives c.args.others.now
 
     number : g.row.W.Denot → ℕ
-    number = g.W.TowerWord.number
+    number = g.W.Reads.number
 
     done : (k : ℕ) → c.args.start ≤ k → k < length c.loop-place.words → (d : g.row.W.Denot)
         → gives k (number (get_or c.args.words.now k d)) (number (get_or c.loop-place.words k d))

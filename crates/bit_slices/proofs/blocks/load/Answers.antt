@@ -5,6 +5,6 @@ use Rattle.bit_slices.proofs.blocks.load.Goals as goal
 pub returns : goal.returns
 returns g c d =
     let lane = g.T.Sliced.lane in
-    turned_in_lanes g.T.Sliced.LEVEL g.W.TowerWord.LEVEL (g.T.Sliced.units * g.W.TowerWord.COUNT) (lane c.read.new.self) (lane c.turn.new.self)
-    (λ n. g.W.TowerWord.number (get_or c.args.words.now (c.args.start + n) d)) c.requires.level (c.read.ensures.read d) c.turn.ensures
+    turned_in_lanes g.T.Sliced.LEVEL g.R.TowerWord.LEVEL (g.T.Sliced.units * g.R.TowerWord.COUNT) (lane c.read.new.self) (lane c.turn.new.self)
+    (λ n. g.W.Reads.number (get_or c.args.words.now (c.args.start + n) d)) c.requires.level (c.read.ensures.read d) c.turn.ensures
     (g.T.Sliced.fits_law c.turn.new.self)

@@ -5,5 +5,5 @@ use Rattle.bit_slices.proofs.words.join.Given as goal
 -- the digits so far are the words so far
 abbrev pub invariant-loop-digit : goal.invariant-loop-digit
 invariant-loop-digit g l =
-    (l.bits < 2 ^ (2 ^ g.W.TowerWord.LEVEL * l.digit))
-    × ((q : ℕ) → q < l.digit → (d : g.row.W.Denot) → g.W.TowerWord.number (get_or l.words (l.start + q) d) ≡ chunk (2 ^ g.W.TowerWord.LEVEL) q l.bits)
+    (l.bits < 2 ^ (2 ^ g.R.TowerWord.LEVEL * l.digit))
+    × ((q : ℕ) → q < l.digit → (d : g.row.W.Denot) → g.W.Reads.number (get_or l.words (l.start + q) d) ≡ chunk (2 ^ g.R.TowerWord.LEVEL) q l.bits)

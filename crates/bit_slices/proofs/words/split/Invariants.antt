@@ -7,4 +7,4 @@ use Rattle.bit_slices.proofs.words.split.Given as goal
 abbrev pub invariant-loop-digit : goal.invariant-loop-digit
 invariant-loop-digit g l =
     AreKept l.start l.digit l.fn.words l.words
-    × ((q : ℕ) → q < l.digit → (d : g.row.W.Denot) → g.W.TowerWord.number (get_or l.words (l.start + q) d) ≡ chunk (2 ^ g.W.TowerWord.LEVEL) q l.bits)
+    × ((q : ℕ) → q < l.digit → (d : g.row.W.Denot) → g.W.Reads.number (get_or l.words (l.start + q) d) ≡ chunk (2 ^ g.R.TowerWord.LEVEL) q l.bits)

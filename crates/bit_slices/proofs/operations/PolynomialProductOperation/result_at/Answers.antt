@@ -5,12 +5,12 @@ use Rattle.bit_slices.proofs.operations.PolynomialProductOperation.result_at.Goa
 
 pub returns : goal.returns
 returns g c d =
-    let number = g.W.TowerWord.number in
+    let number = g.W.Reads.number in
     let others = c.args.others.now in
     let place = c.args.place in
-    c.of_number.ensures
-    ∙ product_of_numbers g.T.Sliced.LEVEL g.W.TowerWord.LEVEL g.T.PolynomialBlock.modulus (number c.args.word)
-    (number (get_or others place d)) c.to_number.result c.to_number-2.result c.multiply_numbers.result c.requires.level
-    g.met.T.PolynomialBlock.tail_law.degree c.multiply_numbers.ensures c.to_number.ensures.is
-    (c.to_number-2.ensures.is
+    c.of_stored.ensures ∙ c.of_number.ensures
+    ∙ product_of_numbers g.T.Sliced.LEVEL g.R.TowerWord.LEVEL g.T.PolynomialBlock.modulus (number c.args.word)
+    (number (get_or others place d)) c.to_number-left.result c.to_number-right.result c.multiply_numbers.result c.requires.level
+    g.met.T.PolynomialBlock.tail_law.degree c.multiply_numbers.ensures (c.to_number-left.ensures.is ∙ c.stored-left.ensures)
+    (c.to_number-right.ensures.is ∙ c.stored-right.ensures
     ∙ sym (ap number (get_or_default others place d c.index-others-place.result c.requires.reaches ∙ sym c.index-others-place.is)))

@@ -5,12 +5,12 @@ use Rattle.bit_slices.proofs.vector.U64x4Vector.read.Goals as goal
 
 pub returns-clause-read : goal.returns-clause-read
 returns-clause-read g c d =
-    let count = g.W.TowerWord.COUNT in
-    let w = 2 ^ g.W.TowerWord.LEVEL in
+    let count = g.R.TowerWord.COUNT in
+    let w = 2 ^ g.R.TowerWord.LEVEL in
     let x = c.split_128-a.result.0 ∷ c.split_128-a.result.1 ∷ c.split_128-c.result.0 ∷ c.split_128-c.result.1 ∷ [] in
-    let word = λ (n : ℕ). g.W.TowerWord.number (get_or c.args.words.now n d) in
+    let word = λ (n : ℕ). g.W.Reads.number (get_or c.args.words.now n d) in
     let middle : ℕ = c.args.start + c.COUNT.result in
-    let whole : w * count ≡ 128 = ap (λ (n : ℕ). n * count) (sym g.met.W.TowerWord.bits_law) ∙ g.met.W.TowerWord.whole_law in
+    let whole : w * count ≡ 128 = ap (λ (n : ℕ). n * count) (sym g.met.R.TowerWord.bits_law) ∙ g.met.R.TowerWord.whole_law in
     let low : c.split_128-a.result.0 < 2 ^ 64 = omega arith in
     let high : c.split_128-c.result.0 < 2 ^ 64 = omega arith in
     laid_out_twice w count c.args.start middle (bit_lane x) word whole (ap (λ (n : ℕ). c.args.start + n) c.COUNT.ensures)

@@ -7,16 +7,16 @@ use Rattle.bit_slices.proofs.vector.U64x4Vector.write.Goals as goal
 
 pub returns-clause-written : goal.returns-clause-written
 returns-clause-written g c d =
-    let count = g.W.TowerWord.COUNT in
-    let w = 2 ^ g.W.TowerWord.LEVEL in
+    let count = g.R.TowerWord.COUNT in
+    let w = 2 ^ g.R.TowerWord.LEVEL in
     let x = c.args.self in
     let start = c.args.start in
-    let number = g.W.TowerWord.number in
+    let number = g.W.Reads.number in
     let word = λ (n : ℕ). number (get_or c.split-2.new.words n d) in
     let middle : ℕ = start + c.COUNT.result in
     let next : middle ≡ start + count = ap (λ (n : ℕ). start + n) c.COUNT.ensures in
     let one_count : middle ≡ start + 1 * count = omega (arith, next) in
-    let whole : w * count ≡ 128 = ap (λ (n : ℕ). n * count) (sym g.met.W.TowerWord.bits_law) ∙ g.met.W.TowerWord.whole_law in
+    let whole : w * count ≡ 128 = ap (λ (n : ℕ). n * count) (sym g.met.R.TowerWord.bits_law) ∙ g.met.R.TowerWord.whole_law in
     let below = below_from_Fits w64 x c.fits-self.1 in
     let low : get_or x 0 0 < 2 ^ 64 = Each1-get_or (λ (n : ℕ). n < 2 ^ 64) x 0 0 (omega (arith, c.fits-self.0)) below in
     let high : get_or x 2 0 < 2 ^ 64 = Each1-get_or (λ (n : ℕ). n < 2 ^ 64) x 2 0 (omega (arith, c.fits-self.0)) below in
@@ -29,6 +29,6 @@ returns-clause-written g c d =
 
 pub returns-clause-kept : goal.returns-clause-kept
 returns-clause-kept g c =
-    let count = g.W.TowerWord.COUNT in
+    let count = g.R.TowerWord.COUNT in
     kept_behind c.args.start count count (c.args.start + c.COUNT.result) (2 * count) c.args.words.now c.split.new.words c.split-2.new.words
     (ap (λ (n : ℕ). c.args.start + n) c.COUNT.ensures) (omega arith) c.split.ensures.kept c.split-2.ensures.kept
