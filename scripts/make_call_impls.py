@@ -61,91 +61,35 @@ def in_planes():
         yield IN_PLANES.substitute(bits=bits, word=word(bits), words="<W: Holds<u128>>" if bits == WIDE else "", depth=depth)
 
 
-# ---- many words
+# ---- slices
 
-MANY_HEAD = """\
-// The levels of 8 to 128 bits: by one scalar in planes of bytes, and from 16 bits on products and inverses in slices of bits.
-ghost use prog.Memory.{size};
-ghost use denote.Param.{layout};
-ghost use Rattle.std.proofs.Common.{lit<};
-ghost use Rattle.field_base.specs.Room.{few_fit};
-
-use super::Many;
-use crate::SlicedWide;
-use crate::dots::{MultipliesBlocks, dot_product};
-use crate::in_planes::{LEAST_IN_PLANES, add_all, multiply_all};
-use crate::in_slices::{LEAST_IN_SLICES, invert_words, multiply_words};
+SLICES_HEAD = """\
+// The levels of 16 to 128 bits by slices of their bits.
+use super::{FieldInSlices, invert_words, multiply_words};
 use bit_slices::Vector;
-use ghash_slices::Width;
-use std::simd::prelude::*;
-use word_tower::{Bits8, Bits16, Bits32, Bits64, Bits128, Tower};
+use field_base::Holds;
+use word_tower::{Bits16, Bits32, Bits64, Bits128, Tower};
 """
 
-MANY = Template("""\
-impl$words Many<u$bits, $word> for Tower<Bits$bits> {
-    const LEAST_SCALED: usize = LEAST_IN_PLANES;
-$sliced
-    fn multiply_all_by<V: Width>(words: &mut [$word], scalar: $word) {
-        multiply_all::<u$bits, $word, Tower<Bits$bits>>(words, scalar);
+IN_SLICES = Template("""\
+impl FieldInSlices<u$bits> for Tower<Bits$bits> {
+    fn multiply_in_slices<V: Vector, W: Holds<u$bits>>(products: &mut [W], words: &[W]) {
+        multiply_words::<u$bits, W, Tower<Bits$bits>, V>(products, words);
     }
 
-    fn add_multiples<V: Width>(sums: &mut [$word], words: &[$word], scalar: $word) {
-        add_all::<u$bits, $word, Tower<Bits$bits>>(sums, words, scalar);
+    fn invert_in_slices<V: Vector, W: Holds<u$bits>>(words: &mut [W]) {
+        invert_words::<u$bits, W, Tower<Bits$bits>, V>(words);
     }
-
-    ghost room_law = { $room };
-}
-""")
-
-# What levels of 16 bits and more have beside: those of 8 bits are looked up.
-SLICED = Template("""
-    const LEAST_INVERTED: usize = LEAST_IN_SLICES;
-
-    const LEAST_IN_BLOCKS: usize = LEAST_IN_SLICES;
-
-    #[inline(always)]
-    fn least_multiplied<V: Vector>() -> usize {
-        LEAST_IN_SLICES
-    }
-
-    fn multiply_all<V: Width + Vector>(products: &mut [$word], words: &[$word]) {
-        $multiply(products, words);
-    }
-
-    fn invert_all<V: Vector>(words: &mut [$word]) {
-        $invert(words);
-    }
-
-    #[inline]
-    fn dot_product<V: Width + Vector>(left: &[$word], right: &[$word]) -> $word {
-        dot_product::<u$bits, $word, Tower<Bits$bits>>(left, right)
-    }
-""")
-
-BLOCKS = Template("""\
-impl$words MultipliesBlocks<u$bits, $word> for Tower<Bits$bits> {
-    fn multiply_block(products: &mut [$word], words: &[$word]) {
-        $multiply(products, words);
-    }
-
-    ghost room_law = { $room };
 }
 """)
 
 
-def many():
-    yield MANY_HEAD
+def in_slices():
+    yield SLICES_HEAD
     for bits in LEVELS:
-        named = {"bits": bits, "word": word(bits), "words": "", "room": f"few_fit 1024 {bits // 8} (lit< tt)"}
-        multiply, invert = (f"{it}_words::<u{bits}, u{bits}, Tower<Bits{bits}>, %s>" for it in ("multiply", "invert"))
-        if bits == WIDE:
-            named |= {"words": "<W: SlicedWide>", "room": "W.room_law"}
-            multiply, invert = "W::multiply_in_slices::<%s>", "W::invert_in_slices::<%s>"
-        is_sliced = bits > 8
-        sliced = SLICED.substitute(named, multiply=multiply % "V", invert=invert % "V") if is_sliced else ""
-        yield MANY.substitute(named, sliced=sliced)
-        if is_sliced:
-            yield BLOCKS.substitute(named, multiply=multiply % "u64x2")
+        # Bytes are looked up.
+        if bits > 8:
+            yield IN_SLICES.substitute(bits=bits)
 
 
 if __name__ == "__main__":
@@ -153,6 +97,6 @@ if __name__ == "__main__":
         "make_call_impls.py",
         {
             "many_words/src/in_planes/impls.rt": in_planes,
-            "many_words/src/many/levels.rt": many,
+            "many_words/src/in_slices/impls.rt": in_slices,
         },
     )

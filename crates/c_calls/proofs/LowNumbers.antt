@@ -3,7 +3,7 @@ use Rattle.std.proofs.Common.{◌≡◌, ℕ, suc, ◌%◌, ◌^◌, ◌<◌, �
 use Rattle.std.specs.Prelude.{bit_xor, slice_index}
 use Rattle.std.specs.Simd.Lanes.{zip2}
 use Rattle.std.proofs.lemmas.List.{get_or-map, length-map}
-use Rattle.std.proofs.lemmas.Nat.{pow_pos, xor_lt, xor_mod}
+use Rattle.std.proofs.lemmas.Nat.{xor_mod}
 use native.Mathlib.Nat.{mod-eq_of_lt}
 use Rattle.field_base.specs.Field.{AreInverses, IsInverseOrZero}
 use Rattle.field_base.specs.Powers.{dot_of}
@@ -123,13 +123,6 @@ module _ {W : Type 0} (field : WordField W) (ring : IsRing field.width 1 field.t
   low_dots (x ∷ xs) [] = refl
   low_dots (x ∷ xs) (y ∷ ys) =
       ap₂ bit_xor (low-factors field.number field.width field.times ring (field.number x) (field.number y)) (low_dots xs ys)
-
-  pub dot-lt : (xs ys : List W) → dot_of field.times field.number xs ys < 2 ^ field.width
-  dot-lt [] ys = pow_pos field.width
-  dot-lt (x ∷ xs) [] = pow_pos field.width
-  dot-lt (x ∷ xs) (y ∷ ys) =
-      xor_lt field.width (field.times (field.number x) (field.number y)) (dot_of field.times field.number xs ys)
-      (ring.below (field.number x) (field.number y)) (dot-lt xs ys)
 
   -- sums with multiples
   pub low_sums : (scalar : W) (values old new : List W) → length values ≡ length old → length new ≡ length old

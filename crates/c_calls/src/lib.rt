@@ -26,7 +26,6 @@ pub mod status;
 mod systems;
 mod transforms;
 mod wide;
-mod wide_level;
 mod words;
 
 pub use crate::batch::batch_invert;

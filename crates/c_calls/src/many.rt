@@ -10,6 +10,7 @@ use field_base::{Holds, Stored};
 use ghash_slices::Width;
 use many_words::operations::{Inverse, Product, Scaled};
 use many_words::{Many, fields};
+use std::simd::prelude::*;
 
 /// Writes the product of the words at each place.
 #[inline]
@@ -20,7 +21,7 @@ pub fn multiply<R: Stored, W: Holds<R>, K: Many<R, W>, V: Width + Vector>(
 ) -> u32
     ensures { Multiplies (field_of W.number K.width K.product K.generator) left.now right.now products.old products.new result }
 {
-    if left.len() < K::least_multiplied::<V>() {
+    if left.len() < K::sizes::<V>().multiplied {
         return write_each_of_two::<R, W, K, Product>(left, right, products, &Product);
     }
     if left.len() != products.len() || right.len() != products.len() {
@@ -68,7 +69,7 @@ pub fn multiply_by<R: Stored, W: Holds<R>, K: Many<R, W>, V: Width>(
     if !fields::is_element::<R, W, K>(scalar) {
         return status::NOT_AN_ELEMENT;
     }
-    if words.len() < K::LEAST_SCALED {
+    if words.len() < K::sizes::<u64x2>().scaled {
         return write_each::<R, W, K, Scaled<W>>(words, products, &Scaled { scalar }, false);
     }
     if !are_elements::<R, W, K>(words) {
@@ -130,7 +131,7 @@ pub fn dot_product<R: Stored, W: Holds<R>, K: Many<R, W>, V: Width + Vector>(
     if !are_elements::<R, W, K>(left) || !are_elements::<R, W, K>(right) {
         return status::NOT_AN_ELEMENT;
     }
-    *sum = K::dot_product::<V>(left, right);
+    *sum = W::of_stored(K::dot_product::<V, W>(left, right));
     status::OK
 }
 
@@ -142,7 +143,7 @@ pub fn invert<R: Stored, W: Holds<R>, K: Many<R, W>, V: Vector>(
 ) -> u32
     ensures { Inverts (field_of W.number K.width K.product K.generator) words.now inverses.old inverses.new result }
 {
-    if words.len() < K::LEAST_INVERTED {
+    if words.len() < K::sizes::<V>().inverted {
         return write_each::<R, W, K, Inverse>(words, inverses, &Inverse, false);
     }
     if words.len() != inverses.len() {

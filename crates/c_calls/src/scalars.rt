@@ -55,7 +55,6 @@ impl<R: Stored, W: Holds<R>, K: Many<R, W>, V: Width + Vector> Scalars for Words
 
     #[inline]
     fn add_scaled(sums: &mut [W], scalar: W, values: &[W]) {
-        truncate_all::<R, W, K>(sums);
         many_words::add_scaled::<R, W, K, V>(sums, truncated::<R, W, K>(scalar), values);
     }
 
@@ -66,7 +65,6 @@ impl<R: Stored, W: Holds<R>, K: Many<R, W>, V: Width + Vector> Scalars for Words
 
     #[inline]
     fn multiply_by(values: &mut [W], scalar: W) {
-        truncate_all::<R, W, K>(values);
         many_words::multiply_by::<R, W, K, V>(values, truncated::<R, W, K>(scalar));
     }
 
@@ -84,7 +82,7 @@ impl<R: Stored, W: Holds<R>, K: Many<R, W>, V: Width + Vector> Scalars for Words
 
     #[inline]
     fn dot(left: &[W], right: &[W]) -> W {
-        K::dot_product::<V>(left, right)
+        W::of_stored(K::dot_product::<V, W>(left, right))
     }
 
     ghost wide_law = { K.wide_law };

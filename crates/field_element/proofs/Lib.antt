@@ -1,5 +1,4 @@
 pub mod Arrays
-mod BlockProducts
 mod ChangedPlaces
 mod NumberDigits
 pub mod PlaceProducts

@@ -85,14 +85,7 @@ impl HasPacking<u128> for GhashKernel {
     type Packing = PackedGhash128;
 }
 
-impl Many<Coefficients, Coefficients> for CubicKernel {
-    ghost use prog.Memory.{size};
-    ghost use denote.Param.{layout};
-    ghost use Rattle.std.proofs.Common.{lit<};
-    ghost use Rattle.field_base.specs.Room.{few_fit};
-
-    ghost room_law = { few_fit 1024 24 (lit< tt) };
-}
+impl Many<Coefficients, Coefficients> for CubicKernel {}
 
 impl HasPacking<Coefficients> for CubicKernel {
     type Packing = Poly192;

@@ -35,11 +35,11 @@ module _ (level width modulus : ℕ) (images : List ℕ) (is : IsChangeOfBasis l
           (ap (λ (n : ℕ). mul_mod width modulus n (image y)) none ∙ zero-times width 1 (mul_mod width modulus) field.ring (image y)))
 
   -- so words are inverted by elements whose images they are
-  module _ {W : Type 0} (number level_number : W → ℕ) (is_number : (x : W) → number x ≡ level_number x) (k : ℕ) (same : k ≡ level) where
+  module _ {W : Type 0} (number : W → ℕ) (k : ℕ) (same : k ≡ level) where
     pub inverses_of_images : (old elements inverses new : List W) → length inverses ≡ length elements → length new ≡ length inverses
         → ((p : ℕ) → p < length elements → (d : W) → image (number (get_or elements p d)) ≡ number (get_or old p d))
         → ((p : ℕ) → p < length inverses → (d : W)
-        → IsInverseOrZero (tower_mul k) (level_number (get_or elements p d)) (level_number (get_or inverses p d)))
+        → IsInverseOrZero (tower_mul k) (number (get_or elements p d)) (number (get_or inverses p d)))
         → ((p : ℕ) → p < length new → (d : W) → number (get_or new p d) ≡ image (number (get_or inverses p d)))
         → (generator : ℕ) → HoldInverses (field_of number width (mul_mod width modulus) generator) old new
     inverses_of_images old elements inverses new long also are inverted back generator p less d =
@@ -49,12 +49,6 @@ module _ (level width modulus : ℕ) (images : List ℕ) (is : IsChangeOfBasis l
           subst (λ (n : ℕ). n < 2 ^ width) (sym back_is) (is.homomorphism.below y),
           subst (λ (n : ℕ). IsInverseOrZero (mul_mod width modulus) (number (get_or old p d)) n) (sym back_is)
               (subst (λ (n : ℕ). IsInverseOrZero (mul_mod width modulus) n (image y)) (are p (omega (arith, less, long, also)) d)
-              (inverse_of_image x y (in_level (get_or elements p d) (get_or inverses p d) (inverted p (omega (arith, less, also)) d)))),
+              (inverse_of_image x y
+              (subst (λ (n : ℕ). IsInverseOrZero (tower_mul n) x y) same (inverted p (omega (arith, less, also)) d)))),
         )
-      where
-        in_level : (v w : W) → IsInverseOrZero (tower_mul k) (level_number v) (level_number w)
-            → IsInverseOrZero (tower_mul level) (number v) (number w)
-        in_level v w it =
-            subst (λ (n : ℕ). IsInverseOrZero (tower_mul level) n (number w)) (sym (is_number v))
-            (subst (λ (n : ℕ). IsInverseOrZero (tower_mul level) (level_number v) n) (sym (is_number w))
-            (subst (λ (n : ℕ). IsInverseOrZero (tower_mul n) (level_number v) (level_number w)) same it))

@@ -1,7 +1,6 @@
 -- The product by a scalar as a linear map of bytes.
-use Rattle.std.proofs.Common.{◌≡◌, ℕ, zero, suc, ◌^◌, ◌<◌, ◌≤◌, List, [], ◌∷◌, length, get_or, map, sym, ◌∙◌, ap, arith, lit<}
-use Rattle.std.proofs.Math.Nat.{pow-le-pow_right}
-use Rattle.std.proofs.lemmas.List.{get_or-map, length-map}
+use Rattle.std.proofs.Common.{◌≡◌, ℕ, zero, suc, ◌^◌, ◌<◌, List, [], ◌∷◌, length, get_or, map, sym, ◌∙◌, ap, arith}
+use Rattle.std.proofs.lemmas.List.{get_or-map, get_or_default, length-map}
 use Rattle.std.specs.Prelude.{slice_index}
 use Rattle.field_base.specs.LinearMaps.{linear_image}
 use Rattle.field_base.specs.Ring.{IsRing}
@@ -27,12 +26,10 @@ images_are width product ring s a b c d e f g h a_is b_is c_is d_is e_is f_is g_
     each (suc (suc (suc (suc (suc (suc (suc (suc j)))))))) below = absurd (omega (arith, below))
 
 -- bytes that were mapped
-pub all_mapped : (width : ℕ) (f : ℕ → ℕ) (product : ℕ → ℕ → ℕ) (s : ℕ) (old new : List ℕ) → width ≤ 8 → new ≡ map f old
-    → ((k : ℕ) → k < length old → (d : ℕ) → get_or old k d < 2 ^ width) → ((x : ℕ) → x < 256 → f x ≡ product x s)
-    → (k : ℕ) → k < length new → (d : ℕ) → get_or new k d ≡ product (get_or old k d) s
-all_mapped width f product s old new few is fit same k inside d =
-    let room : 2 ^ width ≤ 2 ^ 8 = pow-le-pow_right (lit< tt) few in
+pub all_mapped : (f : ℕ → ℕ) (product : ℕ → ℕ → ℕ) (s : ℕ) (old new : List ℕ) → new ≡ map f old → ((k : ℕ) → get_or old k 0 < 256)
+    → ((x : ℕ) → x < 256 → f x ≡ product x s) → (k : ℕ) → k < length new → (d : ℕ) → get_or new k d ≡ product (get_or old k d) s
+all_mapped f product s old new is fit same k inside d =
     let long : length new ≡ length old = ap length is ∙ length-map old f in
     let within : k < length old = omega (arith, inside, long) in
-    let below = fit k within d in
-    ap (λ (l : List ℕ). get_or l k d) is ∙ get_or-map f old k d d within ∙ same (get_or old k d) (omega (arith, below, room))
+    ap (λ (l : List ℕ). get_or l k d) is ∙ get_or-map f old k 0 d within ∙ same (get_or old k 0) (fit k)
+    ∙ ap (λ (x : ℕ). product x s) (get_or_default old k 0 d within)

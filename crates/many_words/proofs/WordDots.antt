@@ -1,11 +1,17 @@
 -- Sums of products of words by their numbers.
-use Rattle.std.proofs.Common.{◌≡◌, ℕ, ◌+◌, ◌<◌, List, [], ◌∷◌, ◌++◌, drop, get_or, length, map, refl, sym, ◌∙◌, ap, ap₂, arith}
+use Rattle.std.proofs.Common.{◌≡◌, ℕ, ◌+◌, ◌<◌, ◌^◌, List, [], ◌∷◌, ◌++◌, drop, get_or, length, map, refl, sym, ◌∙◌, ap, ap₂, arith}
 use Rattle.std.specs.Int.Bits.{xor_zero_l}
 use Rattle.std.specs.Prelude.{bit_xor}
 use lib.Bits.{xor_assoc}
-use Rattle.std.proofs.lemmas.List.{get_or_default}
+use Rattle.std.proofs.lemmas.List.{get_or_default, length-map}
+use Rattle.std.proofs.lemmas.Nat.{pow_pos, xor_lt}
 use Rattle.field_base.specs.Powers.{dot_of}
+use Rattle.field_base.specs.Ring.{IsRing}
 use Rattle.field_base.proofs.DotLemmas.{dot_of-drop, dot_step}
+
+-- as many words as places, where their numbers are the same
+pub same_long : {A B : Type 0} (f : A → ℕ) (g : B → ℕ) (xs : List A) (ys : List B) → map f xs ≡ map g ys → length xs ≡ length ys
+same_long f g xs ys same = sym (length-map xs f) ∙ ap length same ∙ length-map ys g
 
 module _ {A : Type 0} (times : ℕ → ℕ → ℕ) (value : A → ℕ) where
   -- the sum over words is that over their numbers
@@ -42,3 +48,12 @@ module _ {A : Type 0} (times : ℕ → ℕ → ℕ) (value : A → ℕ) where
       dot_step times value whole sum sum' (times (value x) (value y)) _ _ so_far
       (dot_of-drop times value xs ys k x y left right (get_or_default xs k r x left) (get_or_default ys k r y right))
       (added ∙ ap (bit_xor sum) is)
+
+-- a sum of products of a ring is one of its elements
+pub dot_of-below : {A : Type 0} → (width unit : ℕ) (times : ℕ → ℕ → ℕ) → IsRing width unit times → (repr : A → ℕ) (xs ys : List A)
+    → dot_of times repr xs ys < 2 ^ width
+dot_of-below width unit times ring repr [] ys = pow_pos width
+dot_of-below width unit times ring repr (x ∷ xs) [] = pow_pos width
+dot_of-below width unit times ring repr (x ∷ xs) (y ∷ ys) =
+    xor_lt width (times (repr x) (repr y)) (dot_of times repr xs ys) (ring.below (repr x) (repr y))
+    (dot_of-below width unit times ring repr xs ys)

@@ -14,11 +14,10 @@ pub record IsInPlanes (d size width : ℕ) (product : ℕ → ℕ → ℕ) : Typ
 pub level_in_planes : (d : ℕ) → 2 ^ level_of d ≤ 128 → IsInPlanes d d (2 ^ level_of d) (tower_mul (level_of d))
 level_in_planes d few = record { size_is = refl; width_is = refl; few = few; product_is = λ x y. refl }
 
--- a field of so many bits and such a product is that of slices of 2 ^ k bits, by their product `times`, in which words stand for the same numbers
-pub record IsInSlices {W : Type 0} (k width : ℕ) (product times : ℕ → ℕ → ℕ) (number sliced_number : W → ℕ) : Type 0 where
+-- a field of so many bits and such a product is that of slices of 2 ^ k bits, by their product `times`
+pub record IsInSlices (k width : ℕ) (product times : ℕ → ℕ → ℕ) : Type 0 where
   pub width_is : width ≡ 2 ^ k
   pub product_is : (x y : ℕ) → product x y ≡ times x y
-  pub number_is : (x : W) → number x ≡ sliced_number x
 
 -- the first n words stand for these values, and the others for what they stood for
 pub record FirstHold {W : Type 0} (number : W → ℕ) (n : ℕ) (value : ℕ → W → ℕ) (old new : List W) : Type 0 where

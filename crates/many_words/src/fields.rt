@@ -1,9 +1,9 @@
 // The arithmetic of a field on words that hold its stored words `R`, by the kernel `K`.
-ghost use Rattle.std.specs.Prelude.{◌≡◌, ◌<◌, ◌^◌, ◌↔◌, IsTrue, bit_xor, length};
+ghost use Rattle.std.specs.Prelude.{◌≡◌, ◌<◌, ◌^◌, ◌↔◌, IsTrue, bit_xor, length, map};
 ghost use Rattle.field_base.specs.Field.{IsInverseOrZero};
 ghost use Rattle.field_base.specs.Powers.{dot_of};
 
-use field_base::{FieldKernel, Holds, Stored};
+use field_base::{FieldKernel, Holds, Reads, Stored};
 
 /// The word 0.
 #[inline]
@@ -90,12 +90,12 @@ pub fn sqrt<R: Stored, W: Holds<R>, K: FieldKernel<R>>(x: W) -> W
     W::of_stored(K::sqrt(x.stored()))
 }
 
-/// The sum of the products of the words at each place of two slices of one length. Two products are added at once, and where the
-/// count is odd the last alone; the kernel reduces their sum once.
+/// The sum of the products at each place of two slices of one length. Two products are added at once, and where the count is odd the last
+/// alone; the kernel reduces their sum once.
 #[inline]
-pub fn dot_product<R: Stored, W: Holds<R>, K: FieldKernel<R>>(left: &[W], right: &[W]) -> W
+pub fn dot_product<R: Stored, P: Reads<R>, K: FieldKernel<R>>(left: &[P], right: &[P]) -> R
     requires { length left.now ≡ length right.now }
-    ensures { W.number result ≡ dot_of K.product W.number left.now right.now }
+    ensures { R.number result ≡ dot_of K.product P.number left.now right.now }
 {
     let (mut low, mut high) = K::no_products();
     let pair_count = left.len() / 2;
@@ -108,5 +108,16 @@ pub fn dot_product<R: Stored, W: Holds<R>, K: FieldKernel<R>>(left: &[W], right:
     'rest: for at in 2 * pair_count..left.len() {
         (low, high) = K::add_product(low, high, left[at].stored(), right[at].stored());
     }
-    W::of_stored(K::reduce_sum(low, high))
+    K::reduce_sum(low, high)
+}
+
+/// Writes the word that is read from each place. The slices are of one length.
+#[inline(always)]
+pub fn read_each<R: Stored, P: Reads<R>>(words: &mut [R], places: &[P])
+    requires { length words.old ≡ length places.now }
+    ensures { map R.number words.new ≡ map P.number places.now }
+{
+    for place in 0..words.len() {
+        words[place] = places[place].stored();
+    }
 }

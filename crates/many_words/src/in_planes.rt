@@ -1,7 +1,7 @@
 // Arithmetic by one scalar on slices of words of a level of the tower, many words at once: in planes, of which each has a byte of each
 // word. The scalar's multiples are made once, and the words that do not fill vectors are multiplied one after another.
 ghost use Rattle.std.specs.Prelude.{◌≡◌, ◌<◌, ◌^◌, bit_xor, length};
-ghost use Rattle.many_words.specs.Words.{AreElements, Each, EachOfTwo};
+ghost use Rattle.many_words.specs.Words.{Each, EachOfTwo};
 ghost use Rattle.many_words.specs.Fields.{field_of};
 ghost use Rattle.many_words.specs.Places.{IsInPlanes};
 
@@ -12,7 +12,7 @@ use additive_transforms::{PlaneScalars, WordBytes, WordPlanes, add_multiples, mu
 use field_base::{FieldKernel, Holds, Unsigned};
 
 /// A field that is a level of the tower, and the planes that it multiplies them in.
-pub(crate) trait FieldInPlanes<R: Unsigned, W: WordBytes<R>>: FieldKernel<R> {
+pub trait FieldInPlanes<R: Unsigned, W: WordBytes<R>>: FieldKernel<R> {
     /// The multiples of a scalar.
     type Multiples: Copy;
 
@@ -31,10 +31,10 @@ pub(crate) fn multiply_all<R: Unsigned, W: WordBytes<R>, K: FieldInPlanes<R, W>>
     words: &mut [W],
     scalar: W,
 )
-    requires { W.Holds.number scalar < 2 ^ K.width }
+    requires { W.number scalar < 2 ^ K.width }
     ensures long { length words.new ≡ length words.old }
-    ensures products { Each (field_of W.Holds.number K.width K.product K.generator)
-        (λ x y. y ≡ K.product x (W.Holds.number scalar)) words.old words.new }
+    ensures products { Each (field_of W.number K.width K.product K.generator)
+        (λ x y. y ≡ K.product x (W.number scalar)) words.old words.new }
 {
     let multiples = multiples_of::<R, W, K>(scalar);
     let done = multiply_words::<R, W, K::Multiples, K::Vectors>(words, &multiples);
@@ -43,19 +43,19 @@ pub(crate) fn multiply_all<R: Unsigned, W: WordBytes<R>, K: FieldInPlanes<R, W>>
     }
 }
 
-/// Adds to each sum, an element, the product of the scalar, an element, and the word at its place. The slices are of one length.
+/// Adds to each sum the product of the scalar, an element, and the word at its place. The slices are of one length.
 pub(crate) fn add_all<R: Unsigned, W: WordBytes<R>, K: FieldInPlanes<R, W>>(
     sums: &mut [W],
     words: &[W],
     scalar: W,
 )
-    requires fits { W.Holds.number scalar < 2 ^ K.width }
+    requires fits { W.number scalar < 2 ^ K.width }
     requires same { length words.now ≡ length sums.old }
-    requires elements { AreElements (field_of W.Holds.number K.width K.product K.generator) sums.old }
-    ensures { EachOfTwo (field_of W.Holds.number K.width K.product K.generator)
-        (λ sum x next. next ≡ bit_xor sum (K.product (W.Holds.number scalar) x)) sums.old words.now sums.new }
+    ensures { EachOfTwo (field_of W.number K.width K.product K.generator)
+        (λ sum x next. next ≡ bit_xor sum (K.product (W.number scalar) x)) sums.old words.now sums.new }
 {
     let multiples = multiples_of::<R, W, K>(scalar);
+    W::numbers_fit(sums);
     let done = add_multiples::<R, W, K::Multiples, K::Vectors>(sums, words, &multiples);
     for place in done..sums.len() {
         let product = fields::multiply::<R, W, K>(scalar, words[place]);
@@ -65,8 +65,8 @@ pub(crate) fn add_all<R: Unsigned, W: WordBytes<R>, K: FieldInPlanes<R, W>>(
 
 // The multiples of a scalar, an element.
 fn multiples_of<R: Unsigned, W: WordBytes<R>, K: FieldInPlanes<R, W>>(scalar: W) -> K::Multiples
-    requires fits { W.Holds.number scalar < 2 ^ K.width }
-    ensures { K.Vectors.Planes.are_multiples result (W.Holds.number scalar) }
+    requires fits { W.number scalar < 2 ^ K.width }
+    ensures { K.Vectors.Planes.are_multiples result (W.number scalar) }
 {
     K::Vectors::multiples(scalar.stored().to_u128(), K::bits() as u32)
 }

@@ -9,6 +9,8 @@ ghost use Rattle.many_words.specs.Words.{EachOfTwo, HoldInverses};
 ghost use Rattle.many_words.specs.Fields.{field_of};
 ghost use Rattle.many_words.specs.Places.{IsInSlices};
 
+mod impls;
+
 use crate::bases::{ChangeOfBasis, FromTower, ToTower};
 use bit_slices::{
     PolynomialWord, SlicedWord, Vector, invert_each, multiply_each, multiply_polynomials_each,
@@ -20,64 +22,76 @@ use word_tower::Level;
 /// The least number of words that may pay in slices of bits.
 pub(crate) const LEAST_IN_SLICES: usize = 32;
 
+/// A level of the tower whose words are multiplied and inverted in slices of bits. What computes over it names neither its slices nor its
+/// words.
+pub trait FieldInSlices<R: Stored>: FieldKernel<R> {
+    /// Multiplies each product by the word at its place. The slices are of one length.
+    fn multiply_in_slices<V: Vector, W: Holds<R>>(products: &mut [W], words: &[W])
+        requires { length words.now ≡ length products.old }
+        ensures long { length products.new ≡ length products.old }
+        ensures products { EachOfTwo (field_of W.number Self.width Self.product Self.generator) (λ x y z. z ≡ Self.product x y)
+            products.old words.now products.new };
+
+    /// Leaves the inverse of each word, and 0 of 0.
+    fn invert_in_slices<V: Vector, W: Holds<R>>(words: &mut [W])
+        ensures long { length words.new ≡ length words.old }
+        ensures inverses { HoldInverses (field_of W.number Self.width Self.product Self.generator) words.old words.new };
+}
+
 /// Multiplies each product by the word at its place.
-pub fn multiply_words<R: Stored, W: Holds<R> + SlicedWord<V>, K: FieldKernel<R>, V: Vector>(
+pub(crate) fn multiply_words<R: SlicedWord<V>, W: Holds<R>, K: FieldKernel<R>, V: Vector>(
     products: &mut [W],
     words: &[W],
 )
-    requires level { IsInSlices W.TowerWord.LEVEL K.width K.product (tower_mul W.TowerWord.LEVEL) W.Holds.number W.TowerWord.number }
+    requires level { IsInSlices R.TowerWord.LEVEL K.width K.product (tower_mul R.TowerWord.LEVEL) }
     requires same { length words.now ≡ length products.old }
     ensures long { length products.new ≡ length products.old }
-    ensures products { EachOfTwo (field_of W.Holds.number K.width K.product K.generator) (λ x y z. z ≡ K.product x y) products.old words.now
+    ensures products { EachOfTwo (field_of W.number K.width K.product K.generator) (λ x y z. z ≡ K.product x y) products.old words.now
         products.new }
 {
-    multiply_each::<V, W>(products, words);
+    multiply_each::<V, R, W>(products, words);
 }
 
 /// Multiplies each polynomial by the word at its place.
-pub(crate) fn multiply_polynomials<
-    R: Stored,
-    W: Holds<R> + PolynomialWord<V>,
-    K: FieldKernel<R>,
-    V: Vector,
->(products: &mut [W], words: &[W])
-    requires level { IsInSlices W.TowerWord.LEVEL K.width K.product (mul_mod (2 ^ W.TowerWord.LEVEL) W.Polynomials.modulus) W.Holds.number
-        W.TowerWord.number }
+pub(crate) fn multiply_polynomials<R: PolynomialWord<V>, W: Holds<R>, K: FieldKernel<R>, V: Vector>(
+    products: &mut [W],
+    words: &[W],
+)
+    requires level { IsInSlices R.TowerWord.LEVEL K.width K.product (mul_mod (2 ^ R.TowerWord.LEVEL) R.Polynomials.modulus) }
     requires same { length words.now ≡ length products.old }
     ensures long { length products.new ≡ length products.old }
-    ensures products { EachOfTwo (field_of W.Holds.number K.width K.product K.generator) (λ x y z. z ≡ K.product x y) products.old words.now
+    ensures products { EachOfTwo (field_of W.number K.width K.product K.generator) (λ x y z. z ≡ K.product x y) products.old words.now
         products.new }
 {
-    multiply_polynomials_each::<V, W>(products, words);
+    multiply_polynomials_each::<V, R, W>(products, words);
 }
 
 /// Leaves the inverse of each word, and 0 of 0.
-pub fn invert_words<R: Stored, W: Holds<R> + SlicedWord<V>, K: FieldKernel<R>, V: Vector>(
+pub(crate) fn invert_words<R: SlicedWord<V>, W: Holds<R>, K: FieldKernel<R>, V: Vector>(
     words: &mut [W],
 )
-    requires level { IsInSlices W.TowerWord.LEVEL K.width K.product (tower_mul W.TowerWord.LEVEL) W.Holds.number W.TowerWord.number }
+    requires { IsInSlices R.TowerWord.LEVEL K.width K.product (tower_mul R.TowerWord.LEVEL) }
     ensures long { length words.new ≡ length words.old }
-    ensures inverses { HoldInverses (field_of W.Holds.number K.width K.product K.generator) words.old words.new }
+    ensures inverses { HoldInverses (field_of W.number K.width K.product K.generator) words.old words.new }
 {
-    invert_each::<V, W>(words);
+    invert_each::<V, R, W>(words);
 }
 
 /// Leaves the inverse of each polynomial, and 0 of 0: the image of the inverse in the tower.
-pub fn invert_images<
-    R: Unsigned,
-    W: Holds<R> + SlicedWord<V>,
+pub(crate) fn invert_images<
+    R: Unsigned + SlicedWord<V>,
+    W: Holds<R>,
     L: Level<R>,
     M: Modulus<R, L>,
     V: Vector,
 >(words: &mut [W])
-    requires level { W.TowerWord.LEVEL ≡ M.LEVEL }
-    requires number { (x : W) → W.Holds.number x ≡ W.TowerWord.number x }
+    requires { R.TowerWord.LEVEL ≡ M.LEVEL }
     ensures long { length words.new ≡ length words.old }
-    ensures inverses { HoldInverses (field_of W.Holds.number M.width (mul_mod M.width M.modulus)
+    ensures inverses { HoldInverses (field_of W.number M.width (mul_mod M.width M.modulus)
         (basis_image M.width M.modulus M.images (tower_generator M.LEVEL))) words.old words.new }
 {
     change_all::<R, W, ToTower<Polynomials<M, L>>>(words);
-    invert_each::<V, W>(words);
+    invert_each::<V, R, W>(words);
     change_all::<R, W, FromTower<Polynomials<M, L>>>(words);
 }
 

@@ -8,7 +8,7 @@ ghost use Rattle.ghash_slices.specs.LowStages.{ghash_product};
 ghost use Rattle.ghash_slices.specs.Fours.{product_at};
 
 use bit_slices::Vector;
-use field_base::Holds;
+use field_base::{Holds, Reads};
 use ghash_slices::{Width, number_at, put_number};
 use word_carryless::{
     multiply_128, multiply_128_twice, multiply_mod_128, multiply_mod_128_twice, reduce_128,
@@ -55,7 +55,7 @@ fn multiply_by_pairs<W: Holds<u128>>(words: &mut [W], others: &[W], start: usize
 
 /// The sum of the products at each place, which is 0 of none: of four at once in wide vectors, and of two behind them. The slices are of
 /// one length.
-pub(crate) fn dot_of_words<V: Width + Vector, W: Holds<u128>>(left: &[W], right: &[W]) -> u128
+pub(crate) fn dot_of_words<V: Width + Vector, W: Reads<u128>>(left: &[W], right: &[W]) -> u128
     requires { length left.now ≡ length right.now }
     ensures { result ≡ dot_of ghash_product (λ x. x) (map W.number left.now) (map W.number right.now) }
 {
@@ -78,7 +78,7 @@ fn fours_added<V: Vector>(count: usize) -> usize
 }
 
 // The remainder of a sum of products, and the sum of the products from a place on: two at once, and reduced once.
-fn add_pairs<W: Holds<u128>>(low: u128, high: u128, left: &[W], right: &[W], start: usize) -> u128
+fn add_pairs<W: Reads<u128>>(low: u128, high: u128, left: &[W], right: &[W], start: usize) -> u128
     requires same { length left.now ≡ length right.now }
     requires inside { start ≤ length left.now }
     ensures { result ≡ bit_xor (rem 128 ghash_modulus (high * 2 ^ 128 + low))
@@ -109,7 +109,7 @@ fn add_pairs<W: Holds<u128>>(low: u128, high: u128, left: &[W], right: &[W], sta
 
 // The numbers of two words from a place on.
 #[inline(always)]
-fn two_at<W: Holds<u128>>(words: &[W], at: usize) -> (u128, u128)
+fn two_at<W: Reads<u128>>(words: &[W], at: usize) -> (u128, u128)
     requires { at + 2 ≤ length words.now }
     ensures first { result.0 ≡ slice_index (map W.number words.now) at }
     ensures second { result.1 ≡ slice_index (map W.number words.now) (at + 1) }
@@ -119,7 +119,7 @@ fn two_at<W: Holds<u128>>(words: &[W], at: usize) -> (u128, u128)
 
 // The numbers of four words from a place on.
 #[inline(always)]
-fn four_at<W: Holds<u128>>(words: &[W], at: usize) -> [u128; 4]
+fn four_at<W: Reads<u128>>(words: &[W], at: usize) -> [u128; 4]
     requires { at + 4 ≤ length words.now }
     ensures { result ≡ slice_index (map W.number words.now) at ∷ slice_index (map W.number words.now) (at + 1)
         ∷ slice_index (map W.number words.now) (at + 2) ∷ slice_index (map W.number words.now) (at + 3) ∷ [] }

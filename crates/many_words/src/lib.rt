@@ -19,11 +19,8 @@ pub mod operations;
 mod products;
 mod scalars;
 mod scaled_bytes;
-mod wide_words;
 mod word_maps;
 
 pub use crate::bases::{ChangeOfBasis, FromTower, ToTower};
-pub use crate::in_slices::{invert_images, invert_words, multiply_words};
-pub use crate::many::{Many, add_scaled, invert, multiply, multiply_by};
+pub use crate::many::{Many, Sizes, add_scaled, invert, multiply, multiply_by};
 pub use crate::one_by_one::{change_all, change_all_by};
-pub use crate::wide_words::SlicedWide;

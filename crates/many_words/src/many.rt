@@ -1,9 +1,7 @@
 // What computes many words of a field at once. Each call has a body over any field, which takes one word after another; a field that has a
 // better one for many words names it, and the least number of words that it is better for. Vectors `V` are those in which a field computes
 // many words, where it does.
-ghost use prog.Memory.{size};
-ghost use denote.Param.{layout};
-ghost use Rattle.std.specs.Prelude.{◌≡◌, ◌<◌, ◌≤◌, ◌*◌, ◌^◌, ℕ, bit_xor, length};
+ghost use Rattle.std.specs.Prelude.{◌≡◌, ◌<◌, ◌^◌, ℕ, bit_xor, length};
 ghost use Rattle.field_base.specs.Powers.{dot_of};
 ghost use Rattle.many_words.specs.Fields.{field_of};
 ghost use Rattle.many_words.specs.Words.{AreElements, Each, EachOfTwo, HoldInverses};
@@ -12,41 +10,44 @@ mod kernels;
 mod levels;
 
 use crate::fields;
-use crate::one_by_one::{change_all, change_all_by};
-use crate::operations::{Inverse, Product, Scaled, ScaledSum};
+use crate::one_by_one::{change_all, change_all_by, multiply_each_by};
+use crate::operations::{Inverse, Product, ScaledSum};
 use bit_slices::Vector;
-use field_base::{FieldKernel, Holds, Stored};
+use field_base::{FieldKernel, Holds, Reads, Stored};
 use ghash_slices::Width;
 use std::simd::prelude::*;
+
+/// From how many words on a field computes many at once. Fewer are taken one after another, and neither copied first nor put in a block; so
+/// are all where there is no better body.
+#[derive(Clone, Copy)]
+pub struct Sizes {
+    /// The least number of words that are multiplied by the words at their places.
+    pub multiplied: usize,
+    /// How many of these a block has: the words behind whole blocks are multiplied in narrow vectors.
+    pub block: usize,
+    /// The least number of words that are multiplied by one scalar.
+    pub scaled: usize,
+    /// The least number of words that are inverted.
+    pub inverted: usize,
+}
 
 /// A field, and what it computes on many of its words `W` at once: its stored words, or those in which others hold them. A call at a field names
 /// these methods, and not the planes or slices of bits behind them: naming those takes seconds in each function, and more with each level.
 pub trait Many<R: Stored, W: Holds<R>>: FieldKernel<R> + Sized {
-    /// The least number of words that are multiplied by `multiply_all`. Fewer are multiplied one after another, and neither copied first
-    /// nor put in a block; so are all where there is no better body.
-    #[inline(always)]
-    fn least_multiplied<V: Vector>() -> usize {
-        usize::MAX
-    }
-
-    /// The least number of words that are multiplied by one scalar at once.
-    const LEAST_SCALED: usize = usize::MAX;
-
-    /// The least number of words that are inverted at once.
-    const LEAST_INVERTED: usize = usize::MAX;
-
     /// The least number of words whose inverses take less than as a batch: by the inverse of one product, and three products each.
     const LEAST_IN_BATCH: usize = 0;
 
-    /// The least number of terms whose products `dot_product` makes in blocks. Fewer are added two at a time.
-    const LEAST_IN_BLOCKS: usize = usize::MAX;
-
-    /// How many words a block of products in vectors `V` has: the words behind whole blocks are multiplied in narrow vectors.
+    /// From how many words on it computes many at once, in vectors `V`.
     #[inline(always)]
-    fn block<V: Vector>() -> usize
-        ensures { 0 < result }
+    fn sizes<V: Vector>() -> Sizes
+        ensures { 0 < result.block }
     {
-        V::lanes()
+        Sizes {
+            multiplied: usize::MAX,
+            block: 1,
+            scaled: usize::MAX,
+            inverted: usize::MAX,
+        }
     }
 
     /// Multiplies each product by the word at its place. The slices are of one length.
@@ -60,24 +61,22 @@ pub trait Many<R: Stored, W: Holds<R>>: FieldKernel<R> + Sized {
         change_all_by::<R, W, Self, Product>(products, words, &Product);
     }
 
-    /// Multiplies each word by the scalar. All are elements.
+    /// Multiplies each word by the scalar, an element.
     #[inline]
     fn multiply_all_by<V: Width>(words: &mut [W], scalar: W)
-        requires scalar { W.number scalar < 2 ^ Self.width }
-        requires elements { AreElements (field_of W.number Self.width Self.product Self.generator) words.old }
+        requires { W.number scalar < 2 ^ Self.width }
         ensures long { length words.new ≡ length words.old }
         ensures products { Each (field_of W.number Self.width Self.product Self.generator)
             (λ x y. y ≡ Self.product x (W.number scalar)) words.old words.new }
     {
-        change_all::<R, W, Self, Scaled<W>>(words, &Scaled { scalar });
+        multiply_each_by::<R, W, Self>(words, scalar);
     }
 
-    /// Writes the product of each word and the scalar. All are elements, and the slices are of one length.
+    /// Writes the product of each word and the scalar, an element. The slices are of one length.
     #[inline]
     fn write_multiples<V: Width>(words: &[W], scalar: W, products: &mut [W])
         requires same { length words.now ≡ length products.old }
         requires scalar { W.number scalar < 2 ^ Self.width }
-        requires elements { AreElements (field_of W.number Self.width Self.product Self.generator) words.now }
         ensures { Each (field_of W.number Self.width Self.product Self.generator)
             (λ x y. y ≡ Self.product x (W.number scalar)) words.now products.new }
     {
@@ -85,12 +84,11 @@ pub trait Many<R: Stored, W: Holds<R>>: FieldKernel<R> + Sized {
         Self::multiply_all_by::<V>(products, scalar);
     }
 
-    /// Adds to each sum the product of the scalar and the word at its place. All are elements, and the slices are of one length.
+    /// Adds to each sum the product of the scalar, an element, and the word at its place. The slices are of one length.
     #[inline]
     fn add_multiples<V: Width>(sums: &mut [W], words: &[W], scalar: W)
         requires same { length words.now ≡ length sums.old }
         requires scalar { W.number scalar < 2 ^ Self.width }
-        requires elements { AreElements (field_of W.number Self.width Self.product Self.generator) sums.old }
         ensures { EachOfTwo (field_of W.number Self.width Self.product Self.generator)
             (λ sum x next. next ≡ bit_xor sum (Self.product (W.number scalar) x)) sums.old words.now sums.new }
     {
@@ -109,15 +107,12 @@ pub trait Many<R: Stored, W: Holds<R>>: FieldKernel<R> + Sized {
 
     /// The sum of the products at each place, which is 0 of none. The slices are of one length.
     #[inline]
-    fn dot_product<V: Width + Vector>(left: &[W], right: &[W]) -> W
+    fn dot_product<V: Width + Vector, P: Reads<R>>(left: &[P], right: &[P]) -> R
         requires { length left.now ≡ length right.now }
-        ensures { W.number result ≡ dot_of Self.product W.number left.now right.now }
+        ensures { R.number result ≡ dot_of Self.product P.number left.now right.now }
     {
-        fields::dot_product::<R, W, Self>(left, right)
+        fields::dot_product::<R, P, Self>(left, right)
     }
-
-    // An array of up to 1,024 words can be a value.
-    ghost room_law: { (n : ℕ) → n ≤ 1024 → n * size (layout W.row) < 2 ^ 63 };
 }
 
 /// Multiplies each product by the word at its place. The slices are of one length. Whole blocks are multiplied in vectors `V`, and the
@@ -132,34 +127,34 @@ pub fn multiply<R: Stored, W: Holds<R>, K: Many<R, W>, V: Width + Vector>(
     ensures products { EachOfTwo (field_of W.number K.width K.product K.generator) (λ x y z. z ≡ K.product x y) products.old words.now
         products.new }
 {
-    if products.len() < K::least_multiplied::<V>() {
+    let sizes = K::sizes::<V>();
+    if products.len() < sizes.multiplied {
         change_all_by::<R, W, K, Product>(products, words, &Product);
         return;
     }
-    let whole = words.len() - words.len() % K::block::<V>();
+    let whole = words.len() - words.len() % sizes.block;
     let (first, last) = words.split_at(whole);
     let (blocks, rest) = products.split_at_mut(whole);
     K::multiply_all::<V>(blocks, first);
     K::multiply_all::<u64x2>(rest, last);
 }
 
-/// Multiplies each word by the scalar. All are elements.
+/// Multiplies each word by the scalar, an element.
 #[inline]
 pub fn multiply_by<R: Stored, W: Holds<R>, K: Many<R, W>, V: Width>(words: &mut [W], scalar: W)
-    requires scalar { W.number scalar < 2 ^ K.width }
-    requires elements { AreElements (field_of W.number K.width K.product K.generator) words.old }
+    requires { W.number scalar < 2 ^ K.width }
     ensures long { length words.new ≡ length words.old }
     ensures products { Each (field_of W.number K.width K.product K.generator) (λ x y. y ≡ K.product x (W.number scalar)) words.old
         words.new }
 {
-    if words.len() < K::LEAST_SCALED {
-        change_all::<R, W, K, Scaled<W>>(words, &Scaled { scalar });
+    if words.len() < K::sizes::<u64x2>().scaled {
+        multiply_each_by::<R, W, K>(words, scalar);
     } else {
         K::multiply_all_by::<V>(words, scalar);
     }
 }
 
-/// Adds to each sum the product of the scalar and the word at its place. All are elements, and the slices are of one length.
+/// Adds to each sum the product of the scalar, an element, and the word at its place. The slices are of one length.
 #[inline]
 pub fn add_scaled<R: Stored, W: Holds<R>, K: Many<R, W>, V: Width>(
     sums: &mut [W],
@@ -168,11 +163,10 @@ pub fn add_scaled<R: Stored, W: Holds<R>, K: Many<R, W>, V: Width>(
 )
     requires same { length words.now ≡ length sums.old }
     requires scalar { W.number scalar < 2 ^ K.width }
-    requires elements { AreElements (field_of W.number K.width K.product K.generator) sums.old }
     ensures { EachOfTwo (field_of W.number K.width K.product K.generator)
         (λ sum x next. next ≡ bit_xor sum (K.product (W.number scalar) x)) sums.old words.now sums.new }
 {
-    if sums.len() < K::LEAST_SCALED {
+    if sums.len() < K::sizes::<u64x2>().scaled {
         change_all_by::<R, W, K, ScaledSum<W>>(sums, words, &ScaledSum { scalar });
     } else {
         K::add_multiples::<V>(sums, words, scalar);
@@ -186,7 +180,7 @@ pub fn invert<R: Stored, W: Holds<R>, K: Many<R, W>, V: Vector>(words: &mut [W])
     ensures long { length words.new ≡ length words.old }
     ensures inverses { HoldInverses (field_of W.number K.width K.product K.generator) words.old words.new }
 {
-    if words.len() < K::LEAST_INVERTED {
+    if words.len() < K::sizes::<V>().inverted {
         change_all::<R, W, K, Inverse>(words, &Inverse);
         return;
     }

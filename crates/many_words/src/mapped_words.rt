@@ -3,7 +3,7 @@
 ghost use Rattle.std.specs.Prelude.{◌≡◌, ℕ, ◌^◌, ◌<◌, bit_xor, length};
 ghost use Rattle.field_base.specs.LinearMaps.{linear_image};
 ghost use Rattle.field_base.specs.Remainder.{mul_mod, poly64_modulus};
-ghost use Rattle.many_words.specs.Words.{AreElements, Each, EachOfTwo};
+ghost use Rattle.many_words.specs.Words.{Each, EachOfTwo};
 ghost use Rattle.many_words.specs.Fields.{field_of};
 
 use crate::entries::Entries;
@@ -30,10 +30,10 @@ pub(crate) fn multiply_all<K: FieldKernel<u64>, W: WordBytes<u64>>(
 )
     requires width { K.width ≡ 64 }
     requires size { W.size ≡ 3 }
-    requires images { (x : ℕ) → x < 2 ^ 64 → linear_image images.now x ≡ K.product x (W.Holds.number scalar) }
+    requires images { (x : ℕ) → x < 2 ^ 64 → linear_image images.now x ≡ K.product x (W.number scalar) }
     ensures long { length words.new ≡ length words.old }
-    ensures products { Each (field_of W.Holds.number K.width K.product K.generator)
-        (λ x y. y ≡ K.product x (W.Holds.number scalar)) words.old words.new }
+    ensures products { Each (field_of W.number K.width K.product K.generator)
+        (λ x y. y ≡ K.product x (W.number scalar)) words.old words.new }
 {
     let mut tables = [<Planes as Entries<Multiples>>::zeros(); 16];
     set_tables::<Multiples, Planes>(&mut tables, images);
@@ -43,7 +43,7 @@ pub(crate) fn multiply_all<K: FieldKernel<u64>, W: WordBytes<u64>>(
     }
 }
 
-/// Adds to each sum, an element, the product of the scalar, whose products with the bits are the images, and the word at its place. The
+/// Adds to each sum the product of the scalar, whose products with the bits are the images, and the word at its place. The
 /// slices are of one length.
 pub(crate) fn add_all<K: FieldKernel<u64>, W: WordBytes<u64>>(
     sums: &mut [W],
@@ -54,13 +54,13 @@ pub(crate) fn add_all<K: FieldKernel<u64>, W: WordBytes<u64>>(
     requires width { K.width ≡ 64 }
     requires size { W.size ≡ 3 }
     requires same { length words.now ≡ length sums.old }
-    requires elements { AreElements (field_of W.Holds.number K.width K.product K.generator) sums.old }
-    requires images { (x : ℕ) → x < 2 ^ 64 → linear_image images.now x ≡ K.product x (W.Holds.number scalar) }
-    ensures { EachOfTwo (field_of W.Holds.number K.width K.product K.generator)
-        (λ sum x next. next ≡ bit_xor sum (K.product (W.Holds.number scalar) x)) sums.old words.now sums.new }
+    requires images { (x : ℕ) → x < 2 ^ 64 → linear_image images.now x ≡ K.product x (W.number scalar) }
+    ensures { EachOfTwo (field_of W.number K.width K.product K.generator)
+        (λ sum x next. next ≡ bit_xor sum (K.product (W.number scalar) x)) sums.old words.now sums.new }
 {
     let mut tables = [<Planes as Entries<Multiples>>::zeros(); 16];
     set_tables::<Multiples, Planes>(&mut tables, images);
+    W::numbers_fit(sums);
     let done = add_images::<u64, W, Multiples, Planes>(sums, words, &tables);
     for place in done..sums.len() {
         let product = fields::multiply::<u64, W, K>(scalar, words[place]);

@@ -4,6 +4,7 @@ ghost use Rattle.std.specs.Prelude.{◌≡◌, length};
 ghost use Rattle.many_words.specs.Fields.{field_of};
 ghost use Rattle.many_words.specs.Words.{AreElements, Each, EachOfTwo};
 
+use crate::fields;
 use crate::operations::{OnOne, OnTwo};
 use field_base::{FieldKernel, Holds, Stored};
 
@@ -35,5 +36,20 @@ pub fn change_all_by<R: Stored, W: Holds<R>, K: FieldKernel<R>, O: OnTwo<R, W, K
 {
     for place in 0..words.len() {
         words[place] = operation.result_at(words[place], others[place]);
+    }
+}
+
+/// Multiplies each word by the scalar.
+#[inline]
+pub(crate) fn multiply_each_by<R: Stored, W: Holds<R>, K: FieldKernel<R>>(
+    words: &mut [W],
+    scalar: W,
+)
+    ensures long { length words.new ≡ length words.old }
+    ensures products { Each (field_of W.number K.width K.product K.generator) (λ x y. y ≡ K.product x (W.number scalar)) words.old
+        words.new }
+{
+    for place in 0..words.len() {
+        words[place] = fields::multiply::<R, W, K>(words[place], scalar);
     }
 }

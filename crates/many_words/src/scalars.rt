@@ -4,14 +4,13 @@ ghost use Rattle.many_words.specs.Words.{Each, EachOfTwo};
 ghost use Rattle.many_words.specs.Fields.{ghash_field_of};
 ghost use Rattle.ghash_slices.specs.LowStages.{ghash_product};
 
-use crate::SlicedWide;
 use field_base::Holds;
 use ghash_slices::{Width, add_multiples};
 
 /// Writes the product of each word and the scalar. The slices are of one length.
-pub(crate) fn write_multiples<V: Width, W: SlicedWide>(words: &[W], scalar: W, products: &mut [W])
+pub(crate) fn write_multiples<V: Width, W: Holds<u128>>(words: &[W], scalar: W, products: &mut [W])
     requires { length words.now ≡ length products.old }
-    ensures { Each (ghash_field_of W.Holds.number) (λ x y. y ≡ ghash_product x (W.Holds.number scalar)) words.now products.new }
+    ensures { Each (ghash_field_of W.number) (λ x y. y ≡ ghash_product x (W.number scalar)) words.now products.new }
 {
     clear(products);
     add_multiples::<V, W>(products, words, scalar.stored());
@@ -24,9 +23,9 @@ const MANY_AT_ONCE: usize = 1024;
 
 /// Multiplies each word by the scalar: a block of words is copied to the stack, and its products are added to zeros, as in
 /// `write_multiples`.
-pub(crate) fn multiply_all<V: Width, W: SlicedWide>(words: &mut [W], scalar: W)
+pub(crate) fn multiply_all<V: Width, W: Holds<u128>>(words: &mut [W], scalar: W)
     ensures long { length words.new ≡ length words.old }
-    ensures products { Each (ghash_field_of W.Holds.number) (λ x y. y ≡ ghash_product x (W.Holds.number scalar)) words.old words.new }
+    ensures products { Each (ghash_field_of W.number) (λ x y. y ≡ ghash_product x (W.number scalar)) words.old words.new }
 {
     if words.len() <= FEW_AT_ONCE {
         multiply_at_once::<V, W, FEW_AT_ONCE>(words, scalar);
@@ -37,21 +36,21 @@ pub(crate) fn multiply_all<V: Width, W: SlicedWide>(words: &mut [W], scalar: W)
 
 // Multiplies each word by the scalar, N of them at once. It is apart and never inlined, since a function clears its locals when it is called.
 #[inline(never)]
-fn multiply_at_once<V: Width, W: SlicedWide, const N: usize>(words: &mut [W], scalar: W)
+fn multiply_at_once<V: Width, W: Holds<u128>, const N: usize>(words: &mut [W], scalar: W)
     requires some { 0 < N }
     requires few { N ≤ 1024 }
     ensures long { length words.new ≡ length words.old }
-    ensures products { Each (ghash_field_of W.Holds.number) (λ x y. y ≡ ghash_product x (W.Holds.number scalar)) words.old words.new }
+    ensures products { Each (ghash_field_of W.number) (λ x y. y ≡ ghash_product x (W.number scalar)) words.old words.new }
 {
     let mut copies = [W::of_stored(0); N];
     multiply_blocks::<V, W>(words, &mut copies, scalar);
 }
 
 // Multiplies each word by the scalar, as many at once as can be copied.
-fn multiply_blocks<V: Width, W: SlicedWide>(words: &mut [W], copies: &mut [W], scalar: W)
+fn multiply_blocks<V: Width, W: Holds<u128>>(words: &mut [W], copies: &mut [W], scalar: W)
     requires { 0 < length copies.old }
     ensures long { length words.new ≡ length words.old }
-    ensures products { Each (ghash_field_of W.Holds.number) (λ x y. y ≡ ghash_product x (W.Holds.number scalar)) words.old words.new }
+    ensures products { Each (ghash_field_of W.number) (λ x y. y ≡ ghash_product x (W.number scalar)) words.old words.new }
 {
     let mut start = 0;
     while start < words.len() {
@@ -70,20 +69,20 @@ fn at_most(count: usize, bound: usize) -> usize
 }
 
 // Multiplies each word of a block by the scalar. The slices are of one length.
-fn multiply_block<V: Width, W: SlicedWide>(words: &mut [W], copies: &mut [W], scalar: W)
+fn multiply_block<V: Width, W: Holds<u128>>(words: &mut [W], copies: &mut [W], scalar: W)
     requires { length words.old ≡ length copies.old }
     ensures long { length words.new ≡ length words.old }
     ensures copied { length copies.new ≡ length copies.old }
-    ensures products { Each (ghash_field_of W.Holds.number) (λ x y. y ≡ ghash_product x (W.Holds.number scalar)) words.old words.new }
+    ensures products { Each (ghash_field_of W.number) (λ x y. y ≡ ghash_product x (W.number scalar)) words.old words.new }
 {
     copies.copy_from_slice(words);
     write_multiples::<V, W>(copies, scalar, words);
 }
 
 /// Adds to each sum the product of the scalar and the word at its place. The slices are of one length.
-pub(crate) fn add_all<V: Width, W: SlicedWide>(sums: &mut [W], words: &[W], scalar: W)
+pub(crate) fn add_all<V: Width, W: Holds<u128>>(sums: &mut [W], words: &[W], scalar: W)
     requires { length words.now ≡ length sums.old }
-    ensures { EachOfTwo (ghash_field_of W.Holds.number) (λ sum x next. next ≡ bit_xor sum (ghash_product (W.Holds.number scalar) x)) sums.old
+    ensures { EachOfTwo (ghash_field_of W.number) (λ sum x next. next ≡ bit_xor sum (ghash_product (W.number scalar) x)) sums.old
         words.now sums.new }
 {
     add_multiples::<V, W>(sums, words, scalar.stored());

@@ -3,7 +3,7 @@
 ghost use Rattle.std.specs.Prelude.{◌≡◌, ◌+◌, ◌<◌, ◌≤◌, ℕ, bit_xor, length, map, slice_index};
 ghost use Rattle.std.specs.Simd.Lanes.{chunk, zip2};
 ghost use Rattle.word_tables.specs.Nibbles.{entry_sum};
-ghost use Rattle.many_words.specs.Words.{AreElements, Each, EachOfTwo};
+ghost use Rattle.many_words.specs.Words.{Each, EachOfTwo};
 ghost use Rattle.many_words.specs.Fields.{field_of, itself};
 ghost use Rattle.field_base.specs.LinearMaps.{linear_image};
 
@@ -16,9 +16,8 @@ use word_tables::{entry_sums, map_bytes};
 /// The least number of bytes that are mapped.
 pub(crate) const LEAST_MAPPED: usize = 32;
 
-/// Multiplies each byte, an element, by the scalar.
+/// Multiplies each byte by the scalar.
 pub(crate) fn multiply_all<K: FieldKernel<u8>>(bytes: &mut [u8], scalar: u8)
-    requires { AreElements (field_of itself K.width K.product K.generator) bytes.old }
     ensures long { length bytes.new ≡ length bytes.old }
     ensures products { Each (field_of itself K.width K.product K.generator) (λ x y. y ≡ K.product x scalar) bytes.old bytes.new }
 {

@@ -8,10 +8,11 @@ ghost use Rattle.many_words.specs.Words.{AreElements};
 use crate::element::Element;
 use field_base::{FieldKernel, Stored};
 use many_words::Many;
+use many_words::fields::read_each;
 use std::marker::PhantomData;
 
 // How many words are copied at once. An array is cleared before it is filled, so that fewer elements get a smaller one.
-pub(crate) const BLOCK: usize = 128;
+const BLOCK: usize = 128;
 
 const SOME: usize = 32;
 
@@ -157,23 +158,12 @@ fn change_by_words<R: Stored, K: Many<R, R>, O: OnWords<R, K>>(
     ensures results { (k : ℕ) → k < length elements.old → O.gives operation.now (map repr_of others.now) (start + k)
         (slice_index (map repr_of elements.old) k) (slice_index (map repr_of elements.new) k) }
 {
-    write_words(words, elements);
+    read_each(words, elements);
     operation.change(words, beside, others, start);
     for place in 0..elements.len() {
         elements[place] = Element {
             repr: words[place],
             field: PhantomData,
         };
-    }
-}
-
-/// Writes the words of the elements. The slices are of one length.
-#[inline(always)]
-pub(crate) fn write_words<R: Stored, K: FieldKernel<R>>(words: &mut [R], elements: &[Element<R, K>])
-    requires { length words.old ≡ length elements.now }
-    ensures { map R.number words.new ≡ map repr_of elements.now }
-{
-    for place in 0..words.len() {
-        words[place] = elements[place].repr;
     }
 }

@@ -8,9 +8,10 @@ ghost use Rattle.field_element.specs.Element.{repr_of};
 ghost use Rattle.packed_lanes.specs.Lanes.{lane_by_lane};
 
 use crate::element::Element;
-use crate::element::blocks::{BLOCK, FEW, OnWords, change_elements, write_words};
-use field_base::{FieldKernel, Stored};
+use crate::element::blocks::{FEW, OnWords, change_elements};
+use field_base::{FieldKernel, Reads, Stored};
 use many_words::Many;
+use many_words::fields::read_each;
 use std::marker::PhantomData;
 use std::simd::prelude::*;
 
@@ -82,7 +83,7 @@ impl<R: Stored, K: Many<R, R>> OnWords<R, K> for Products {
     #[inline(always)]
     fn least() -> usize {
         // To copy fewer takes longer than to multiply two at once saves.
-        K::least_multiplied::<u64x2>().max(FEW)
+        K::sizes::<u64x2>().multiplied.max(FEW)
     }
 
     #[inline(always)]
@@ -93,7 +94,7 @@ impl<R: Stored, K: Many<R, R>> OnWords<R, K> for Products {
     #[inline(always)]
     fn change(&self, words: &mut [R], beside: &mut [R], others: &[Element<R, K>], start: usize) {
         let end = start + words.len();
-        write_words(beside, &others[start..end]);
+        read_each(beside, &others[start..end]);
         K::multiply_all::<u64x2>(words, beside);
     }
 
@@ -113,7 +114,7 @@ impl<R: Stored, K: Many<R, R>> OnWords<R, K> for Multiples<R, K> {
 
     #[inline(always)]
     fn least() -> usize {
-        K::LEAST_SCALED
+        K::sizes::<u64x2>().scaled
     }
 
     #[inline(always)]
@@ -142,7 +143,7 @@ impl<R: Stored, K: Many<R, R>> OnWords<R, K> for AddedMultiples<R, K> {
 
     #[inline(always)]
     fn least() -> usize {
-        K::LEAST_SCALED
+        K::sizes::<u64x2>().scaled
     }
 
     #[inline(always)]
@@ -153,7 +154,7 @@ impl<R: Stored, K: Many<R, R>> OnWords<R, K> for AddedMultiples<R, K> {
     #[inline(always)]
     fn change(&self, words: &mut [R], beside: &mut [R], others: &[Element<R, K>], start: usize) {
         let end = start + words.len();
-        write_words(beside, &others[start..end]);
+        read_each(beside, &others[start..end]);
         K::add_multiples::<u64x2>(words, beside, self.scalar.repr);
     }
 
@@ -170,7 +171,7 @@ impl<R: Stored, K: Many<R, R>> OnWords<R, K> for Inverses {
 
     #[inline(always)]
     fn least() -> usize {
-        K::LEAST_INVERTED
+        K::sizes::<u64x2>().inverted
     }
 
     #[inline(always)]
@@ -194,86 +195,31 @@ pub(crate) fn dot_of_elements<R: Stored, K: Many<R, R>>(
     requires { length left.now ≡ length right.now }
     ensures { repr_of result ≡ dot_of K.product repr_of left.now right.now }
 {
-    if left.len() < K::LEAST_IN_BLOCKS {
-        return Element {
-            repr: dot_by_twos(left, right),
-            field: PhantomData,
-        };
-    }
     Element {
-        repr: dot_of_blocks(left, right),
+        repr: dot_of_words(left, right),
         field: PhantomData,
     }
 }
 
-// The sum of the products, two at a time, and where the count is odd the last alone; it is reduced once.
+// The word of that sum.
 #[inline]
-fn dot_by_twos<R: Stored, K: FieldKernel<R>>(left: &[Element<R, K>], right: &[Element<R, K>]) -> R
+fn dot_of_words<R: Stored, K: Many<R, R>>(left: &[Element<R, K>], right: &[Element<R, K>]) -> R
     requires { length left.now ≡ length right.now }
     ensures sum { R.number result ≡ dot_of K.product repr_of left.now right.now }
     ensures fits { R.number result < 2 ^ K.width }
 {
-    let (mut low, mut high) = K::no_products();
-    let pair_count = left.len() / 2;
-    'pairs: for pair in 0..pair_count {
-        let at = 2 * pair;
-        let (x, next_x) = (left[at].repr, left[at + 1].repr);
-        let (y, next_y) = (right[at].repr, right[at + 1].repr);
-        (low, high) = K::add_two_products(low, high, x, next_x, y, next_y);
-    }
-    'rest: for at in 2 * pair_count..left.len() {
-        (low, high) = K::add_product(low, high, left[at].repr, right[at].repr);
-    }
-    K::reduce_sum(low, high)
+    K::dot_product::<u64x2, Element<R, K>>(left, right)
 }
 
-// The sum of the products of all blocks.
-#[inline(never)]
-fn dot_of_blocks<R: Stored, K: Many<R, R>>(left: &[Element<R, K>], right: &[Element<R, K>]) -> R
-    requires { length left.now ≡ length right.now }
-    ensures sum { R.number result ≡ dot_of K.product repr_of left.now right.now }
-    ensures fits { R.number result < 2 ^ K.width }
-{
-    let mut sum = R::ZERO;
-    let mut start = 0;
-    while start < left.len() {
-        let size = BLOCK.min(left.len() - start);
-        let end = start + size;
-        sum = sum.xor(dot_of_block(&left[start..end], &right[start..end]));
-        start = end;
+// The word of an element is read from its place.
+impl<R: Stored, K: FieldKernel<R>> Reads<R> for Element<R, K> {
+    ghost number = { repr_of };
+
+    #[inline(always)]
+    fn stored(self) -> R {
+        self.repr
     }
-    sum
-}
 
-// The sum of the products of the elements of a block.
-#[inline]
-fn dot_of_block<R: Stored, K: Many<R, R>>(left: &[Element<R, K>], right: &[Element<R, K>]) -> R
-    requires same { length left.now ≡ length right.now }
-    requires few { length left.now ≤ 128 }
-    ensures sum { R.number result ≡ dot_of K.product repr_of left.now right.now }
-    ensures fits { R.number result < 2 ^ K.width }
-{
-    let mut words = [R::ZERO; BLOCK];
-    let mut others = [R::ZERO; BLOCK];
-    let count = left.len();
-    dot_by_words(left, right, &mut words[..count], &mut others[..count])
-}
-
-// The sum of the products of the elements: there is room for the words of both slices.
-#[inline(always)]
-fn dot_by_words<R: Stored, K: Many<R, R>>(
-    left: &[Element<R, K>],
-    right: &[Element<R, K>],
-    words: &mut [R],
-    others: &mut [R],
-) -> R
-    requires same { length left.now ≡ length right.now }
-    requires words { length words.old ≡ length left.now }
-    requires others { length others.old ≡ length left.now }
-    ensures sum { R.number result ≡ dot_of K.product repr_of left.now right.now }
-    ensures fits { R.number result < 2 ^ K.width }
-{
-    write_words(words, left);
-    write_words(others, right);
-    K::dot_product::<u64x2>(words, others)
+    #[inline(always)]
+    fn numbers_fit(places: &[Element<R, K>]) {}
 }

@@ -1,47 +1,36 @@
 // The fields that are no levels of 8 to 128 bits: those of 1 to 4 bits and the cubic extension one word after another, bytes of AES in
 // vectors of bytes, polynomials of 64 and 128 bits in slices of bits and in lanes, those of 64 bits by one scalar in planes of bytes.
-ghost use prog.Memory.{size};
-ghost use denote.Param.{layout};
-ghost use Rattle.std.proofs.Common.{lit<};
-ghost use Rattle.field_base.specs.Room.{few_fit};
 
-use super::Many;
+use super::{Many, Sizes};
 use crate::bytes::LEAST_IN_VECTORS;
 use crate::in_slices::{LEAST_IN_SLICES, invert_images, multiply_polynomials};
 use crate::mapped_words::polynomial_images;
 use crate::scaled_bytes::LEAST_MAPPED;
-use crate::{SlicedWide, bytes, mapped_words, products, scalars, scaled_bytes};
+use crate::{bytes, mapped_words, products, scalars, scaled_bytes};
 use bit_slices::Vector;
+use field_base::{Holds, Reads};
 use ghash_slices::Width;
 use word_polynomial::{
-    CubicKernel, GhashKernel, Poly64Kernel, Poly64Modulus, RijndaelKernel, Triple,
+    CubicKernel, GhashKernel, GhashModulus, Poly64Kernel, Poly64Modulus, RijndaelKernel, Triple,
 };
-use word_tower::{Bits1, Bits2, Bits4, Bits64, Tower};
+use word_tower::{Bits1, Bits2, Bits4, Bits64, Bits128, Tower};
 
-impl Many<u8, u8> for Tower<Bits1> {
-    ghost room_law = { few_fit 1024 1 (lit< tt) };
-}
+impl Many<u8, u8> for Tower<Bits1> {}
 
-impl Many<u8, u8> for Tower<Bits2> {
-    ghost room_law = { few_fit 1024 1 (lit< tt) };
-}
+impl Many<u8, u8> for Tower<Bits2> {}
 
-impl Many<u8, u8> for Tower<Bits4> {
-    ghost room_law = { few_fit 1024 1 (lit< tt) };
-}
+impl Many<u8, u8> for Tower<Bits4> {}
 
 impl Many<u8, u8> for RijndaelKernel {
-    const LEAST_SCALED: usize = LEAST_MAPPED;
-
+    // Products go in vectors of 256 bits, whatever `V` is, and have no blocks.
     #[inline(always)]
-    fn least_multiplied<V: Vector>() -> usize {
-        LEAST_IN_VECTORS
-    }
-
-    // They go in vectors of 256 bits, whatever `V` is.
-    #[inline(always)]
-    fn block<V: Vector>() -> usize {
-        1
+    fn sizes<V: Vector>() -> Sizes {
+        Sizes {
+            multiplied: LEAST_IN_VECTORS,
+            block: 1,
+            scaled: LEAST_MAPPED,
+            inverted: usize::MAX,
+        }
     }
 
     fn multiply_all<V: Width + Vector>(products: &mut [u8], words: &[u8]) {
@@ -55,24 +44,23 @@ impl Many<u8, u8> for RijndaelKernel {
     fn add_multiples<V: Width>(sums: &mut [u8], words: &[u8], scalar: u8) {
         scaled_bytes::add_all::<RijndaelKernel>(sums, words, scalar);
     }
-
-    ghost room_law = { few_fit 1024 1 (lit< tt) };
 }
 
 impl Many<u64, u64> for Poly64Kernel {
-    const LEAST_SCALED: usize = mapped_words::LEAST_MAPPED;
-
-    const LEAST_INVERTED: usize = LEAST_IN_SLICES;
-
     const LEAST_IN_BATCH: usize = LEAST_IN_SLICES;
 
     // In vectors of 128 bits a product of words is faster than one in slices.
     #[inline(always)]
-    fn least_multiplied<V: Vector>() -> usize {
-        if V::lanes() < 256 {
-            usize::MAX
-        } else {
-            LEAST_IN_SLICES
+    fn sizes<V: Vector>() -> Sizes {
+        Sizes {
+            multiplied: if V::lanes() < 256 {
+                usize::MAX
+            } else {
+                LEAST_IN_SLICES
+            },
+            block: V::lanes(),
+            scaled: mapped_words::LEAST_MAPPED,
+            inverted: LEAST_IN_SLICES,
         }
     }
 
@@ -93,26 +81,20 @@ impl Many<u64, u64> for Poly64Kernel {
     fn invert_all<V: Vector>(words: &mut [u64]) {
         invert_images::<u64, u64, Bits64, Poly64Modulus, V>(words);
     }
-
-    ghost room_law = { few_fit 1024 8 (lit< tt) };
 }
 
-impl<W: SlicedWide> Many<u128, W> for GhashKernel {
-    const LEAST_SCALED: usize = 0;
-
-    const LEAST_INVERTED: usize = LEAST_IN_SLICES;
-
+impl<W: Holds<u128>> Many<u128, W> for GhashKernel {
     const LEAST_IN_BATCH: usize = 40;
-
-    #[inline(always)]
-    fn least_multiplied<V: Vector>() -> usize {
-        0
-    }
 
     // Products go by lanes, which have no blocks.
     #[inline(always)]
-    fn block<V: Vector>() -> usize {
-        1
+    fn sizes<V: Vector>() -> Sizes {
+        Sizes {
+            multiplied: 0,
+            block: 1,
+            scaled: 0,
+            inverted: LEAST_IN_SLICES,
+        }
     }
 
     #[inline]
@@ -136,17 +118,13 @@ impl<W: SlicedWide> Many<u128, W> for GhashKernel {
     }
 
     fn invert_all<V: Vector>(words: &mut [W]) {
-        W::invert_images_in_slices::<V>(words);
+        invert_images::<u128, W, Bits128, GhashModulus, V>(words);
     }
 
     #[inline]
-    fn dot_product<V: Width + Vector>(left: &[W], right: &[W]) -> W {
-        products::dot_product::<V, W>(left, right)
+    fn dot_product<V: Width + Vector, P: Reads<u128>>(left: &[P], right: &[P]) -> u128 {
+        products::dot_product::<V, P>(left, right)
     }
-
-    ghost room_law = { W.room_law };
 }
 
-impl Many<Triple, Triple> for CubicKernel {
-    ghost room_law = { few_fit 1024 24 (lit< tt) };
-}
+impl<W: Holds<Triple>> Many<Triple, W> for CubicKernel {}

@@ -4,6 +4,6 @@ use Rattle.c_calls.proofs.batch.write_inverses.Goals as goal
 
 pub returns : goal.returns
 returns g c =
-    let field = field_of g.W.Holds.number g.K.FieldKernel.width g.K.FieldKernel.product g.K.FieldKernel.generator in
+    let field = field_of g.W.Reads.number g.K.FieldKernel.width g.K.FieldKernel.product g.K.FieldKernel.generator in
     held_inverses field g.K.FieldKernel.field_law.ring c.args.words.now c.inverses_into.new.inverses c.truncate_all.new.words
     c.truncate_all.ensures.long c.requires.elements c.inverses_into.ensures c.truncate_all.ensures.low

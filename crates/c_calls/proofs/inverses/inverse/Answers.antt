@@ -11,7 +11,7 @@ use Rattle.c_calls.proofs.inverses.inverse.Goals as goal
 
 pub returns-then-not-invert_beside : goal.returns-then-not-invert_beside
 returns-then-not-invert_beside g c =
-    let field = field_of g.W.Holds.number g.K.FieldKernel.width g.K.FieldKernel.product g.K.FieldKernel.generator in
+    let field = field_of g.W.Reads.number g.K.FieldKernel.width g.K.FieldKernel.product g.K.FieldKernel.generator in
     let n = c.args.size in
     let matrix = c.args.matrix.now in
     let beside = entry_of (low_number field.number field.width) (n + n) c.put_columns.new.target in
@@ -30,7 +30,7 @@ returns-then-not-invert_beside g c =
 
 pub returns : goal.returns
 returns g c =
-    let field = field_of g.W.Holds.number g.K.FieldKernel.width g.K.FieldKernel.product g.K.FieldKernel.generator in
+    let field = field_of g.W.Reads.number g.K.FieldKernel.width g.K.FieldKernel.product g.K.FieldKernel.generator in
     let n = c.args.size in
     let matrix = c.args.matrix.now in
     let low = low_number field.number field.width in

@@ -5,6 +5,6 @@ use Rattle.c_calls.proofs.polynomials.evaluate.Given as goal
 
 abbrev pub invariant-loop-place : goal.invariant-loop-place
 invariant-loop-place g l =
-    let field = field_of g.W.Holds.number g.K.FieldKernel.width g.K.FieldKernel.product g.K.FieldKernel.generator in
+    let field = field_of g.W.Reads.number g.K.FieldKernel.width g.K.FieldKernel.product g.K.FieldKernel.generator in
     (k : ℕ) → k < l.place → (d : _)
     → field.number (get_or l.values k d) ≡ value_of 1 field.times field.number l.coefficients (field.number (get_or l.points k d))

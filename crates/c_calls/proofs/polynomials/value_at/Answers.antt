@@ -9,7 +9,7 @@ use Rattle.c_calls.proofs.polynomials.value_at.Goals as goal
 
 pub returns : goal.returns
 returns g c =
-    let field = field_of g.W.Holds.number g.K.FieldKernel.width g.K.FieldKernel.product g.K.FieldKernel.generator in
+    let field = field_of g.W.Reads.number g.K.FieldKernel.width g.K.FieldKernel.product g.K.FieldKernel.generator in
     let low = low_number field.number field.width in
     let coefficients = c.args.coefficients.now in
     c.truncated.ensures ∙ c.value_at.ensures

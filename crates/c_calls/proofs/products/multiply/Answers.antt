@@ -6,7 +6,7 @@ use Rattle.c_calls.proofs.products.multiply.Goals as goal
 
 pub returns : goal.returns
 returns g c =
-    let field = field_of g.W.Holds.number g.K.FieldKernel.width g.K.FieldKernel.product g.K.FieldKernel.generator in
+    let field = field_of g.W.Reads.number g.K.FieldKernel.width g.K.FieldKernel.product g.K.FieldKernel.generator in
     let target = c.multiply_into.new.target in
     let product = c.truncate_all.new.words in
     let left_fits = c.are_elements.ensures.0 c.if-not-are_elements.false in

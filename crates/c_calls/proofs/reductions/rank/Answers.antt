@@ -6,7 +6,7 @@ use Rattle.c_calls.proofs.reductions.rank.Goals as goal
 
 pub returns : goal.returns
 returns g c =
-    let field = field_of g.W.Holds.number g.K.FieldKernel.width g.K.FieldKernel.product g.K.FieldKernel.generator in
+    let field = field_of g.W.Reads.number g.K.FieldKernel.width g.K.FieldKernel.product g.K.FieldKernel.generator in
     let shape = c.has_shape.ensures.0 c.if-not-has_shape.false in
     let fits = c.are_elements.ensures.0 c.if-not-are_elements.false in
     call_done (shape, c.if-space-matrix.false ∙ shape, c.if-places-rows.false) fits

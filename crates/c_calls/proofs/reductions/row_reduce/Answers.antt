@@ -6,7 +6,7 @@ use Rattle.c_calls.proofs.reductions.row_reduce.Goals as goal
 
 pub returns : goal.returns
 returns g c =
-    let field = field_of g.W.Holds.number g.K.FieldKernel.width g.K.FieldKernel.product g.K.FieldKernel.generator in
+    let field = field_of g.W.Reads.number g.K.FieldKernel.width g.K.FieldKernel.product g.K.FieldKernel.generator in
     let target = c.row_reduce.new.matrix in
     let new = c.truncate_all.new.words in
     let long = c.truncate_all.ensures.long in

@@ -7,7 +7,7 @@ use Rattle.c_calls.proofs.slices.power_of.Goals.{then-rest-eq1, else-rest-eq1}
 
 pub loop-rest-init : goal.loop-rest-init
 loop-rest-init g c =
-    let field = field_of g.W.Holds.number g.K.FieldKernel.width g.K.FieldKernel.product g.K.FieldKernel.generator in
+    let field = field_of g.W.Reads.number g.K.FieldKernel.width g.K.FieldKernel.product g.K.FieldKernel.generator in
     let one_fits : 1 < 2 ^ field.width = pow_below 0 field.width g.K.FieldKernel.wide_law in (
       power_start field.width 1 field.times g.K.FieldKernel.field_law.ring one_fits
           (field.number c.one-value.result) (field.number c.args.word) c.args.exponent c.one-value.ensures,
@@ -16,7 +16,7 @@ loop-rest-init g c =
 
 pub loop-rest-preserved : goal.loop-rest-preserved
 loop-rest-preserved g c =
-    let field = field_of g.W.Holds.number g.K.FieldKernel.width g.K.FieldKernel.product g.K.FieldKernel.generator in
+    let field = field_of g.W.Reads.number g.K.FieldKernel.width g.K.FieldKernel.product g.K.FieldKernel.generator in
     let ring = g.K.FieldKernel.field_law.ring in
     let one_fits : 1 < 2 ^ field.width = pow_below 0 field.width g.K.FieldKernel.wide_law in
     let fits : (n : ℕ) → n ≡ field.times (field.number c.loop-rest.value) (field.number c.loop-rest.base) → n < 2 ^ field.width =
@@ -38,7 +38,7 @@ loop-rest-preserved g c =
 
 pub returns : goal.returns
 returns g c =
-    let field = field_of g.W.Holds.number g.K.FieldKernel.width g.K.FieldKernel.product g.K.FieldKernel.generator in
+    let field = field_of g.W.Reads.number g.K.FieldKernel.width g.K.FieldKernel.product g.K.FieldKernel.generator in
     let one_fits : 1 < 2 ^ field.width = pow_below 0 field.width g.K.FieldKernel.wide_law in
     sym (power_end field.width 1 field.times g.K.FieldKernel.field_law.ring one_fits (field.number c.loop-rest.value)
     (field.number c.loop-rest.base) c.loop-rest.rest c.loop-rest.invariant.1 c.loop-rest-test.false)

@@ -6,7 +6,7 @@ use Rattle.c_calls.proofs.slices.power_of.Given as goal
 -- what is left to multiply, times what is there, is the whole power; and what is there is an element
 abbrev pub invariant-loop-rest : goal.invariant-loop-rest
 invariant-loop-rest g l =
-    let field = field_of g.W.Holds.number g.K.FieldKernel.width g.K.FieldKernel.product g.K.FieldKernel.generator in
+    let field = field_of g.W.Reads.number g.K.FieldKernel.width g.K.FieldKernel.product g.K.FieldKernel.generator in
     (field.times (field.number l.value) (power 1 field.times (field.number l.base) l.rest)
     ≡ power 1 field.times (field.number l.fn.word) l.fn.exponent)
     × (field.number l.value < 2 ^ field.width)

@@ -5,5 +5,5 @@ use Rattle.c_calls.proofs.slices.product.Given as goal
 
 abbrev pub invariant-loop-word : goal.invariant-loop-word
 invariant-loop-word g l =
-    let field = field_of g.W.Holds.number g.K.FieldKernel.width g.K.FieldKernel.product g.K.FieldKernel.generator in
+    let field = field_of g.W.Reads.number g.K.FieldKernel.width g.K.FieldKernel.product g.K.FieldKernel.generator in
     field.number l.value ≡ product_of 1 field.times field.number (take l.word-index l.words)

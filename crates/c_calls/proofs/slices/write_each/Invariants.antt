@@ -4,11 +4,11 @@ use Rattle.c_calls.proofs.slices.write_each.Given as goal
 -- the places of the pairs before hold their results
 abbrev pub invariant-pairs : goal.invariant-pairs
 invariant-pairs g l =
-    let number = g.W.Holds.number in
+    let number = g.W.Reads.number in
     (k : ℕ) → k < 2 * l.pair → (d : _) → g.O.OnOne.gives l.operation (number (get_or l.words k d)) (number (get_or l.results k d))
 
 -- and so do the places before
 abbrev pub invariant-rest : goal.invariant-rest
 invariant-rest g l =
-    let number = g.W.Holds.number in
+    let number = g.W.Reads.number in
     (k : ℕ) → k < l.place → (d : _) → g.O.OnOne.gives l.operation (number (get_or l.words k d)) (number (get_or l.results k d))

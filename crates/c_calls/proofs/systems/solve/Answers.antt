@@ -10,7 +10,7 @@ use Rattle.c_calls.proofs.systems.solve.Goals as goal
 
 pub returns-then-not-solve_augmented : goal.returns-then-not-solve_augmented
 returns-then-not-solve_augmented g c =
-    let field = field_of g.W.Holds.number g.K.FieldKernel.width g.K.FieldKernel.product g.K.FieldKernel.generator in
+    let field = field_of g.W.Reads.number g.K.FieldKernel.width g.K.FieldKernel.product g.K.FieldKernel.generator in
     let matrix_fits = c.are_elements.ensures.0 c.if-not-are_elements.false in
     let right_fits = c.are_elements-else-not-are_elements.ensures.0 c.if-not-are_elements-2.false in
     let lengths = c.have_lengths.ensures.0 c.if-not-have_lengths.false in
@@ -25,7 +25,7 @@ returns-then-not-solve_augmented g c =
 
 pub returns : goal.returns
 returns g c =
-    let field = field_of g.W.Holds.number g.K.FieldKernel.width g.K.FieldKernel.product g.K.FieldKernel.generator in
+    let field = field_of g.W.Reads.number g.K.FieldKernel.width g.K.FieldKernel.product g.K.FieldKernel.generator in
     let matrix_fits = c.are_elements.ensures.0 c.if-not-are_elements.false in
     let right_fits = c.are_elements-else-not-are_elements.ensures.0 c.if-not-are_elements-2.false in
     let lengths = c.have_lengths.ensures.0 c.if-not-have_lengths.false in

@@ -7,8 +7,8 @@ use Rattle.many_words.proofs.dots.dot_of_blocks.Given as goal
 abbrev pub invariant-parts : goal.invariant-parts
 invariant-parts g l =
     (length l.rest_left ≡ length l.rest_right)
-    × (bit_xor (g.W.Holds.number l.sum) (dot_of g.K.FieldKernel.product g.W.Holds.number l.rest_left l.rest_right)
-    ≡ dot_of g.K.FieldKernel.product g.W.Holds.number l.left l.right)
+    × (bit_xor (g.R.Stored.number l.sum) (dot_of g.K.FieldKernel.product g.P.Reads.number l.rest_left l.rest_right)
+    ≡ dot_of g.K.FieldKernel.product g.P.Reads.number l.left l.right)
 
 abbrev pub decreases-parts : goal.decreases-parts
 decreases-parts g l = length l.rest_left

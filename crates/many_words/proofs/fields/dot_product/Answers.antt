@@ -6,7 +6,7 @@ use Rattle.many_words.proofs.fields.dot_product.Goals as goal
 pub pairs-preserved : goal.pairs-preserved
 pairs-preserved g c =
     let kernel = g.K.FieldKernel in
-    dot_two_steps kernel.product g.W.Holds.number c.args.left.now c.args.right.now (2 * c.pairs.pair) (2 * (c.pairs.pair + 1))
+    dot_two_steps kernel.product g.P.Reads.number c.args.left.now c.args.right.now (2 * c.pairs.pair) (2 * (c.pairs.pair + 1))
     c.index-left-at.result c.index-left-at-in-pairs.result c.index-right-at.result c.index-right-at-in-pairs.result _ _ _
     (omega arith) (omega arith) (omega arith) c.index-left-at.is c.index-left-at-in-pairs.is c.index-right-at.is
     c.index-right-at-in-pairs.is c.pairs.invariant
@@ -18,7 +18,7 @@ pairs-preserved g c =
 pub rest-preserved : goal.rest-preserved
 rest-preserved g c =
     let kernel = g.K.FieldKernel in
-    let number = g.W.Holds.number in
+    let number = g.P.Reads.number in
     let x = c.index-left-at-in-rest.result in
     let y = c.index-right-at-in-rest.result in
     let within : c.rest.at < length c.args.left.now = omega arith in

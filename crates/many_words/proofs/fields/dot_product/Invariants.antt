@@ -7,12 +7,12 @@ use Rattle.many_words.proofs.fields.dot_product.Given as goal
 abbrev pub invariant-pairs : goal.invariant-pairs
 invariant-pairs g l =
     bit_xor (g.K.FieldKernel.reduced l.low l.high)
-    (dot_of g.K.FieldKernel.product g.W.Holds.number (drop (2 * l.pair) l.left) (drop (2 * l.pair) l.right))
-    ≡ dot_of g.K.FieldKernel.product g.W.Holds.number l.left l.right
+    (dot_of g.K.FieldKernel.product g.P.Reads.number (drop (2 * l.pair) l.left) (drop (2 * l.pair) l.right))
+    ≡ dot_of g.K.FieldKernel.product g.P.Reads.number l.left l.right
 
 -- and that of the places from this one on
 abbrev pub invariant-rest : goal.invariant-rest
 invariant-rest g l =
     bit_xor (g.K.FieldKernel.reduced l.low l.high)
-    (dot_of g.K.FieldKernel.product g.W.Holds.number (drop l.at l.left) (drop l.at l.right))
-    ≡ dot_of g.K.FieldKernel.product g.W.Holds.number l.left l.right
+    (dot_of g.K.FieldKernel.product g.P.Reads.number (drop l.at l.left) (drop l.at l.right))
+    ≡ dot_of g.K.FieldKernel.product g.P.Reads.number l.left l.right

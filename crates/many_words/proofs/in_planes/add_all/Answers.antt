@@ -1,22 +1,17 @@
-use Rattle.std.proofs.Common.{ℕ, ◌^◌, ◌<◌, ◌∙◌, ap, arith, get_or, subst}
-use Rattle.std.specs.Prelude.{bit_xor}
-use Rattle.std.proofs.lemmas.Nat.{pow_pos}
+use Rattle.std.proofs.Common.{ℕ, ◌^◌, ◌<◌, ◌∙◌, ap, arith, map, subst}
+use Rattle.std.specs.Prelude.{bit_xor, slice_index}
 use Rattle.additive_transforms.specs.Rows.{level_of}
-use Rattle.many_words.proofs.FirstPlaces.{all_fit, all_hold, first_added, more_added, summed}
+use Rattle.many_words.proofs.FirstPlaces.{all_hold, first_added, more_added, summed}
 use Rattle.many_words.proofs.in_planes.add_all.Goals as goal
 
 pub add_multiples-done-requires-clause-fit : goal.add_multiples-done-requires-clause-fit
-add_multiples-done-requires-clause-fit g c =
-    let number = g.W.Holds.number in
-    let bits = 2 ^ level_of g.K.Vectors.Planes.depth in
-    all_fit number c.args.sums.now (2 ^ bits) (pow_pos bits)
-    (λ k inside d.
-    subst (λ (b : ℕ). number (get_or c.args.sums.now k d) < 2 ^ b)
-    g.met.K.FieldInPlanes.level_law.width_is (c.requires.elements k inside d))
+add_multiples-done-requires-clause-fit g c k =
+    subst (λ (b : ℕ). slice_index (map g.W.Reads.number c.args.sums.now) k < 2 ^ b)
+    (g.met.W.WordBytes.bits_law ∙ ap (λ (size : ℕ). 2 ^ level_of size) g.met.K.FieldInPlanes.level_law.size_is) (c.numbers_fit.ensures k)
 
 pub loop-place-init : goal.loop-place-init
 loop-place-init g c =
-    let number = g.W.Holds.number in
+    let number = g.W.Reads.number in
     first_added number g.K.FieldKernel.product (number c.args.scalar) (level_of g.K.Vectors.Planes.depth)
     g.met.K.FieldInPlanes.level_law.product_is c.add_multiples-done.result c.args.words.now c.args.sums.now
     c.add_multiples-done.new.sums c.requires.same c.add_multiples-done.ensures.long
@@ -24,7 +19,7 @@ loop-place-init g c =
 
 pub loop-place-preserved : goal.loop-place-preserved
 loop-place-preserved g c =
-    let number = g.W.Holds.number in
+    let number = g.W.Reads.number in
     more_added number g.K.FieldKernel.product (number c.args.scalar) c.loop-place.place c.args.sums.now c.loop-place.sums
     c.index-sums-place.result c.add.result (omega arith) c.index-sums-place.is c.args.words.now c.index-words-place.result (omega arith)
     c.index-words-place.is c.loop-place.invariant
@@ -32,6 +27,6 @@ loop-place-preserved g c =
 
 pub returns : goal.returns
 returns g c =
-    let number = g.W.Holds.number in
+    let number = g.W.Reads.number in
     all_hold number (summed number g.K.FieldKernel.product (number c.args.scalar) c.args.sums.now c.args.words.now)
     c.loop-place.place c.args.sums.now c.loop-place.sums c.loop-place.invariant (omega (arith, c.loop-place-test.false))

@@ -6,7 +6,7 @@ use Rattle.many_words.proofs.in_planes.add_all.Given as goal
 -- the products before this one are added
 abbrev pub invariant-loop-place : goal.invariant-loop-place
 invariant-loop-place g l =
-    let number = g.W.Holds.number in
+    let number = g.W.Reads.number in
     FirstHold number l.place
     (λ k d. bit_xor (number (get_or l.fn.sums k d)) (g.K.FieldKernel.product (number l.scalar) (number (get_or l.words k d))))
     l.fn.sums l.sums

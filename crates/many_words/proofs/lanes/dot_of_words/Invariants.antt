@@ -9,5 +9,5 @@ use Rattle.many_words.proofs.lanes.dot_of_words.Given as goal
 abbrev pub invariant-fours : goal.invariant-fours
 invariant-fours g l =
     bit_xor (rem 128 ghash_modulus (l.high * 2 ^ 128 + l.low))
-    (dot_of ghash_product (λ x. x) (drop (4 * l.four) (map g.W.Holds.number l.left)) (drop (4 * l.four) (map g.W.Holds.number l.right)))
-    ≡ dot_of ghash_product (λ x. x) (map g.W.Holds.number l.left) (map g.W.Holds.number l.right)
+    (dot_of ghash_product (λ x. x) (drop (4 * l.four) (map g.W.Reads.number l.left)) (drop (4 * l.four) (map g.W.Reads.number l.right)))
+    ≡ dot_of ghash_product (λ x. x) (map g.W.Reads.number l.left) (map g.W.Reads.number l.right)

@@ -8,25 +8,25 @@ use Rattle.many_words.proofs.lanes.multiply_by_pairs.Goals as goal
 
 pub pairs-init : goal.pairs-init
 pairs-init g c =
-    let old = map g.W.Holds.number c.args.words.now in
-    let others = map g.W.Holds.number c.args.others.now in
+    let old = map g.W.Reads.number c.args.words.now in
+    let others = map g.W.Reads.number c.args.others.now in
     let at : c.args.start ≡ c.args.start + 2 * 0 = omega arith in
     subst (λ (n : ℕ). HoldsPlaces (product_at old others) c.args.start n old old) at (none_held (product_at old others) c.args.start old)
 
 pub pairs-preserved : goal.pairs-preserved
 pairs-preserved g c =
-    let old = map g.W.Holds.number c.args.words.now in
-    let others = map g.W.Holds.number c.args.others.now in
+    let old = map g.W.Reads.number c.args.words.now in
+    let others = map g.W.Reads.number c.args.others.now in
     let start = c.args.start in
     let at : ℕ = start + 2 * c.pairs.pair in
-    let long = length-map c.pairs.words g.W.Holds.number in
+    let long = length-map c.pairs.words g.W.Reads.number in
     let next : at + 2 ≡ start + 2 * (c.pairs.pair + 1) = omega arith in
     let products = c.multiply_mod_128_twice-first in
     let here : at ≤ at = omega arith in
     let later : at ≤ at + 1 = omega arith in
-    subst (λ (n : ℕ). HoldsPlaces (product_at old others) start n old (map g.W.Holds.number c.put_number-in-pairs.new.words)) next
-    (pair_written (product_at old others) start at old (map g.W.Holds.number c.pairs.words) (map g.W.Holds.number c.put_number.new.words)
-    (map g.W.Holds.number c.put_number-in-pairs.new.words) products.result.0 products.result.1 (omega arith) (omega (arith, long)) c.put_number.ensures
+    subst (λ (n : ℕ). HoldsPlaces (product_at old others) start n old (map g.W.Reads.number c.put_number-in-pairs.new.words)) next
+    (pair_written (product_at old others) start at old (map g.W.Reads.number c.pairs.words) (map g.W.Reads.number c.put_number.new.words)
+    (map g.W.Reads.number c.put_number-in-pairs.new.words) products.result.0 products.result.1 (omega arith) (omega (arith, long)) c.put_number.ensures
     (products.ensures.first ∙ ap₂ ghash_product (c.two_at-word.ensures.first ∙ c.pairs.invariant.behind at here) c.two_at-other.ensures.first)
     c.put_number-in-pairs.ensures
     (products.ensures.second
@@ -35,12 +35,12 @@ pairs-preserved g c =
 
 pub rest-preserved : goal.rest-preserved
 rest-preserved g c =
-    let old = map g.W.Holds.number c.args.words.now in
-    let others = map g.W.Holds.number c.args.others.now in
+    let old = map g.W.Reads.number c.args.words.now in
+    let others = map g.W.Reads.number c.args.others.now in
     let at = c.rest.at in
-    let long = length-map c.rest.words g.W.Holds.number in
+    let long = length-map c.rest.words g.W.Reads.number in
     let here : at ≤ at = omega arith in
-    place_written (product_at old others) c.args.start at old (map g.W.Holds.number c.rest.words) (map g.W.Holds.number c.put_number-in-rest.new.words)
+    place_written (product_at old others) c.args.start at old (map g.W.Reads.number c.rest.words) (map g.W.Reads.number c.put_number-in-rest.new.words)
     c.multiply_mod_128-product.result (omega arith) (omega (arith, long)) c.put_number-in-rest.ensures
     (c.multiply_mod_128-product.ensures
     ∙ ap₂ ghash_product (c.number_at.ensures ∙ c.rest.invariant.behind at here) c.number_at-in-rest.ensures)
@@ -48,7 +48,7 @@ rest-preserved g c =
 
 pub returns : goal.returns
 returns g c =
-    let old = map g.W.Holds.number c.args.words.now in
-    let long = length-map c.args.words.now g.W.Holds.number in
-    held_until (product_at old (map g.W.Holds.number c.args.others.now)) c.args.start c.rest.at (length c.args.words.now) old
-    (map g.W.Holds.number c.rest.words) (omega (arith, long)) (omega (arith, long)) c.rest.invariant
+    let old = map g.W.Reads.number c.args.words.now in
+    let long = length-map c.args.words.now g.W.Reads.number in
+    held_until (product_at old (map g.W.Reads.number c.args.others.now)) c.args.start c.rest.at (length c.args.words.now) old
+    (map g.W.Reads.number c.rest.words) (omega (arith, long)) (omega (arith, long)) c.rest.invariant

@@ -6,18 +6,18 @@ use Rattle.many_words.proofs.many.invert.Goals as goal
 pub invert_all-requires : goal.invert_all-requires
 invert_all-requires g c =
     let parts = c.split_at_mut-blocks in
-    first_part (λ (x : _). g.W.Holds.number x < 2 ^ g.K.FieldKernel.width) c.args.words.now parts.result.0.now parts.result.1.now
+    first_part (λ (x : _). g.W.Reads.number x < 2 ^ g.K.FieldKernel.width) c.args.words.now parts.result.0.now parts.result.1.now
     parts.ensures.value c.requires
 
 pub invert_all-requires-2 : goal.invert_all-requires-2
 invert_all-requires-2 g c =
     let parts = c.split_at_mut-blocks in
-    last_part (λ (x : _). g.W.Holds.number x < 2 ^ g.K.FieldKernel.width) c.args.words.now parts.result.0.now parts.result.1.now
+    last_part (λ (x : _). g.W.Reads.number x < 2 ^ g.K.FieldKernel.width) c.args.words.now parts.result.0.now parts.result.1.now
     parts.ensures.value c.requires
 
 pub returns-clause-inverses : goal.returns-clause-inverses
 returns-clause-inverses g c =
-    let number = g.W.Holds.number in
+    let number = g.W.Reads.number in
     let parts = c.split_at_mut-blocks in
     let front = parts.result.0.now in
     let back = parts.result.1.now in

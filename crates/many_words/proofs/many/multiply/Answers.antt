@@ -4,7 +4,7 @@ use Rattle.many_words.proofs.many.multiply.Goals as goal
 
 pub returns-clause-products : goal.returns-clause-products
 returns-clause-products g c =
-    let number = g.W.Holds.number in
+    let number = g.W.Reads.number in
     let words = c.split_at in
     let products = c.split_at_mut-blocks in
     both_parts_of (λ x y z. number z ≡ g.K.FieldKernel.product (number x) (number y)) _ products.result.0.now products.result.1.now

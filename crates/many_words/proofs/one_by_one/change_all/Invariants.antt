@@ -4,5 +4,5 @@ use Rattle.many_words.proofs.one_by_one.change_all.Given as goal
 
 abbrev pub invariant-loop-place : goal.invariant-loop-place
 invariant-loop-place g l =
-    let number = g.W.Holds.number in
+    let number = g.W.Reads.number in
     ArePut l.fn.words l.words l.place (λ k d. g.O.OnOne.gives l.operation (number (get_or l.fn.words k d)) (number (get_or l.words k d)))

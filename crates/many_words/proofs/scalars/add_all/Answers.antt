@@ -7,7 +7,7 @@ use Rattle.many_words.proofs.scalars.add_all.Goals as goal
 
 pub returns : goal.returns
 returns g c =
-    let number = g.W.Holds.number in
+    let number = g.W.Reads.number in
     let words = c.args.words.now in
     let sums = c.args.sums.now in
     changed_at number (add_multiple ghash_product (number c.args.scalar)) sums words c.add_multiples.new.values (sym c.requires)

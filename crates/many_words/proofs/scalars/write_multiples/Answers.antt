@@ -7,7 +7,7 @@ use Rattle.many_words.proofs.scalars.write_multiples.Goals as goal
 
 pub returns : goal.returns
 returns g c = λ k inside d.
-    let number = g.W.Holds.number in
+    let number = g.W.Reads.number in
     let words = c.args.words.now in
     let zeros = c.clear.new.words in
     let products = c.add_multiples.new.values in

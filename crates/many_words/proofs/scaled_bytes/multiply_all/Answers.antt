@@ -9,5 +9,5 @@ returns-clause-long g c = ap length c.map_bytes.ensures ∙ length-map c.args.by
 
 pub returns-clause-products : goal.returns-clause-products
 returns-clause-products g c =
-    all_mapped g.K.FieldKernel.width (linear_image c.images_of.result) g.K.FieldKernel.product c.args.scalar c.args.bytes.now
-    c.map_bytes.new.bytes g.met.K.FieldKernel.room_law c.map_bytes.ensures c.requires c.images_of.ensures
+    all_mapped (linear_image c.images_of.result) g.K.FieldKernel.product c.args.scalar c.args.bytes.now c.map_bytes.new.bytes
+    c.map_bytes.ensures (λ k. (c.type_inv.bytes k).fits) c.images_of.ensures

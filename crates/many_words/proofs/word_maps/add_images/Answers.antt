@@ -9,8 +9,8 @@ loop-block-preserved g c =
       c.scatter.ensures.length ∙ c.loop-block.invariant.0,
       λ f are.
           block_summed g.S.Planes.depth g.W.WordBytes.size g.S.Planes.lanes c.loop-block.block f c.requires.size g.met.S.Entries.sixteen_law
-          (g.S.Planes.lane c.gather.result) (g.S.Planes.lane c.gather-next.result) _ (map g.W.Holds.number c.args.words.now)
-          (map g.W.Holds.number c.args.sums.now) (map g.W.Holds.number c.loop-block.sums) (map g.W.Holds.number c.scatter.new.words)
+          (g.S.Planes.lane c.gather.result) (g.S.Planes.lane c.gather-next.result) _ (map g.W.Reads.number c.args.words.now)
+          (map g.W.Reads.number c.args.sums.now) (map g.W.Reads.number c.loop-block.sums) (map g.W.Reads.number c.scatter.new.words)
           (c.loop-block.invariant.1 f are) c.gather-next.ensures c.gather.ensures (c.add_images.ensures f 0 are) c.scatter.ensures.words,
       omega (arith, within),
     )

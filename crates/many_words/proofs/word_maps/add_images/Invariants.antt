@@ -8,7 +8,7 @@ use Rattle.many_words.proofs.word_maps.add_images.Given as goal
 -- the images of the blocks before this one are added
 abbrev pub invariant-loop-block : goal.invariant-loop-block
 invariant-loop-block g l =
-    let number = g.W.Holds.number in
+    let number = g.W.Reads.number in
     (length l.sums ≡ length l.fn.sums)
     × ((f : ℕ → ℕ) → AreTables g.S.Planes.lane f 0 l.tables → FirstAre (16 * l.block)
     (λ k. bit_xor (slice_index (map number l.fn.sums) k % 2 ^ 2 ^ level_of g.S.Planes.depth)

@@ -9,8 +9,8 @@ loop-block-preserved g c =
       c.scatter.ensures.length ∙ c.loop-block.invariant.0,
       λ f are.
           block_mapped g.S.Planes.depth g.W.WordBytes.size g.S.Planes.lanes c.loop-block.block f c.requires.size g.met.S.Entries.sixteen_law
-          (g.S.Planes.lane c.gather.result) _ _ (map g.W.Holds.number c.args.words.now)
-          (map g.W.Holds.number c.loop-block.words) (map g.W.Holds.number c.scatter.new.words) (c.loop-block.invariant.1 f are)
+          (g.S.Planes.lane c.gather.result) _ _ (map g.W.Reads.number c.args.words.now)
+          (map g.W.Reads.number c.loop-block.words) (map g.W.Reads.number c.scatter.new.words) (c.loop-block.invariant.1 f are)
           c.gather.ensures c.zeros-images.ensures (c.add_images.ensures f 0 are) c.scatter.ensures.words,
       omega (arith, within),
     )

@@ -7,7 +7,7 @@ use Rattle.c_calls.proofs.scalars.WordsScalars.invert.Goals as goal
 pub invert-requires : goal.invert-requires
 invert-requires g c =
     let width = g.K.FieldKernel.width in
-    subst (λ (n : ℕ). n < 2 ^ width) (sym c.truncated.ensures) (low_number-lt g.W.Holds.number width c.args.x)
+    subst (λ (n : ℕ). n < 2 ^ width) (sym c.truncated.ensures) (low_number-lt g.W.Reads.number width c.args.x)
 
 pub returns : goal.returns
 returns g c =

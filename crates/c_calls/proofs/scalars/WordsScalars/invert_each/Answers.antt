@@ -7,12 +7,12 @@ use Rattle.c_calls.proofs.scalars.WordsScalars.invert_each.Goals as goal
 
 pub invert-requires : goal.invert-requires
 invert-requires g c =
-    let field = field_of g.W.Holds.number g.K.FieldKernel.width g.K.FieldKernel.product g.K.FieldKernel.generator in
+    let field = field_of g.W.Reads.number g.K.FieldKernel.width g.K.FieldKernel.product g.K.FieldKernel.generator in
     now_elements field c.copy_from_slice.new.self c.truncate_all.new.words c.truncate_all.ensures.long c.truncate_all.ensures.low
 
 pub returns : goal.returns
 returns g c =
-    let field = field_of g.W.Holds.number g.K.FieldKernel.width g.K.FieldKernel.product g.K.FieldKernel.generator in
+    let field = field_of g.W.Reads.number g.K.FieldKernel.width g.K.FieldKernel.product g.K.FieldKernel.generator in
     let low = low_number field.number field.width in
     let copied = c.copy_from_slice.new.self in
     let mid = c.truncate_all.new.words in

@@ -4,6 +4,6 @@ use Rattle.c_calls.proofs.scalars.WordsScalars.multiply_each.Goals as goal
 
 pub returns : goal.returns
 returns g c =
-    let field = field_of g.W.Holds.number g.K.FieldKernel.width g.K.FieldKernel.product g.K.FieldKernel.generator in
+    let field = field_of g.W.Reads.number g.K.FieldKernel.width g.K.FieldKernel.product g.K.FieldKernel.generator in
     low_products field g.K.FieldKernel.field_law.ring c.args.values.now c.args.others.now c.multiply.new.products c.requires
     c.multiply.ensures.long c.multiply.ensures.products

@@ -5,4 +5,4 @@ use Rattle.c_calls.proofs.scalars.WordsScalars.one.Goals as goal
 pub returns : goal.returns
 returns g c =
     let kernel = g.K.FieldKernel in
-    low-is g.W.Holds.number kernel.width c.one.result 1 c.one.ensures (pow_below 0 kernel.width kernel.wide_law)
+    low-is g.W.Reads.number kernel.width c.one.result 1 c.one.ensures (pow_below 0 kernel.width kernel.wide_law)

@@ -16,7 +16,7 @@ returns-clause-elements g c =
     let within : k < length words = omega (arith, below, c.add_multiples.auto.sums) in
     subst (λ (n : ℕ). n < 2 ^ kernel.width) (sym (c.add_multiples.ensures k below d))
     (xor_lt kernel.width (number (slice_index_or words k d))
-    (kernel.product (number scalar) (number (slice_index_or c.write_words.new.words k d)))
+    (kernel.product (number scalar) (number (slice_index_or c.read_each.new.words k d)))
     (c.requires.elements k within d) (kernel.field_law.ring.below _ _))
 
 pub returns-clause-results : goal.returns-clause-results
@@ -25,12 +25,12 @@ returns-clause-results g c =
     let words = c.args.words.now in
     let start = c.args.start in
     let count = start + length words - start in
-    let factors = c.write_words.new.words in
+    let factors = c.read_each.new.words in
     λ k below d.
-    let inside : k < length factors = omega (arith, below, c.write_words.auto.words, c.requires.room) in
+    let inside : k < length factors = omega (arith, below, c.read_each.auto.words, c.requires.room) in
     let lent : k < count = omega (arith, below) in
     let done : k < length c.add_multiples.new.sums = omega (arith, below, c.add_multiples.auto.sums) in
     c.add_multiples.ensures k done d
     ∙ ap (λ (y : ℕ). bit_xor (number (slice_index_or words k d)) (g.K.FieldKernel.product (number c.args.self.now.scalar.repr) y))
-    (sym (get_or-map number factors k d 0 inside) ∙ ap (λ (ns : List ℕ). slice_index ns k) c.write_words.ensures
+    (sym (get_or-map number factors k d 0 inside) ∙ ap (λ (ns : List ℕ). slice_index ns k) c.read_each.ensures
     ∙ read_lent repr_of start count c.args.others.now k lent)
