@@ -1,7 +1,11 @@
-//! What computes many words of a field at once: products, multiples by one scalar, inverses and dot products of slices. `Many` names for
-//! each field its best body and from how many words on it pays; `multiply`, `multiply_by`, `add_scaled` and `invert` go by it. The words
-//! are the field's own stored words, or those in which other languages hold them. None takes memory, and none looks whether words are
-//! elements.
+//! The slice layer: what is computed on slices of a field's words, many at once. A slice holds the field's own stored words, those in which
+//! other languages hold them, or, where it is only read, elements. `Many` names for each field its best bodies, products, multiples by one
+//! scalar, inverses and dot products, and from how many words on they pay; `multiply`, `multiply_by`, `add_scaled` and `invert` go by it.
+//! None takes memory, and none looks whether words are elements.
+//!
+//! Below it lie the ways to compute many words: slices of bits (`in_slices`, for levels of 16 bits and more), planes of bytes by one scalar
+//! (`in_planes`, for levels of 8 bits and more; `scaled_bytes` and `mapped_words` for fields that are no levels), vectors of words of 128
+//! bits (`lanes`, `scalars`, `products`), and one word after another (`fields`, `operations`, `one_by_one`).
 #![tactic(auto)]
 
 mod bases;
