@@ -1,6 +1,15 @@
-use Rattle.std.proofs.Common.{sym, ◌∙◌, arith}
+use Rattle.std.proofs.Common.{ℕ, sym, ◌∙◌, ap, arith}
+use Rattle.std.specs.Prelude.{bit_xor}
+use Rattle.field_base.specs.Powers.{dot_of}
 use Rattle.many_words.proofs.WordDots.{dot_of-parts}
 use Rattle.many_words.proofs.dots.dot_of_blocks.Goals as goal
+
+pub parts-init : goal.parts-init
+parts-init g c = (
+  c.requires,
+  ap (λ (s : ℕ). bit_xor s (dot_of g.K.FieldKernel.product g.P.Reads.number c.args.left.now c.args.right.now))
+      (ap g.R.Stored.number c.ZERO-sum.ensures ∙ g.R.Stored.zero_number),
+)
 
 pub parts-preserved : goal.parts-preserved
 parts-preserved g c =
