@@ -1,4 +1,8 @@
 // A code of stripes, by its number. What each call does is stated over the code words, whichever code they are of.
+//
+// There are two kinds of code, and each has one word in each place. Those by matrices: number 1, `matrix` of `--code`, the crate
+// `reed_solomon`, and in C the calls that begin as `bf_rs_encode` does. Those by transforms: number 2, `transform` of `--code`, the crate
+// `transform_codes`, the module `erasure` of `binary_field`, and in C the calls that begin as `bf_erasure_encode` does.
 ghost use Rattle.std.specs.Prelude.{◌≡◌, ℕ, List, ◌+◌, ◌*◌, ◌<◌, ◌≤◌, ◌↔◌, length, slice_index, IsOk, IsSome, IsTrue, IfOk, IfSome, OnErr};
 ghost use Rattle.reed_solomon.specs.RoundTrip.{AgreeWherePresent};
 ghost use Rattle.reed_solomon.specs.Shards.{present_count};

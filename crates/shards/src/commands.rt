@@ -1,9 +1,9 @@
 // Splitting and joining.
-use crate::beside::{NewFiles, NewShards};
+use crate::arguments::Words;
 use crate::faults::{require_enough, too_few};
 use crate::finding::{Found, find_shards, length_of, mode_of};
+use crate::output_files::{NewFiles, NewShards};
 use crate::progress::{Progress, clear};
-use crate::words::Words;
 use anyhow::{Context, Result, bail};
 use sha2::{Digest, Sha256};
 use shard_files::{JoinError, Origin, default_code, limit_of, write_content, write_shards};

@@ -40,7 +40,7 @@ impl Faults {
     /// Adds which shards of an empty file, which has no stripes, are not at hand.
     pub(crate) fn add_heads(&mut self, found: &Found<'_>) -> Result<(), AllocError> {
         for index in 0..self.origin.total() {
-            if !found.survey.has(&found.seen, index) {
+            if !found.scan.has(&found.seen, index) {
                 self.add_one(0, index)?;
             }
         }

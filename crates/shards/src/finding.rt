@@ -1,8 +1,8 @@
 // The files of shards: which are looked at, which file they are of, and why others are not taken.
+use crate::arguments::Words;
 use crate::progress::{Progress, note};
-use crate::words::Words;
 use anyhow::{Result, bail};
-use shard_files::{Choice, Finding, HEAD, MOST_SHARDS, Origin, Seen, ShardSource, Survey};
+use shard_files::{Choice, Finding, HEAD, MOST_SHARDS, Origin, Scan, Seen, ShardSource};
 use std::fs;
 use std::fs::{File, Files};
 use std::io::{Read, Seek, SeekFrom};
@@ -81,7 +81,7 @@ pub(crate) struct Found<'a> {
     /// Which of the files that were seen it is.
     pub(crate) chosen: usize,
     pub(crate) seen: Seen,
-    pub(crate) survey: Survey,
+    pub(crate) scan: Scan,
 }
 
 impl Found<'_> {
@@ -138,11 +138,11 @@ pub(crate) fn find_shards<'a, R: Files + AllocGlobal + Clock + Eprint>(
     file: &'a str,
 ) -> Result<Found<'a>> {
     let paths = paths_of(rt, words, file)?;
-    let survey = survey_of(rt, paths.as_slice())?;
-    let chosen = choose(rt, words, file, &survey)?;
-    let first = tell_others(rt, paths.as_slice(), chosen, &survey)?;
-    require_no_shard(rt, file, survey.seen.as_slice().get(chosen))?;
-    if chosen >= survey.seen.len() {
+    let scan = scan_of(rt, paths.as_slice())?;
+    let chosen = choose(rt, words, file, &scan)?;
+    let first = tell_others(rt, paths.as_slice(), chosen, &scan)?;
+    require_no_shard(rt, file, scan.seen.as_slice().get(chosen))?;
+    if chosen >= scan.seen.len() {
         bail!("{file}: no shards")
     }
     Ok(Found {
@@ -151,34 +151,34 @@ pub(crate) fn find_shards<'a, R: Files + AllocGlobal + Clock + Eprint>(
         paths,
         first,
         chosen,
-        seen: survey.seen[chosen],
-        survey,
+        seen: scan.seen[chosen],
+        scan,
     })
 }
 
 /// What the files at these paths are, by the bytes that they begin with.
-pub(crate) fn survey_of<R: Files + AllocGlobal>(rt: &R, paths: &[String]) -> Result<Survey> {
-    let mut survey = Survey::new(rt.alloc());
+pub(crate) fn scan_of<R: Files + AllocGlobal>(rt: &R, paths: &[String]) -> Result<Scan> {
+    let mut scan = Scan::new(rt.alloc());
     for path in paths {
-        look_at(rt, path.as_str(), &mut survey)?;
+        look_at(rt, path.as_str(), &mut scan)?;
     }
-    Ok(survey)
+    Ok(scan)
 }
 
 // Adds what a file is.
-fn look_at<R: Files + AllocGlobal>(rt: &R, path: &str, survey: &mut Survey) -> Result<()> {
+fn look_at<R: Files + AllocGlobal>(rt: &R, path: &str, scan: &mut Scan) -> Result<()> {
     match begin_of(rt, path) {
-        Some(bytes) => survey.add(Some(bytes.as_slice()))?,
-        None => survey.add(None)?,
+        Some(bytes) => scan.add(Some(bytes.as_slice()))?,
+        None => scan.add(None)?,
     }
     Ok(())
 }
 
 /// What the head of a file says, where it is a shard.
 pub(crate) fn seen_at<R: Files + AllocGlobal>(rt: &R, path: &str) -> Result<Option<Seen>> {
-    let mut survey = Survey::new(rt.alloc());
-    look_at(rt, path, &mut survey)?;
-    Ok(survey.seen.first().copied())
+    let mut scan = Scan::new(rt.alloc());
+    look_at(rt, path, &mut scan)?;
+    Ok(scan.seen.first().copied())
 }
 
 // Fails where the first name is that of a shard of the file that is chosen, or of any where none is.
@@ -213,13 +213,13 @@ fn tell_others<R: AllocGlobal + Eprint>(
     rt: &R,
     paths: &[String],
     chosen: usize,
-    survey: &Survey,
+    scan: &Scan,
 ) -> Result<usize> {
     let mut first = paths.len();
     for place in 0..paths.len() {
-        match survey.findings.as_slice().get(place) {
+        match scan.findings.as_slice().get(place) {
             Some(Finding::Shard(of, _)) if *of == chosen => first = first.min(place),
-            Some(finding) => tell(rt, paths[place].as_str(), *finding, survey)?,
+            Some(finding) => tell(rt, paths[place].as_str(), *finding, scan)?,
             None => {}
         }
     }
@@ -252,21 +252,21 @@ fn choose<R: AllocGlobal + Eprint>(
     rt: &R,
     words: &Words<'_>,
     file: &str,
-    survey: &Survey,
+    scan: &Scan,
 ) -> Result<usize> {
     let mut wanted = Vec::new(rt.alloc());
-    for seen in survey.seen.as_slice() {
+    for seen in scan.seen.as_slice() {
         let name = name_of(rt, seen)?;
         wanted.push(match words.identity {
             Some(begin) => name.as_str().starts_with(begin),
             None => true,
         })?;
     }
-    match survey.choice(wanted.as_slice()) {
+    match scan.choice(wanted.as_slice()) {
         Choice::Only(chosen) | Choice::TooFew(chosen) => Ok(chosen),
-        Choice::Nothing => Ok(survey.seen.len()),
+        Choice::Nothing => Ok(scan.seen.len()),
         Choice::Several => {
-            for seen in survey.seen.as_slice() {
+            for seen in scan.seen.as_slice() {
                 if seen.has_enough() {
                     let name = name_of(rt, seen)?;
                     note(rt, file, name.as_str());
@@ -282,7 +282,7 @@ pub(crate) fn tell<R: AllocGlobal + Eprint>(
     rt: &R,
     path: &str,
     finding: Finding,
-    survey: &Survey,
+    scan: &Scan,
 ) -> Result<()> {
     match finding {
         Finding::Unread => note(rt, path, "it cannot be read"),
@@ -300,7 +300,7 @@ pub(crate) fn tell<R: AllocGlobal + Eprint>(
             note(rt, path, why.as_str());
         }
         Finding::Shard(of, _) => {
-            if let Some(seen) = survey.seen.as_slice().get(of) {
+            if let Some(seen) = scan.seen.as_slice().get(of) {
                 let name = name_of(rt, seen)?;
                 let why = format!(in rt.alloc(); "it is a shard of another file: {name}")?;
                 note(rt, path, why.as_str());

@@ -1,17 +1,17 @@
 //! Splits a file into shards of data and of parity, and joins it from any as many as there are shards of data.
 #![tactic(auto)]
 
-mod beside;
+mod arguments;
 mod commands;
 mod faults;
 mod finding;
-mod mending;
+mod output_files;
 mod progress;
-mod words;
+mod repair;
 
+use crate::arguments::{Task, Words, plain_word};
 use crate::commands::{join_file, split_file};
-use crate::mending::{repair_file, tell_file, verify_file};
-use crate::words::{Task, Words, plain_word};
+use crate::repair::{repair_file, tell_file, verify_file};
 use anyhow::{Context, Result, bail};
 use clap::error::ErrorKind;
 use std::alloc::AllocError;

@@ -1,12 +1,12 @@
 // Looking at shards, and writing those again that are missing or damaged.
-use crate::beside::{NewFiles, NewShards};
+use crate::arguments::Words;
 use crate::faults::{Faults, require_enough, too_few};
-use crate::finding::{Found, find_shards, name_of, paths_of, seen_at, survey_of, tell};
+use crate::finding::{Found, find_shards, name_of, paths_of, scan_of, seen_at, tell};
+use crate::output_files::{NewFiles, NewShards};
 use crate::progress::{Progress, clear};
-use crate::words::Words;
 use anyhow::{Result, bail};
 use sha2::{Digest, Sha256};
-use shard_files::{Finding, MATRIX, Origin, Seen, Survey, gather, repair_shards};
+use shard_files::{Finding, MATRIX, Origin, Scan, Seen, gather, repair_shards};
 use std::fs;
 use std::fs::Files;
 use std::process::ExitCode;
@@ -188,7 +188,7 @@ fn require_damaged<R: Files + AllocGlobal>(rt: &R, found: &Found<'_>, index: usi
     }
     for place in 0..found.paths.len() {
         if found.paths[place].as_str() == target.as_str() {
-            match found.survey.findings.as_slice().get(place) {
+            match found.scan.findings.as_slice().get(place) {
                 Some(Finding::Damaged | Finding::Unread) => return Ok(()),
                 Some(Finding::Shard(of, number)) if *of == found.chosen && *number == index => {
                     return Ok(());
@@ -212,11 +212,11 @@ pub(crate) fn tell_file<R: Files + AllocGlobal + Clock + Print + Eprint>(
     if seen_at(rt, file)?.is_some() {
         paths.push(format!(in rt.alloc(); "{file}")?)?;
     }
-    let survey = survey_of(rt, paths.as_slice())?;
-    tell_no_shards(rt, paths.as_slice(), &survey)?;
+    let scan = scan_of(rt, paths.as_slice())?;
+    tell_no_shards(rt, paths.as_slice(), &scan)?;
     let mut is_told = false;
-    for number in 0..survey.seen.len() {
-        let seen = survey.seen[number];
+    for number in 0..scan.seen.len() {
+        let seen = scan.seen[number];
         let name = name_of(rt, &seen)?;
         let is_wanted = match words.identity {
             Some(begin) => name.as_str().starts_with(begin),
@@ -225,7 +225,7 @@ pub(crate) fn tell_file<R: Files + AllocGlobal + Clock + Print + Eprint>(
         if is_wanted {
             is_told = true;
             tell_seen(rt, name.as_str(), &seen)?;
-            tell_places(rt, paths.as_slice(), survey.findings.as_slice(), number)?;
+            tell_places(rt, paths.as_slice(), scan.findings.as_slice(), number)?;
         }
     }
     if !is_told {
@@ -235,15 +235,11 @@ pub(crate) fn tell_file<R: Files + AllocGlobal + Clock + Print + Eprint>(
 }
 
 // Tells why files are no shards.
-fn tell_no_shards<R: AllocGlobal + Eprint>(
-    rt: &R,
-    paths: &[String],
-    survey: &Survey,
-) -> Result<()> {
+fn tell_no_shards<R: AllocGlobal + Eprint>(rt: &R, paths: &[String], scan: &Scan) -> Result<()> {
     for place in 0..paths.len() {
-        match survey.findings.as_slice().get(place) {
+        match scan.findings.as_slice().get(place) {
             Some(Finding::Shard(_, _)) | None => {}
-            Some(finding) => tell(rt, paths[place].as_str(), *finding, survey)?,
+            Some(finding) => tell(rt, paths[place].as_str(), *finding, scan)?,
         }
     }
     Ok(())

@@ -5,7 +5,7 @@ use Rattle.shard_files.specs.Groups.{GivesEnough, GivesFile, Holdings}
 use Rattle.shard_files.specs.Splits.{BeginWith}
 use Rattle.shard_files.specs.Stripes.{stripe_total, stripe_width}
 use Rattle.shard_files.proofs.Written.{AreSoFar}
-use Rattle.shard_files.proofs.repairing.repair_shards.Given as goal
+use Rattle.shard_files.proofs.repair.repair_shards.Given as goal
 
 abbrev pub invariant-loop-stripe : goal.invariant-loop-stripe
 invariant-loop-stripe g l =

@@ -4,7 +4,7 @@ use Rattle.shard_files.specs.Groups.{numbered, shard_at}
 use Rattle.shard_files.specs.Heads.{head_digest}
 use Rattle.shard_files.specs.Pieces.{piece_bytes}
 use Rattle.shard_files.proofs.Lost.{lost_none}
-use Rattle.shard_files.proofs.repairing.put_lost_pieces.Goals as goal
+use Rattle.shard_files.proofs.repair.put_lost_pieces.Goals as goal
 
 pub loop-index-init : goal.loop-index-init
 loop-index-init g c =

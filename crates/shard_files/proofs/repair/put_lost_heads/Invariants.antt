@@ -2,7 +2,7 @@ use Rattle.std.proofs.Common.{ℕ, List}
 use Rattle.shard_files.specs.Files.{AppendsToLost}
 use Rattle.shard_files.specs.Groups.{numbered}
 use Rattle.shard_files.specs.Heads.{head_file}
-use Rattle.shard_files.proofs.repairing.put_lost_heads.Given as goal
+use Rattle.shard_files.proofs.repair.put_lost_heads.Given as goal
 
 abbrev pub invariant-loop-index : goal.invariant-loop-index
 invariant-loop-index g l =

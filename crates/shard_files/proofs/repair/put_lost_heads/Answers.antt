@@ -3,7 +3,7 @@ use Rattle.shard_files.specs.Files.{AppendsToLost}
 use Rattle.shard_files.specs.Groups.{numbered}
 use Rattle.shard_files.specs.Heads.{head_file}
 use Rattle.shard_files.proofs.Lost.{lost_none}
-use Rattle.shard_files.proofs.repairing.put_lost_heads.Goals as goal
+use Rattle.shard_files.proofs.repair.put_lost_heads.Goals as goal
 
 pub loop-index-init : goal.loop-index-init
 loop-index-init g c = λ before held. (before, held, lost_none c.args.lost.now (λ index. head_file (numbered c.args.origin.now index)) before)

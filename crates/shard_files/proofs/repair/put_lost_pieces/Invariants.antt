@@ -3,7 +3,7 @@ use Rattle.shard_files.specs.Files.{AppendsToLost}
 use Rattle.shard_files.specs.Groups.{numbered, shard_at}
 use Rattle.shard_files.specs.Heads.{head_digest}
 use Rattle.shard_files.specs.Pieces.{piece_bytes}
-use Rattle.shard_files.proofs.repairing.put_lost_pieces.Given as goal
+use Rattle.shard_files.proofs.repair.put_lost_pieces.Given as goal
 
 abbrev pub invariant-loop-index : goal.invariant-loop-index
 invariant-loop-index g l =

@@ -14,7 +14,7 @@ use Rattle.shard_files.proofs.Lost.{file_taken, lost_same, lost_twice}
 use Rattle.shard_files.proofs.Positions.{content_length, ends_at}
 use Rattle.shard_files.proofs.Repaired.{all_long, begin_with, first_bytes, first_long}
 use Rattle.shard_files.proofs.Written.{each_more, file_more, file_none, split_all, split_more, split_none}
-use Rattle.shard_files.proofs.repairing.repair_shards.Goals as goal
+use Rattle.shard_files.proofs.repair.repair_shards.Goals as goal
 
 pub loop-stripe-init : goal.loop-stripe-init
 loop-stripe-init g c =

@@ -42,7 +42,7 @@ impl Seen {
 
 /// All that was seen.
 #[derive(Drop)]
-pub struct Survey {
+pub struct Scan {
     /// What each file is that was looked at, in order.
     pub findings: Vec<Finding>,
     /// The files of which shards were seen.
@@ -64,10 +64,10 @@ pub enum Choice {
     Several,
 }
 
-impl Survey {
+impl Scan {
     /// Nothing was seen.
-    pub fn new(alloc: Global) -> Survey {
-        Survey {
+    pub fn new(alloc: Global) -> Scan {
+        Scan {
             findings: Vec::new(alloc),
             seen: Vec::new(alloc),
             flags: Vec::new(alloc),
