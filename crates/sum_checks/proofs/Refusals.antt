@@ -1,6 +1,6 @@
 -- What a call in a transcript returns, by its exits, and what fits.
-use Rattle.std.proofs.Common.{◌≡◌, ◌≢◌, ◌↔◌, ◌⊎◌, inl, inr, ℕ, ◌*◌, ◌^◌, ◌<◌, ◌≤◌, Bool, true, false, List, [], ◌∷◌, length, Err, Ok, Result, refl, sym, ◌∙◌, ap, subst, arith}
-use Rattle.std.specs.Prelude.{IsErrAnd, IsTrue, OnErr}
+use Rattle.std.proofs.Common.{◌≡◌, ◌≢◌, ◌↔◌, inl, inr, ℕ, ◌*◌, ◌^◌, ◌<◌, ◌≤◌, Bool, true, false, List, [], ◌∷◌, length, Err, Ok, Result, refl, sym, ◌∙◌, ap, subst, arith}
+use Rattle.std.specs.Prelude.{IfErr, IsErrAnd, IsTrue, OnErr}
 use Rattle.std.proofs.lemmas.Bool.{true≢false}
 use Rattle.std.proofs.lemmas.Result.{err_from_is_err_and}
 use Rattle.sum_checks.specs.Refusals.{CanBeStated, IsAnswer, VerifierRefuses}
@@ -51,6 +51,13 @@ module _ {T : Type 0} (before after : Bool) (refuses : ProtocolError → Type 0)
     memory = λ _. tt;
     goes_on = on;
   }
+
+-- an error that is one of memory, since the call within failed with it
+pub memory-told : {T : Type 0} {Q : ProtocolError → Type 0} (result : Result T ProtocolError) → IsErrAnd result Q
+    → ((error : ProtocolError) → Q error → error ≡ Memory) → IfErr result (λ error. error ≡ Memory)
+memory-told {T} result fails only =
+    let error = err_from_is_err_and result fails in
+    subst (λ (r : Result T ProtocolError). IfErr r (λ e. e ≡ Memory)) (sym error.1) (only error.0 error.2)
 
 -- a result is no error
 pub no-error : {T : Type 0} (value : T) (error : ProtocolError) → Ok value ≡ Err error → ⊥

@@ -1,5 +1,5 @@
 -- Lists of calls of a challenger that are made one after the other: the state that they leave, and their sayings.
-use Rattle.std.proofs.Common.{◌≡◌, ◌<◌, ◌≤◌, ◌+◌, ◌-◌, ℕ, Err, Ok, OnErr, Result, List, [], ◌∷◌, ◌++◌, add-one, ap, ap₂, arith, drop, get_or, length, refl, sym, take, ◌∙◌}
+use Rattle.std.proofs.Common.{◌≡◌, ◌<◌, ◌≤◌, ◌+◌, ◌-◌, ℕ, List, [], ◌∷◌, ◌++◌, add-one, ap, ap₂, arith, drop, get_or, length, refl, sym, take, ◌∙◌}
 use Rattle.std.proofs.Math.Seq.{take-suc}
 use Rattle.std.proofs.lemmas.Grind.{flat_map-append}
 use Rattle.std.proofs.lemmas.List.{append-nil, append_assoc, map-append, take-append-drop}

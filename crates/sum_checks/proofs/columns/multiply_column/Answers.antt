@@ -1,6 +1,7 @@
 use Rattle.std.proofs.Common.{◌<◌, ℕ, length, map, sym, ◌∙◌, ap₂, arith}
 use Rattle.std.specs.Prelude.{slice_index}
 use Rattle.std.specs.List.{range_with_len}
+use Rattle.std.proofs.lemmas.Nat.{mul-add-lt}
 use Rattle.sum_checks.specs.Terms.{row_entry}
 use Rattle.field_base.proofs.Written.{written_step, written-read}
 use Rattle.sum_checks.proofs.ColumnSteps.{listed-at, row_entry-read}
@@ -31,3 +32,21 @@ returns g c i below =
     let product = λ (k : ℕ). field.product (slice_index (map field.repr c.args.column.now) k) (row_entry c.args.count (map field.repr c.args.rows.now) k c.args.place) in
     let done = c.loop-row.invariant.done i (omega (arith, below)) in
     done ∙ listed-at product (length c.args.column.now) i below
+
+pub overflow_mul-row : goal.overflow_mul-row
+overflow_mul-row g c =
+    let less = mul-add-lt c.loop-row.row c.args.count c.args.place (length c.args.column.now) c.loop-row-test.true c.requires.inside in
+    let size = c.requires.size in
+    omega (arith, less, size)
+
+pub overflow_add-row : goal.overflow_add-row
+overflow_add-row g c =
+    let less = mul-add-lt c.loop-row.row c.args.count c.args.place (length c.args.column.now) c.loop-row-test.true c.requires.inside in
+    let size = c.requires.size in
+    omega (arith, less, size)
+
+pub bounds-rows-row : goal.bounds-rows-row
+bounds-rows-row g c =
+    let less = mul-add-lt c.loop-row.row c.args.count c.args.place (length c.args.column.now) c.loop-row-test.true c.requires.inside in
+    let size = c.requires.size in
+    omega (arith, less, size)

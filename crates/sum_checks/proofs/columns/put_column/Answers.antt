@@ -1,5 +1,6 @@
 use Rattle.std.proofs.Common.{◌<◌, ℕ, length, map, sym, ◌∙◌, arith}
 use Rattle.std.specs.List.{range_with_len}
+use Rattle.std.proofs.lemmas.Nat.{mul-add-lt}
 use Rattle.sum_checks.specs.Terms.{row_entry}
 use Rattle.field_base.proofs.Written.{written_step}
 use Rattle.sum_checks.proofs.ColumnSteps.{listed-at, row_entry-read}
@@ -22,3 +23,21 @@ pub returns : goal.returns
 returns g c i below =
     c.loop-row.invariant.done i (omega (arith, below))
     ∙ listed-at (λ (k : ℕ). row_entry c.args.count (map g.F.Represented.repr c.args.rows.now) k c.args.place) (length c.args.column.now) i below
+
+pub overflow_mul-column : goal.overflow_mul-column
+overflow_mul-column g c =
+    let less = mul-add-lt c.loop-row.row c.args.count c.args.place (length c.args.column.now) c.loop-row-test.true c.requires.inside in
+    let size = c.requires.size in
+    omega (arith, less, size)
+
+pub overflow_add-column : goal.overflow_add-column
+overflow_add-column g c =
+    let less = mul-add-lt c.loop-row.row c.args.count c.args.place (length c.args.column.now) c.loop-row-test.true c.requires.inside in
+    let size = c.requires.size in
+    omega (arith, less, size)
+
+pub bounds-rows-row : goal.bounds-rows-row
+bounds-rows-row g c =
+    let less = mul-add-lt c.loop-row.row c.args.count c.args.place (length c.args.column.now) c.loop-row-test.true c.requires.inside in
+    let size = c.requires.size in
+    omega (arith, less, size)

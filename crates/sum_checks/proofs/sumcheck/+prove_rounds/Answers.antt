@@ -3,6 +3,8 @@ use Rattle.sum_checks.specs.Products.{term_product}
 use Rattle.sum_checks.specs.Terms.{degree_of}
 use Rattle.sum_checks.proofs.SumcheckSteps.{cube-even, cube-more, half-size, honest-long, proved-more, proved-none}
 use Rattle.sum_checks.proofs.TermSteps.{degree-some}
+use Rattle.sum_checks.specs.Refusals.{error_of_call}
+use Rattle.sum_checks.proofs.Refusals.{memory-told}
 use Rattle.sum_checks.proofs.sumcheck.+prove_rounds.Goals as goal
 
 pub returns-then-rounds-eq0-clause-run : goal.returns-then-rounds-eq0-clause-run
@@ -53,3 +55,12 @@ prove_rounds-requires g t c =
     (c.message.ensures.room ∙ c.requires.room) in
     let both = room ∙ sym half in
     search rules
+
+pub returns-in_err-observe_slice-clause-memory : goal.returns-in_err-observe_slice-clause-memory
+returns-in_err-observe_slice-clause-memory g t c =
+    memory-told _ c.from_residual-in_err-observe_slice.ensures.1 (λ error is. is ∙ ap error_of_call (c.in_err-observe_slice.ensures.answer.memory c.requires.going).0)
+
+pub returns-in_err-challenge-clause-memory : goal.returns-in_err-challenge-clause-memory
+returns-in_err-challenge-clause-memory g t c =
+    memory-told _ c.from_residual-in_err-challenge.ensures.1
+    (λ error is. is ∙ ap error_of_call (c.in_err-challenge.ensures.answer.memory c.in_ok-observe_slice.ensures.answer.goes_on).0)

@@ -1,5 +1,7 @@
 use Rattle.std.proofs.Common.{◌<◌, length, map, ◌∙◌, ap, arith, rules}
 use Rattle.sum_checks.proofs.SumcheckSteps.{message-fits, message-long, next-claim, nodes-few, rest-long, verified-more, verified-none}
+use Rattle.sum_checks.specs.Refusals.{error_of_call}
+use Rattle.sum_checks.proofs.Refusals.{memory-told}
 use Rattle.sum_checks.proofs.sumcheck.+verify_rounds.Goals as goal
 
 pub returns-then-rounds-eq0-clause-run : goal.returns-then-rounds-eq0-clause-run
@@ -45,3 +47,12 @@ returns-clause-run g t c =
     (repr c.in_ok-challenge.challenge) (repr c.interpolate_at_nodes-next.result) c.as_slice.ensures.value c.in_ok-nodes.ensures
     c.interpolate_at_nodes-next.ensures)
     c.in_ok-last.ensures.run
+
+pub returns-in_err-observe_slice-clause-memory : goal.returns-in_err-observe_slice-clause-memory
+returns-in_err-observe_slice-clause-memory g t c =
+    memory-told _ c.from_residual.ensures.1 (λ error is. is ∙ ap error_of_call (c.in_err-observe_slice.ensures.answer.memory c.requires.going).0)
+
+pub returns-in_err-challenge-clause-memory : goal.returns-in_err-challenge-clause-memory
+returns-in_err-challenge-clause-memory g t c =
+    memory-told _ c.from_residual-in_err-challenge.ensures.1
+    (λ error is. is ∙ ap error_of_call (c.in_err-challenge.ensures.answer.memory c.in_ok-observe_slice.ensures.answer.goes_on).0)
