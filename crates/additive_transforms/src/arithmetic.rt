@@ -36,7 +36,7 @@ impl<R: Unsigned, L: Level<R>, W: WordBytes<R>> StageArithmetic for OfLevel<R, L
 
     ghost vector = { cantor_vector };
 
-    ghost value = { level_element W.Holds.number L.LEVEL };
+    ghost value = { level_element W.Reads.number L.LEVEL };
 
     ghost number = { R.number };
 
@@ -64,7 +64,7 @@ impl<R: Unsigned, L: Level<R>, W: WordBytes<R>> StageArithmetic for OfLevel<R, L
 
     ghost vector_law = { level_vectors L.LEVEL L.few };
 
-    ghost range_law = { λ x. mod-lt (W.Holds.number x) (pow_pos (2 ^ L.LEVEL)) };
+    ghost range_law = { λ x. mod-lt (W.Reads.number x) (pow_pos (2 ^ L.LEVEL)) };
 }
 
 // s_j(z), where s_0(z) = z and s_(j + 1)(z) = s_j(z)^2 + s_j(z).
