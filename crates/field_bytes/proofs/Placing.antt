@@ -77,10 +77,6 @@ third_byte i c0 c1 c2 later fits0 fits1 =
     sym (high_byte i (pair 64 c1 c2) c0 (omega (arith, later)) fits0 ∙ high_byte (i - 8) c2 c1 (omega (arith, later)) fits1
     ∙ ap (λ (k : ℕ). chunk 8 k c2) is)
 
--- the first word is no larger than the triple
-pub first_below : (i c0 c1 c2 : ℕ) → triple 64 c0 c1 c2 < 2 ^ (8 * i) → c0 < 2 ^ (8 * i)
-first_below i c0 c1 c2 below = omega (arith, below)
-
 -- the second word is below what bounds the triple, eight bytes lower
 pub second_below : (i c0 c1 c2 : ℕ) → 8 ≤ i → triple 64 c0 c1 c2 < 2 ^ (8 * i) → c1 < 2 ^ (8 * (i - 8))
 second_below i c0 c1 c2 later below =
@@ -93,10 +89,6 @@ third_below i c0 c1 c2 later below =
     let upper : c2 < 2 ^ (8 * (i - 8 - 8)) =
     high_below (i - 8) c2 c1 (omega (arith, later)) (high_below i (pair 64 c1 c2) c0 (omega (arith, later)) below) in
     rw is at upper
-
--- a byte put into the first word is put at its place in the triple
-pub first_put : (i b c0 c1 c2 new : ℕ) → new ≡ b * 2 ^ (8 * i) + c0 → triple 64 new c1 c2 ≡ b * 2 ^ (8 * i) + triple 64 c0 c1 c2
-first_put i b c0 c1 c2 new is = omega (arith, is)
 
 -- a byte put into the second word is put eight bytes higher in the triple
 pub second_put : (i b c0 c1 c2 new : ℕ) → 8 ≤ i → new ≡ b * 2 ^ (8 * (i - 8)) + c1 → triple 64 c0 new c2 ≡ b * 2 ^ (8 * i) + triple 64 c0 c1 c2

@@ -20,10 +20,6 @@ byte_fits i b number more fits below is = more-lt 8 i more b number below fits i
 
 -- ---- rows of bytes
 
--- the representation of the element that is read
-pub column_at : {E : Type 0} (repr : E → ℕ) (row : List E) (j : ℕ) (x : E) → j < length row → x ≡ get_or row j x → repr x ≡ entry_of_row repr j row
-column_at repr row j x within is = ap repr is ∙ sym (get_or-map repr row j x 0 within)
-
 -- one entry more
 pub entry_put : (f : ℕ → ℕ) (xs : List ℕ) (j v : ℕ) → j < length xs → v ≡ f j → ((k : ℕ) → k < j → slice_index xs k ≡ f k)
     → (k : ℕ) → k < j + 1 → slice_index (set xs j v) k ≡ f k

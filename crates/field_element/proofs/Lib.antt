@@ -1,4 +1,3 @@
-pub mod Arrays
 mod ChangedPlaces
 mod NumberDigits
 pub mod PlaceProducts

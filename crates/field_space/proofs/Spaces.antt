@@ -12,7 +12,7 @@ use Rattle.std.specs.Iterator.{Yields}
 use Rattle.std.specs.Array.{FillsFrom}
 use Rattle.field_base.specs.Chunks.{chunk, chunks}
 use Rattle.field_base.proofs.Calls.{fills_more}
-use Rattle.field_base.proofs.ChunkLists.{chunk-whole, chunks-more, chunks-next, chunks-none, more-lt, none_pushed, put-lt}
+use Rattle.field_base.proofs.ChunkLists.{chunks-more, chunks-next, chunks-none, more-lt, none_pushed, put-lt}
 
 -- so that it fits the space
 pub put_fits : (whole width dimension i a c x : ℕ) → whole ≡ width * dimension → i < dimension → x < 2 ^ (width * i) → c < 2 ^ width
@@ -24,12 +24,6 @@ put_fits whole width dimension i a c x bits place low fits is =
     let more : width * suc i ≤ whole = omega (arith, wide) in
     let grows : 2 ^ (width * suc i) ≤ 2 ^ whole = pow_mono {i = width * suc i} {j = whole} more in
     omega (arith, put-lt width i a c x low fits is, grows)
-
--- ---- a field over itself
-
--- one coefficient has all bits
-pub whole_bits : (width : ℕ) → width ≡ width * 1
-whole_bits width = omega arith
 
 -- ---- calls that give the coefficients one after the other
 
@@ -85,11 +79,6 @@ one_item_more next_gives s t u i xs x n fills last long = (
   fills-yields next_gives s i (xs ++ x ∷ []) u (fills_more (λ p k y q. next_gives p (Some y) q) s i xs t u x _ refl fills last),
   length-append xs (x ∷ []) ∙ add-one (length xs) ∙ ap suc long,
 )
-
--- the one coefficient of an element of a field over itself
-pub chunk-of_one : (width i a : ℕ) → i < 1 → a < 2 ^ width → a ≡ chunk width i a
-chunk-of_one width i a first fits =
-    let none : i ≡ 0 = omega (arith, first) in sym (ap (λ (k : ℕ). chunk width k a) none ∙ chunk-whole width a fits)
 
 -- the representations of one element more of a list
 pub map_next : {A : Type 0} (repr : A → ℕ) (xs : List A) (k : ℕ) (x : A) → k < length xs → x ≡ get_or xs k x
