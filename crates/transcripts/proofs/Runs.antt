@@ -113,14 +113,6 @@ module _ {S : Type 0} (transitions : Transitions S) where
       → next ≡ after transitions second now → next ≡ after transitions (first ++ second) old
   state_joined first second old now next before last = rw (after-append first second old, ← before) last
 
-  -- .. and the bytes of both runs, one after the other, are those that the joined list samples
-  pub bytes_joined : (first second : List ByteCall) (old now : S) (begun more : List ℕ)
-      → now ≡ after transitions first old → begun ≡ squeezed transitions first old
-      → more ≡ squeezed transitions second now
-      → begun ++ more ≡ squeezed transitions (first ++ second) old
-  bytes_joined first second old now begun more before begins ends =
-      rw (squeezed-append first second old, ← before, ← begins, ← ends) refl
-
   -- observing samples no bytes
   squeezed-observing : (bytes : List ℕ) (state : S) → squeezed transitions (observing bytes) state ≡ []
   unfolding squeezed
@@ -133,12 +125,6 @@ module _ {S : Type 0} (transitions : Transitions S) where
       → squeezed transitions (observing bytes ++ calls) old ≡ squeezed transitions calls now
   bytes_after_observing bytes calls old now before =
       rw (squeezed-append (observing bytes) calls old, squeezed-observing bytes old, before) refl
-
-  -- n samples give n bytes
-  pub length_sampled : (count : ℕ) (state : S) → length (squeezed transitions (sampling count) state) ≡ count
-  unfolding squeezed
-  length_sampled zero state = refl
-  length_sampled (suc count) state = ap (λ (n : ℕ). suc n) (length_sampled count (transitions.sampled state).1)
 
   -- ---- lists of calls that are partly run
 
