@@ -1,4 +1,5 @@
 use Rattle.std.proofs.Common.{◌≡◌, ◌+◌, ◌-◌, ◌*◌, ◌≤◌, length, map, take, refl, ap, ◌∙◌, sym, arith}
+use Rattle.std.proofs.Math.Nat.{mul-le-mul_right}
 use Rattle.std.proofs.lemmas.List.{length-take-le}
 use Rattle.sum_checks.specs.Products.{term_product}
 use Rattle.sum_checks.specs.Terms.{row_entry, terms_value}
@@ -30,3 +31,33 @@ loop-start-preserved g c =
           (field.repr c.add-sum.result) refl taken (length-take-le size left small) c.loop-start.invariant.1 c.terms_sum-part.ensures
           (g.met.F.Represented.add_law c.loop-start.sum c.terms_sum-part.result c.add-sum.result c.add-sum.ensures),
     )
+
+pub overflow_mul-block : goal.overflow_mul-block
+overflow_mul-block g c =
+    let most : (c.loop-start.start + c.min-size.result) * c.args.count ≤ c.args.rows * c.args.count = mul-le-mul_right c.args.count (omega arith) in
+    let long = c.requires.size in
+    omega (arith, most, long)
+
+pub overflow_mul-block-in-loop-start : goal.overflow_mul-block-in-loop-start
+overflow_mul-block-in-loop-start g c =
+    let most : (c.loop-start.start + c.min-size.result) * c.args.count ≤ c.args.rows * c.args.count = mul-le-mul_right c.args.count (omega arith) in
+    let long = c.requires.size in
+    omega (arith, most, long)
+
+pub slice_bounds-block-count : goal.slice_bounds-block-count
+slice_bounds-block-count g c =
+    let most : (c.loop-start.start + c.min-size.result) * c.args.count ≤ c.args.rows * c.args.count = mul-le-mul_right c.args.count (omega arith) in
+    let long = c.requires.size in
+    omega (arith, most, long)
+
+pub slice_bounds-block-start : goal.slice_bounds-block-start
+slice_bounds-block-start g c =
+    let most : (c.loop-start.start + c.min-size.result) * c.args.count ≤ c.args.rows * c.args.count = mul-le-mul_right c.args.count (omega arith) in
+    let long = c.requires.size in
+    omega (arith, most, long)
+
+pub slice_bounds-block-end : goal.slice_bounds-block-end
+slice_bounds-block-end g c =
+    let most : (c.loop-start.start + c.min-size.result) * c.args.count ≤ c.args.rows * c.args.count = mul-le-mul_right c.args.count (omega arith) in
+    let long = c.requires.size in
+    omega (arith, most, long)
