@@ -5,7 +5,7 @@ use Rattle.merkle_trees.specs.Queries.{AreQueries}
 use Rattle.merkle_trees.specs.declared.merkle_tree.MerkleTree.{MerkleTree}
 use Rattle.sum_checks.specs.Sumcheck.{AreTurns, IsRunOf, IsTurn, Statement, messages_of}
 use Rattle.prove_sums.specs.Shapes.{block_bits, messages_in, rows_in, sum_in, witness_in}
-use Rattle.prove_sums.specs.Verdicts.{DrawsPlaces, IsHonestProof, IsReduced, IsSummed, IsVerdict, sum_statement, work_bits}
+use Rattle.prove_sums.specs.Verdicts.{DrawsPlaces, IsHonestProof, IsReducedClaim, IsSummed, VerifiesSum, sum_statement, work_bits}
 
 module _ {C S : Type 0} (state : C → S) where
   -- steps in turn, as steps of the states
@@ -69,8 +69,8 @@ module _ {C S : Type 0} (state : C → S) where
       }
 
       reduced-on_states : (width : ℕ) (times : ℕ → ℕ → ℕ) (old new : C) (point : List F) (claim : ℕ)
-          → IsReduced observes gives repr width times n elements old point claim new
-          → IsReduced observed given repr width times n elements (state old) point claim (state new)
+          → IsReducedClaim observes gives repr width times n elements old point claim new
+          → IsReducedClaim observed given repr width times n elements (state old) point claim (state new)
       reduced-on_states width times old new point claim reduced = record {
         run = run-on_states repr old new (sum_statement width times n (sum_in repr elements)) (messages_of 2 n (messages_in n elements)) point
             reduced.run;
@@ -80,10 +80,10 @@ module _ {C S : Type 0} (state : C → S) where
 
       pub verdict-on_states : (hash : List ℕ → List ℕ) (size width : ℕ) (times : ℕ → ℕ → ℕ) (vector : ℕ → ℕ) (left right : List ℕ)
           (nodes : List (List ℕ)) (old : C) (begun : S) (accepted : Bool) → state old ≡ begun
-          → IsVerdict observes gives passing checks gives_bits number repr hash size width times vector n left right elements nodes old accepted
-          → IsVerdict observed given passed checked given_bits number repr hash size width times vector n left right elements nodes begun accepted
+          → VerifiesSum observes gives passing checks gives_bits number repr hash size width times vector n left right elements nodes old accepted
+          → VerifiesSum observed given passed checked given_bits number repr hash size width times vector n left right elements nodes begun accepted
       verdict-on_states hash size width times vector left right nodes old begun accepted is verdict =
-          subst (λ (s : S). IsVerdict observed given passed checked given_bits number repr hash size width times vector n left right elements nodes s accepted) is
+          subst (λ (s : S). VerifiesSum observed given passed checked given_bits number repr hash size width times vector n left right elements nodes s accepted) is
           (record {
             point = verdict.point;
             claim = verdict.claim;

@@ -57,7 +57,7 @@ pub record IsSummed {C F : Type 0} (observes gives : C → F → C → Type 0) (
   pub challenge_count : length point ≡ n
 
 -- what a verifier is left with of the claim that the first element is the sum: a claim at a point, by the messages
-pub record IsReduced {C F : Type 0} (observes gives : C → F → C → Type 0) (repr : F → ℕ) (width : ℕ) (times : ℕ → ℕ → ℕ) (n : ℕ)
+pub record IsReducedClaim {C F : Type 0} (observes gives : C → F → C → Type 0) (repr : F → ℕ) (width : ℕ) (times : ℕ → ℕ → ℕ) (n : ℕ)
     (elements : List F) (old : C) (point : List F) (claim : ℕ) (new : C) : Type 0 where
   pub run : IsRunOf observes gives repr old (sum_statement width times n (sum_in repr elements)) (messages_of 2 n (messages_in n elements)) point new
   pub left : claim ≡ reduced_claim width times (sum_in repr elements) (map (map repr) (messages_of 2 n (messages_in n elements))) (map repr point)
@@ -97,7 +97,7 @@ OpensTable hash repr size width times vector n which root point elements places 
 
 -- The verdict on elements and nodes: true exactly if the witness works, the claim that the messages leave is the product of both rows' values,
 -- and the rows agree with the columns that are opened under the roots.
-pub record IsVerdict {C F : Type 0} (observes gives : C → F → C → Type 0) (passing : C → ℕ → ℕ → Bool)
+pub record VerifiesSum {C F : Type 0} (observes gives : C → F → C → Type 0) (passing : C → ℕ → ℕ → Bool)
     (checks : C → ℕ → ℕ → C → Type 0) (gives_bits : C → ℕ → ℕ → C → Type 0) (number repr : F → ℕ) (hash : List ℕ → List ℕ)
     (size width : ℕ) (times : ℕ → ℕ → ℕ) (vector : ℕ → ℕ) (n : ℕ) (left right : List ℕ) (elements : List F) (nodes : List (List ℕ))
     (old : C) (accepted : Bool) : Type 0 where
@@ -107,7 +107,7 @@ pub record IsVerdict {C F : Type 0} (observes gives : C → F → C → Type 0) 
   pub places : List ℕ
   pub between : C
   pub new : C
-  pub reduced : IsReduced observes gives repr width times n elements old point claim between
+  pub reduced : IsReducedClaim observes gives repr width times n elements old point claim between
   pub drawn : DrawsPlaces observes gives passing checks gives_bits n (rows_in n elements) (witness_in number n elements) between works places new
   pub decided : IsTrue accepted
       ↔ IsTrue works
@@ -201,7 +201,7 @@ samples_bits digest old bits number new = SamplesBits (hash_transitions digest) 
 abbrev pub IsSumVerdict : {F H : Type 0} → (H → List ℕ → List ℕ) → H → (F → ℕ) → List ℕ → ℕ → List ℕ → List ℕ → List F → List (List ℕ)
     → Bool → Type 0
 IsSumVerdict digest hasher repr front n left right elements nodes accepted =
-    IsVerdict (λ old x new. observes_number digest old (repr x) new) (λ old x new. gives_number digest old (repr x) new) (passes_number digest)
+    VerifiesSum (λ old x new. observes_number digest old (repr x) new) (λ old x new. gives_number digest old (repr x) new) (passes_number digest)
     (checks_number digest) (samples_bits digest) repr repr (digest hasher) 16 128 word_times word_vector n left right elements nodes
     (hasher, front, []) accepted
 

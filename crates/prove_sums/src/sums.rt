@@ -1,7 +1,7 @@
 // Sums of the products of two tables, over any field and in any transcript of it.
 ghost use Rattle.std.specs.Prelude.{◌≡◌, ◌+◌, ◌*◌, ◌^◌, ◌≤◌, ◌<◌, [], ◌∷◌, List, length, map, IfOk};
 ghost use Rattle.sum_checks.specs.Products.{term_product};
-ghost use Rattle.prove_sums.specs.Verdicts.{interleaved, IsReduced, IsSummed, product_terms};
+ghost use Rattle.prove_sums.specs.Verdicts.{interleaved, IsReducedClaim, IsSummed, product_terms};
 
 use crate::shapes::part;
 use field_base::traits::Field;
@@ -96,7 +96,7 @@ pub fn reduce<F: Field, C: FieldChallenger<F>>(
     elements: &[F],
 ) -> Result<Reduced<F, Global>, ProtocolError>
     requires { 2 * rounds + 1 ≤ length elements.now }
-    ensures { IfOk result (λ reduced. IsReduced C.observes C.gives F.repr F.width F.product rounds elements.now challenger.old
+    ensures { IfOk result (λ reduced. IsReducedClaim C.observes C.gives F.repr F.width F.product rounds elements.now challenger.old
         reduced.point.items (F.repr reduced.claim) challenger.new) }
 {
     let terms = terms(alloc)?;

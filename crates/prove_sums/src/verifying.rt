@@ -2,7 +2,7 @@
 ghost use Rattle.std.specs.Prelude.{◌≡◌, ◌↔◌, ◌+◌, ◌*◌, ◌^◌, ◌≤◌, ◌<◌, length, map, IfOk, IsTrue};
 ghost use Rattle.field_slices.specs.Multilinear.{multilinear_value};
 ghost use Rattle.prove_sums.specs.Shapes.{block_count, columns_size, element_count, levels_of, row_in, rows_in, rows_of, witness_in};
-ghost use Rattle.prove_sums.specs.Verdicts.{DrawsPlaces, IsProductAt, IsVerdict, OpensTable};
+ghost use Rattle.prove_sums.specs.Verdicts.{DrawsPlaces, IsProductAt, VerifiesSum, OpensTable};
 
 use crate::shapes::{EXPANSION, Shape, part};
 use crate::sums::reduce;
@@ -36,7 +36,7 @@ pub fn verify<
 ) -> Result<bool, ProtocolError>
     requires count { length elements.now ≡ element_count shape.now.rounds }
     requires points { 40 ≤ F.width }
-    ensures { IfOk result (λ accepted. IsVerdict C.observes C.gives C.passing C.checks C.gives_bits C.number F.repr (H.digest hasher.now)
+    ensures { IfOk result (λ accepted. VerifiesSum C.observes C.gives C.passing C.checks C.gives_bits C.number F.repr (H.digest hasher.now)
         F.NUM_BYTES F.width F.product (λ i. F.basis (F.cantor i)) shape.now.rounds left.now right.now elements.now nodes.now challenger.old
         accepted) }
 {
