@@ -64,3 +64,12 @@ pub returns-in_err-challenge-clause-memory : goal.returns-in_err-challenge-claus
 returns-in_err-challenge-clause-memory g t c =
     memory-told _ c.from_residual-in_err-challenge.ensures.1
     (λ error is. is ∙ ap error_of_call (c.in_err-challenge.ensures.answer.memory c.in_ok-observe_slice.ensures.answer.goes_on).0)
+
+pub message-requires-clause-field : goal.message-requires-clause-field
+message-requires-clause-field g t c = c.requires.field
+
+pub message-requires-clause-within : goal.message-requires-clause-within
+message-requires-clause-within g t c = c.requires.within
+
+pub message-requires-clause-room : goal.message-requires-clause-room
+message-requires-clause-room g t c = c.requires.room

@@ -27,6 +27,27 @@ cube_sum-leading-requires-clause-size g c =
     let long : length c.add_slice.new.values ≡ length c.copy_from_slice.new.self = omega arith in
     omega (arith, half, kept, long, c.requires.room)
 
+pub split_at-requires : goal.split_at-requires
+split_at-requires g c = omega arith
+
+pub copy_from_slice-requires : goal.copy_from_slice-requires
+copy_from_slice-requires g c =
+    let front = c.split_at.ensures.front_len in
+    let room = c.requires.room in
+    omega (arith, front, room)
+
+pub cube_sum-second-requires-clause-few : goal.cube_sum-second-requires-clause-few
+cube_sum-second-requires-clause-few g c = let few = c.requires.few in omega (arith, few)
+
+pub cube_sum-second-requires-clause-within : goal.cube_sum-second-requires-clause-within
+cube_sum-second-requires-clause-within g c = c.requires.within
+
+pub cube_sum-leading-requires-clause-few : goal.cube_sum-leading-requires-clause-few
+cube_sum-leading-requires-clause-few g c = let few = c.requires.few in omega (arith, few)
+
+pub cube_sum-leading-requires-clause-within : goal.cube_sum-leading-requires-clause-within
+cube_sum-leading-requires-clause-within g c = c.requires.within
+
 pub returns : goal.returns
 returns g c =
     let field = g.F.Represented in
