@@ -9,7 +9,7 @@ ghost use Rattle.field_base.specs.LinearMaps.{linear_image};
 
 use crate::one_by_one::change_all_by;
 use crate::operations::ScaledSum;
-use field_base::FieldKernel;
+use field_base::{FieldKernel, Stored};
 use std::simd::prelude::*;
 use word_tables::{entry_sums, map_bytes};
 
@@ -21,6 +21,7 @@ pub(crate) fn multiply_all<K: FieldKernel<u8>>(bytes: &mut [u8], scalar: u8)
     ensures long { length bytes.new ≡ length bytes.old }
     ensures products { Each (field_of itself K.width K.product K.generator) (λ x y. y ≡ K.product x scalar) bytes.old bytes.new }
 {
+    u8::words_fit(bytes);
     map_bytes(&images_of::<K>(scalar), bytes);
 }
 
