@@ -5,7 +5,7 @@ ghost use Rattle.many_words.specs.Fields.{itself};
 
 use crate::numbers::numbers_of;
 use crate::{Wide, status};
-use field_base::Holds;
+use field_base::{Holds, Reads};
 use word_tables::{ByteMap, ByteMatrix};
 
 /// Writes for each byte the sum of the images at its set bits: eight images, that of bit 0 first.

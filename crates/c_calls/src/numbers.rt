@@ -3,7 +3,7 @@ ghost use Rattle.std.specs.Prelude.{◌≡◌, ◌≤◌, length, map, take};
 ghost use Rattle.c_calls.specs.Fields.{wide_number};
 
 use crate::Wide;
-use field_base::Holds;
+use field_base::Reads;
 
 /// The numbers of up to N words, and zeros.
 pub(crate) fn numbers_of<const N: usize>(words: &[Wide]) -> [u128; N]

@@ -9,7 +9,7 @@ ghost use Rattle.c_calls.specs.Transforms.{RunsLowStages, Transforms, Transforms
 use crate::numbers::{four_numbers, numbers_of};
 use crate::{Wide, status};
 use additive_transforms::{WordBytes, forward_level, inverse_level, stages_of, transform_ghash};
-use field_base::{FieldKernel, Unsigned};
+use field_base::{FieldKernel, Reads, Unsigned};
 use ghash_slices::{Width, add_each, add_multiples, run_low_stages};
 use word_tower::{Level, Tower};
 

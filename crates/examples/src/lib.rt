@@ -21,7 +21,7 @@ mod sharing;
 #[cfg(test)]
 mod texts;
 #[cfg(test)]
-mod transcripts;
+mod witnesses;
 
 #[cfg(test)]
 pub use crate::contracts::{product_of_slice, sum_of_slice, value_on_line};
