@@ -2,7 +2,6 @@
 ghost use prog.Memory.{size};
 ghost use denote.Param.{layout};
 ghost use Rattle.std.proofs.Common.{lit<};
-ghost use Rattle.c_calls.specs.Fields.{wide_number};
 ghost use Rattle.c_calls.specs.Fits.{FitsTwo};
 ghost use Rattle.field_base.specs.Room.{few_fit};
 
@@ -18,6 +17,8 @@ pub struct Wide {
 }
 
 impl Reads<u128> for Wide {
+    ghost use Rattle.c_calls.specs.Fields.{wide_number};
+
     ghost number = { wide_number };
 
     #[inline]

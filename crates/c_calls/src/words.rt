@@ -1,7 +1,6 @@
 // The words of 192 bits in which elements cross to other languages, and the words of a field's arithmetic that they hold.
 ghost use prog.Memory.{size};
 ghost use denote.Param.{layout};
-ghost use Rattle.c_calls.specs.Fields.{cubic_number};
 ghost use Rattle.field_base.specs.Room.{few_fit};
 ghost use Rattle.word_polynomial.specs.Fits.{FitsThree};
 ghost use Rattle.std.proofs.Common.{lit<};
@@ -20,6 +19,8 @@ pub struct Cubic {
 }
 
 impl Reads<Triple> for Cubic {
+    ghost use Rattle.c_calls.specs.Fields.{cubic_number};
+
     ghost number = { cubic_number };
 
     #[inline]
