@@ -1,5 +1,5 @@
 #!/usr/bin/env python3
-"""Writes what many words of a level of the tower are computed in: planes of bytes, and slices of bits (many_words)."""
+"""Writes what computes many words of a level of the tower: planes of bytes, slices of bits, and the calls over both (many_words)."""
 
 from string import Template
 
@@ -92,11 +92,82 @@ def in_slices():
             yield IN_SLICES.substitute(bits=bits)
 
 
+# ---- calls
+
+CALLS_HEAD = """\
+// The levels of 8 to 128 bits: by one scalar in planes of bytes, and from 16 bits on products and inverses in slices of bits. Each level has an
+// impl of its own: one over a bound would have the planes of a level, which nest, in every contract that names its elements.
+use super::{Many, Sizes};
+use crate::dots;
+use crate::in_planes::{LEAST_IN_PLANES, add_all, multiply_all};
+use crate::in_slices::{FieldInSlices, LEAST_IN_SLICES};
+use bit_slices::Vector;
+use field_base::{Holds, Reads};
+use ghash_slices::Width;
+use word_tower::{Bits8, Bits16, Bits32, Bits64, Bits128, Tower};
+"""
+
+CALLS = Template("""\
+${about}impl$words Many<u$bits, $word> for Tower<Bits$bits> {
+    #[inline(always)]
+    fn sizes<V: Vector>() -> Sizes {
+        Sizes {
+            multiplied: $least,
+            block: $block,
+            scaled: LEAST_IN_PLANES,
+            inverted: $least,
+        }
+    }
+
+    fn multiply_all_by<V: Width>(words: &mut [$word], scalar: $word) {
+        multiply_all::<u$bits, $word, Tower<Bits$bits>>(words, scalar);
+    }
+
+    fn add_multiples<V: Width>(sums: &mut [$word], words: &[$word], scalar: $word) {
+        add_all::<u$bits, $word, Tower<Bits$bits>>(sums, words, scalar);
+    }
+${slices}}
+""")
+
+CALLS_IN_SLICES = Template("""\
+
+    fn multiply_all<V: Width + Vector>(products: &mut [$word], words: &[$word]) {
+        Tower::<Bits$bits>::multiply_in_slices::<V, $word>(products, words);
+    }
+
+    fn invert_all<V: Vector>(words: &mut [$word]) {
+        Tower::<Bits$bits>::invert_in_slices::<V, $word>(words);
+    }
+
+    #[inline]
+    fn dot_product<V: Width + Vector, P: Reads<u$bits>>(left: &[P], right: &[P]) -> u$bits {
+        dots::dot_product::<u$bits, P, Tower<Bits$bits>>(left, right)
+    }
+""")
+
+
+def calls():
+    yield CALLS_HEAD
+    for bits in LEVELS:
+        # Bytes are looked up.
+        in_slices = bits > 8
+        yield CALLS.substitute(
+            about="" if in_slices else "// Bytes are multiplied and inverted by tables.\n",
+            bits=bits,
+            word=word(bits),
+            words="<W: Holds<u128>>" if bits == WIDE else "",
+            least="LEAST_IN_SLICES" if in_slices else "usize::MAX",
+            block="V::lanes()" if in_slices else "1",
+            slices=CALLS_IN_SLICES.substitute(bits=bits, word=word(bits)) if in_slices else "",
+        )
+
+
 if __name__ == "__main__":
     keep_all(
         "make_call_impls.py",
         {
             "many_words/src/in_planes/impls.rt": in_planes,
             "many_words/src/in_slices/impls.rt": in_slices,
+            "many_words/src/many/levels.rt": calls,
         },
     )
