@@ -17,24 +17,29 @@ fn words_begin<E: RawDataSerializable + PrimeCharacteristicRing>(
         .eq(words.iter().copied())
 }
 
-// Whether the streams of two elements, side by side, are these bytes and these words.
-fn streams_are<E: RawDataSerializable>(
-    row: [E; 2],
+// Whether the streams of the rows, side by side, are these bytes and these words.
+fn streams_are(
+    rows: &[[BinaryField16; 2]],
     bytes: &[[u8; 2]],
-    word: [u32; 2],
-    double_word: [u64; 2],
+    words_32: &[[u32; 2]],
+    words_64: &[[u64; 2]],
 ) -> bool {
-    let rows = [row];
     into_parallel_byte_streams(rows.iter().copied()).eq(bytes.iter().copied())
-        && into_parallel_u32_streams(rows.iter().copied()).eq([word].iter().copied())
-        && into_parallel_u64_streams(rows.iter().copied()).eq([double_word].iter().copied())
+        && into_parallel_u32_streams(rows.iter().copied()).eq(words_32.iter().copied())
+        && into_parallel_u64_streams(rows.iter().copied()).eq(words_64.iter().copied())
 }
 
 #[test]
 fn streams_are_cut_short_and_stand_side_by_side(rt: HostRuntime) {
-    let row: [BinaryField16; 2] = [element_of_word(0x0102), element_of_word(0x0304)];
+    let rows: [[BinaryField16; 2]; 1] = [[element_of_word(0x0102), element_of_word(0x0304)]];
     assert!(rt;
         words_begin(Poly64::new(2), &[1, 2, 4])
-            && streams_are(row, &[[2, 4], [1, 3]], [0x0102, 0x0304], [0x0102, 0x0304])
+            && streams_are(
+                &rows,
+                &[[2, 4], [1, 3]],
+                &[[0x0102, 0x0304]],
+                &[[0x0102, 0x0304]]
+            )
+            && streams_are(&rows[..0], &[], &[], &[])
     );
 }
