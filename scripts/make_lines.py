@@ -5,8 +5,8 @@
 
 LINES is a file of the calculator's lines, and ANSWERS one of the answers that another implementation of the same
 calculator gave to them, a line for a line. Of each of the calculator's fields and each operation the first 57 lines that
-were answered are kept, and of each error the first 20: with 8,000 lines drawn 3,540 in all, in their order. The worked lines of
-worked_lines.py stand behind them, and then the three lines of the worked example, the last without a line feed.
+were answered are kept, and of each error the first 20: with 8,000 lines drawn 3,540 in all, in their order. The three lines of the worked
+example stand before them, and behind them the worked lines of worked_lines.py and a last line without a line feed.
 
 With --check alone it reads both files back, and says whether they hold those lines and nothing else.
 """
@@ -25,12 +25,12 @@ OPERATIONS = ["add", "mul", "square", "inv", "sqrt"]
 ERRORS = [f"error {number}" for number in range(1, 7)]
 ANSWERED = 57
 REFUSED = 20
-# The worked example, which has an empty line and no line feed at its end.
-EXAMPLE = b"t8 mul 10 10\n\nt8 inv 00"
+# What stands before the lines that were drawn: the worked example, which has an empty line.
+EXAMPLE = b"t8 mul 10 10\n\nt8 inv 00\n"
 EXAMPLE_ANSWERS = "41\nerror 1\nnone\n"
-# What stands behind the lines that were drawn.
-END = b"".join(line + b"\n" for line, _ in worked_lines.rows()) + EXAMPLE
-END_ANSWERS = "".join(answer + "\n" for _, answer in worked_lines.rows()) + EXAMPLE_ANSWERS
+# What stands behind them, with no line feed at its end.
+END = b"".join(line + b"\n" for line, _ in worked_lines.rows()) + b"t8 inv 00"
+END_ANSWERS = "".join(answer + "\n" for _, answer in worked_lines.rows()) + "none\n"
 FOLDER = files.CRATES / "binfield"
 
 
@@ -75,9 +75,11 @@ def read(lines, answers):
 
 def check():
     lines, answers = read(FOLDER / "stdin", FOLDER / "stdout")
+    if not lines.startswith(EXAMPLE) or not answers.startswith(EXAMPLE_ANSWERS):
+        sys.exit("the worked example does not stand at the start")
     if not lines.endswith(END) or not answers.endswith(END_ANSWERS):
-        sys.exit("the worked lines and the worked example do not stand at the end")
-    rows = rows_of(lines.removesuffix(END), answers.removesuffix(END_ANSWERS))
+        sys.exit("the worked lines do not stand at the end")
+    rows = rows_of(lines.removeprefix(EXAMPLE).removesuffix(END), answers.removeprefix(EXAMPLE_ANSWERS).removesuffix(END_ANSWERS))
     counts = collections.Counter(kind_of(*row) for row in rows)
     if counts != wanted():
         sys.exit(f"there are {len(rows)} lines, and not as many of each kind as are kept")
@@ -86,13 +88,18 @@ def check():
             sys.exit(f"{answer} is no answer")
 
 
+def write(rows):
+    """Writes the lines and the answers that are kept."""
+    (FOLDER / "stdin").write_bytes(EXAMPLE + b"".join(line + b"\n" for line, _ in rows) + END)
+    (FOLDER / "stdout").write_text(EXAMPLE_ANSWERS + "".join(answer + "\n" for _, answer in rows) + END_ANSWERS, encoding="ascii")
+
+
 def main():
     if files.is_check():
         return check()
     lines, answers = sys.argv[1:]
     rows = chosen(rows_of(*read(lines, answers)))
-    (FOLDER / "stdin").write_bytes(b"".join(line + b"\n" for line, _ in rows) + END)
-    (FOLDER / "stdout").write_text("".join(answer + "\n" for _, answer in rows) + END_ANSWERS, encoding="ascii")
+    write(rows)
 
 
 if __name__ == "__main__":
