@@ -73,7 +73,7 @@ def python_fields():
     out = [f'"""The fields, each a class of arrays. {WRITTEN}"""\n\nfrom ._arrays import FieldArray\n']
     for field in fields.FIELDS:
         out.append(f'\n\nclass {field.type_name}(FieldArray):\n    """Arrays over {field.about}.\n\n{made_of(field)}    """\n\n')
-        out.append(f'    degree = {field.bits}\n    _name = "{field.name}"\n    _word = "{field.word}"\n')
+        out.append(f'    __slots__ = ()\n    degree = {field.bits}\n    _name = "{field.name}"\n    _word = "{field.word}"\n')
         if field.partner:
             out.append(f'    _partner = "{field.partner.name}"\n')
         if field.is_batched:

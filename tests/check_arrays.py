@@ -9,6 +9,7 @@ import copy
 import doctest
 import io
 import operator
+import pickle
 import tempfile
 import tracemalloc
 import unittest
@@ -431,6 +432,10 @@ class Elements(unittest.TestCase):
             for it in (np.zeros_like(a), np.ones_like(a, shape=(2, 2)), np.where([True], a, 0), np.concatenate([a, [0]]), np.add.outer(a, a)):
                 self.assertIs(type(it), field)
             self.assertEqual((np.ones_like(a, shape=2).tolist(), np.concatenate([a, [0, 1]]).tolist()), ([1, 1], [1, 0, 1, 0, 1]))
+            self.assertEqual((np.append(a, 1).tolist(), np.append([0], a).tolist()), ([1, 0, 1, 1], [0, 1, 0, 1]))
+            square, same = (field.Identity(2),) * 2
+            square @= [[0, 1], [1, 1]]
+            self.assertEqual((square is same, same.tolist()), (True, [[0, 1], [1, 1]]))
             other = bf.Poly64 if field is not bf.Poly64 else bf.BinaryField64
             b = other([1, 0, 1])
             for mixed in (
@@ -438,7 +443,7 @@ class Elements(unittest.TestCase):
                 lambda: np.take(a, [0], out=b[:1]), lambda: np.where([True], a, b), lambda: np.dot(a, b), lambda: np.add(a, a, out=b),
                 lambda: np.add(a, a, out=np.zeros(3)), lambda: np.cumsum(a, out=np.zeros(3)), lambda: np.dot(a, a, out=b[0, ...]),
                 lambda: a.__setitem__(0, b[0]), lambda: np.convolve(a, b), lambda: np.add.at(a, [0], b[:1]), lambda: field([a[0], b[0]]),
-                lambda: field.evaluate(a, b), lambda: a.add_scaled(1, b), lambda: np.concatenate([a, [2]]), lambda: np.where([True], a, 2),
+                lambda: field.evaluate(a, b), lambda: a.add_scaled(1, b), lambda: np.concatenate([a, [2]]), lambda: np.append(a, 2), lambda: np.where([True], a, 2),
                 lambda: a + [0, 1, 2], lambda: [2, 0, 0] @ a, lambda: np.array([2, 0, 0]) @ a, lambda: a.dot([2, 0, 0]), lambda: a + None,
                 lambda: a + "1", lambda: a + 1.0, lambda: a * np.ones(3), lambda: a**a, lambda: 2**a, lambda: np.float64(1) * a,
                 lambda: np.sum(a, dtype=int), lambda: np.add(a, a, dtype=int), lambda: np.insert(a, 0, 1), lambda: np.mean(a), lambda: np.sort(a),
@@ -452,6 +457,38 @@ class Elements(unittest.TestCase):
             self.assertTrue(a[0] != other(1))
         for call in (lambda: bf.FieldArray([1]), lambda: bf.FieldArray.zeros(3), lambda: bf.FieldArray.random(), lambda: bf.FieldArray(1)):
             self.assertRaises(TypeError, call)
+
+    def test_formats(self):
+        a = bf.Rijndael8b([1, 0x53])
+        with bf.Rijndael8b.repr("poly"):
+            polynomial = f"{a[1]:>20}"
+        with bf.Rijndael8b.repr("int"):
+            decimal = f"{a:>4}"
+        self.assertEqual((f"{a:>6}", f"{a[1]:*^8}", f"{a:d}"), ("[   0x1,   0x53]", "**0x53**", "[1, 83]"))
+        self.assertEqual((polynomial, decimal, f"{a:06}"), (f"{'x^6 + x^4 + x + 1':>20}", "[   1,   83]", "[0x0001, 0x0053]"))
+        for shape in ((0,), (0, 3), (2, 0), (1, 0, 2)):
+            empty = bf.Gf2.zeros(shape)
+            self.assertEqual(eval(repr(empty), vars(bf)).shape, shape)
+
+    def test_subclasses(self):
+        # A field's subclass is that field with more to it; elements of both are mixed, and the first operand says which a result is.
+        for field in FIELDS.values():
+            own = type("Own", (field,), {})
+            a, b = own([1, 0, 1]), field([1, 1, 0])
+            self.assertEqual([type(it) for it in (a + b, b * a, np.concatenate([a, b]), field([a[0], b[0]]))], [own, field, own, field])
+            self.assertEqual(((a + b).tolist(), (a == b).tolist(), type(a.to(field))), ([0, 1, 1], [True, False, False], field))
+            a += b
+            self.assertEqual((a.tolist(), type(a)), ([0, 1, 1], own))
+
+    def test_attributes(self):
+        for field in FIELDS.values():
+            a = field([1, 0])
+            self.assertRaises(AttributeError, setattr, a, "x", 1)
+            for protocol in range(pickle.HIGHEST_PROTOCOL + 1):
+                again = pickle.loads(pickle.dumps(a, protocol))
+                self.assertEqual((type(again), again.tolist()), (field, [1, 0]))
+        with self.assertRaisesRegex(TypeError, r"^matrix_rank\(\)"):
+            np.linalg.matrix_rank(a.reshape(1, 2), tol=1)
 
     def test_every_bit_counts(self):
         for field in FIELDS.values():

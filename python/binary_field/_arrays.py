@@ -67,6 +67,7 @@ class FieldArray(Matrices):
     Rijndael8b(0x2)
     """
 
+    __slots__ = ()
     __hash__ = None  # type: ignore[assignment]
     # That of numpy's arrays: dask compares the priorities of chunks.
     __array_priority__ = 0.0
@@ -92,7 +93,7 @@ class FieldArray(Matrices):
 
     @classmethod
     def _is_meant(cls, item: Any) -> bool:
-        return type(item) is cls or isinstance(item, (int, np.integer, np.bool_)) and item in (0, 1)
+        return isinstance(item, FieldArray) and item._name == cls._name or isinstance(item, (int, np.integer, np.bool_)) and item in (0, 1)
 
     @staticmethod
     def _shape_of(*arrays: FieldArray, out: FieldArray | None = None) -> tuple[int, ...]:
@@ -267,6 +268,9 @@ class FieldArray(Matrices):
     def __rmatmul__(self: A, other: A | _Integers) -> A:
         return product(self._other(other), self)
 
+    def __imatmul__(self: A, other: A | _Integers) -> A:
+        return self._left_in(self, product(self, self._other(other)))
+
     def dot(self: A, other: Any, out: A | None = None) -> A:
         """The sums of products over the last axis of this array and the last but one of the other, which of vectors is its only one; the
         product place by place where either is one element.
@@ -344,7 +348,7 @@ class FieldArray(Matrices):
         """The result, or the array of its shape that it is left in."""
         if out is None:
             return result
-        if type(out) is not type(result):
+        if getattr(out, "_name", None) != result._name:
             raise TypeError(f"a result of {type(result).__name__} has no place in {type(out).__name__}")
         if out.shape != result.shape:
             raise ValueError(f"an array of shape {out.shape} cannot take a result of shape {result.shape}")
@@ -466,7 +470,7 @@ class FieldArray(Matrices):
     def __eq__(self, other: Any) -> Any:
         """Place by place, as numpy compares: with elements of the field, with integers by their representation; nothing else is equal."""
         if isinstance(other, FieldArray):
-            if type(other) is not type(self):
+            if other._name != self._name:
                 return NotImplemented
             return functools.reduce(operator.and_, (x == y for x, y in zip(self._parts(), other._parts())))
         if _is_left_to(other):

@@ -30,6 +30,8 @@ _LOGARITHM_BITS = 64
 class Facts(Stored):
     """What is known of elements beside arithmetic."""
 
+    __slots__ = ()
+
     @classmethod
     def is_primitive_element(cls, element: Any) -> bool:
         """Whether each element but 0 is a power of this one.
@@ -127,7 +129,7 @@ class Facts(Stored):
 
     def _restricted(self, subfield: Any) -> Any:
         """The elements of a subfield whose images in this field these are: `to` the other way."""
-        if subfield is type(self):
+        if subfield._name == self._name:
             return self
         if not self._is_in_tower():
             below: Any = self._narrowed(_FIELDS["p64"]) if self.degree == 192 else self.to(_FIELDS[self._partner or ""])

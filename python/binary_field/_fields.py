@@ -10,6 +10,7 @@ class Gf2(FieldArray):
     them, of integers of numpy, and of elements of a field that this one contains or is isomorphic to.
     """
 
+    __slots__ = ()
     degree = 1
     _name = "gf2"
     _word = "u8"
@@ -22,6 +23,7 @@ class BinaryField2(FieldArray):
     lists of them, of integers of numpy, and of elements of a field that this one contains or is isomorphic to.
     """
 
+    __slots__ = ()
     degree = 2
     _name = "t2"
     _word = "u8"
@@ -34,6 +36,7 @@ class BinaryField4(FieldArray):
     lists of them, of integers of numpy, and of elements of a field that this one contains or is isomorphic to.
     """
 
+    __slots__ = ()
     degree = 4
     _name = "t4"
     _word = "u8"
@@ -46,6 +49,7 @@ class BinaryField8(FieldArray):
     lists of them, of integers of numpy, and of elements of a field that this one contains or is isomorphic to.
     """
 
+    __slots__ = ()
     degree = 8
     _name = "t8"
     _word = "u8"
@@ -59,6 +63,7 @@ class BinaryField16(FieldArray):
     lists of them, of integers of numpy, and of elements of a field that this one contains or is isomorphic to.
     """
 
+    __slots__ = ()
     degree = 16
     _name = "t16"
     _word = "u16"
@@ -71,6 +76,7 @@ class BinaryField32(FieldArray):
     lists of them, of integers of numpy, and of elements of a field that this one contains or is isomorphic to.
     """
 
+    __slots__ = ()
     degree = 32
     _name = "t32"
     _word = "u32"
@@ -83,6 +89,7 @@ class BinaryField64(FieldArray):
     lists of them, of integers of numpy, and of elements of a field that this one contains or is isomorphic to.
     """
 
+    __slots__ = ()
     degree = 64
     _name = "t64"
     _word = "u64"
@@ -96,6 +103,7 @@ class BinaryField128(FieldArray):
     nested lists of them, of integers of numpy, and of elements of a field that this one contains or is isomorphic to.
     """
 
+    __slots__ = ()
     degree = 128
     _name = "t128"
     _word = "u128"
@@ -109,6 +117,7 @@ class Rijndael8b(FieldArray):
     lists of them, of integers of numpy, and of elements of a field that this one contains or is isomorphic to.
     """
 
+    __slots__ = ()
     degree = 8
     _name = "r8"
     _word = "u8"
@@ -122,6 +131,7 @@ class Poly64(FieldArray):
     of them, of integers of numpy, and of elements of a field that this one contains or is isomorphic to.
     """
 
+    __slots__ = ()
     degree = 64
     _name = "p64"
     _word = "u64"
@@ -136,6 +146,7 @@ class Ghash128(FieldArray):
     lists of them, of integers of numpy, and of elements of a field that this one contains or is isomorphic to.
     """
 
+    __slots__ = ()
     degree = 128
     _name = "g128"
     _word = "u128"
@@ -150,6 +161,7 @@ class Poly192(FieldArray):
     lists of them, of integers of numpy, and of elements of a field that this one contains or is isomorphic to.
     """
 
+    __slots__ = ()
     degree = 192
     _name = "p192"
     _word = "u192"

@@ -28,6 +28,8 @@ _FEW = 4
 class Matrices(Facts):
     """What arrays of elements are as matrices."""
 
+    __slots__ = ()
+
     # ---- making
 
     @classmethod

@@ -187,7 +187,7 @@ def _moving(function: Function) -> Function:
 
 
 _MOVING: tuple[Any, ...] = (
-    np.append, np.array_split, np.atleast_1d, np.atleast_2d, np.atleast_3d, np.block, np.broadcast_arrays, np.broadcast_to, np.column_stack, np.compress,
+    np.array_split, np.atleast_1d, np.atleast_2d, np.atleast_3d, np.block, np.broadcast_arrays, np.broadcast_to, np.column_stack, np.compress,
     np.concatenate, np.copy, np.delete, np.diag, np.diagflat, np.diagonal, np.dstack, np.expand_dims, np.extract, np.flip, np.fliplr, np.flipud,
     np.hsplit, np.hstack, np.lib.stride_tricks.sliding_window_view, np.meshgrid, np.moveaxis, np.ravel, np.repeat, np.reshape, np.resize, np.roll, np.rollaxis, np.rot90, np.split, np.squeeze, np.stack,
     np.swapaxes, np.take, np.take_along_axis, np.tile, np.transpose, np.tril, np.triu, np.vsplit, np.vstack,
@@ -223,6 +223,11 @@ def _where(condition: Any, *both: Any) -> Any:
     field = _field_of(*both)
     left, right = (field._other(it)._words for it in both)
     return field._of(np.where(condition, left, right))
+
+
+def _append(arr: Any, values: Any, axis: Any = None) -> FieldArray:
+    field = _field_of(arr, values)
+    return field._of(np.append(field._other(arr)._words, field._other(values)._words, axis))
 
 
 def _whole_product(long: Any, short: Any) -> Any:
@@ -273,6 +278,7 @@ FUNCTIONS.update({it: _moving(it) for it in _MOVING})
 FUNCTIONS.update({it: _on_words(it) for it in _ON_WORDS})
 FUNCTIONS.update({it: _on_nonzero(it) for it in _ON_NONZERO})
 FUNCTIONS.update({
+    np.append: _append,
     np.array_equal: _array_equal,
     np.convolve: _convolve,
     np.cumprod: lambda a, *more, **options: a.cumprod(*more, **options),
@@ -296,3 +302,6 @@ FUNCTIONS.update({
     np.where: _where,
     np.zeros_like: _filled("zeros"),
 })
+# What a wrong argument is told of has the name that the caller knows.
+for _known, _own in FUNCTIONS.items():
+    _own.__name__ = _own.__qualname__ = _known.__name__

@@ -5,6 +5,7 @@ from __future__ import annotations
 import contextlib
 import functools
 import operator
+import re
 from typing import Any, Callable, Final, Iterator, Sequence, TypeVar, Union
 
 import numpy as np
@@ -16,6 +17,8 @@ Shape = Union[int, Sequence[int]]
 
 # The format of each way to print elements.
 _SPECS = {"hex": "#x", "int": "d", "poly": "p", "power": "g"}
+# A format of integers: fill, alignment and sign, the mark of the base, width and grouping, and the type.
+_FORMAT = re.compile(r"((?:.?[<>=^])?[-+ ]?)(#?)([^a-zA-Z%]*)([a-zA-Z%]?)", re.DOTALL)
 # An array of more elements is printed by its first and last three.
 _PRINTED = 1000
 # The fields by their names in the library.
@@ -83,6 +86,8 @@ def _of_words(name: str) -> Any:
 class Stored(metaclass=_Constants):
     """What arrays of elements are but for arithmetic, which FieldArray adds."""
 
+    __slots__ = ("__weakref__", "_words")
+
     degree: int
     _name: str
     _word: str
@@ -136,7 +141,7 @@ class Stored(metaclass=_Constants):
     @classmethod
     def _integer(cls, value: Any) -> int:
         if isinstance(value, Stored):
-            if type(value) is not cls:
+            if value._name != cls._name:
                 raise TypeError(f"cannot make an array of {cls.__name__} from a list of elements of {type(value).__name__}")
             return int(value)
         number = int(value, 16) if isinstance(value, str) else operator.index(value)
@@ -247,8 +252,8 @@ class Stored(metaclass=_Constants):
         """
         if not (isinstance(field, _Constants) and hasattr(field, "_name")):
             raise TypeError("elements are converted to a field, a class as BinaryField8")
-        if field is type(self):
-            return self
+        if field._name == self._name:
+            return self if type(self) is field else field._of(self._words)
         if self._partner == field._name:
             result = field.zeros(self.shape)
             call(f"{self._name}_to_{field._name}", self._words, result._words)
@@ -390,7 +395,12 @@ class Stored(metaclass=_Constants):
             flat[at] = it
         return flat.reshape(self.shape)
 
+    def __reduce__(self) -> Any:
+        return self._of, (self._words,)
+
     def __repr__(self) -> str:
+        if not self.size and self.ndim > 1:
+            return f"{type(self).__name__}.zeros({self.shape})"
         return f"{type(self).__name__}({self})"
 
     def __str__(self) -> str:
@@ -398,18 +408,20 @@ class Stored(metaclass=_Constants):
 
     def __format__(self, spec: str) -> str:
         """The representations, each by a format of integers, as `#x`; or `p`, polynomials, of a field that is of polynomials over GF(2); or
-        `g`, powers of the primitive element, of a field of up to 64 bits. Where none is given, it is what `repr` said last.
+        `g`, powers of the primitive element, of a field of up to 64 bits. Where no type is named, it is what `repr` said last.
 
         >>> f"{bf.BinaryField8([1, 255]):08b}"
         '[00000001, 11111111]'
+        >>> f"{bf.BinaryField8([1, 255]):>6}"
+        '[   0x1,   0xff]'
         >>> f"{bf.Rijndael8b(0x53):p}"
         'x^6 + x^4 + x + 1'
         """
-        spec = spec or self._spec
-        if spec == "p" and (self._is_in_tower() or self.degree == 192):
+        spec = _completed(spec, self._spec)
+        if spec[-1] == "p" and (self._is_in_tower() or self.degree == 192):
             raise ValueError(f"elements of {type(self).__name__} are no polynomials over GF(2)")
         if self.size <= _PRINTED:
-            return _shown(self._exponents() if spec == "g" else self.tolist(), spec)
+            return _shown(self._exponents() if spec[-1] == "g" else self.tolist(), spec)
         first, last = (format(self._of(self._words.flat[at]), spec)[1:-1] for at in (slice(3), slice(-3, None)))
         return f"[{first}, .., {last}], {self.size} elements of shape {self.shape}"
 
@@ -552,18 +564,27 @@ class Stored(metaclass=_Constants):
     def _operand(cls: type[S], value: Any) -> S:
         """An array of this field, of representations where it is not one already."""
         if isinstance(value, Stored):
-            if type(value) is not cls:
+            if value._name != cls._name:
                 raise TypeError(f"{cls.__name__} and {type(value).__name__} cannot be mixed; convert with .to()")
-            return value
+            return value if isinstance(value, cls) else cls._of(value._words)
         return cls(value)
+
+
+def _completed(spec: str, default: str) -> str:
+    """A format with the type of the default one, where it names none."""
+    found = _FORMAT.fullmatch(spec)
+    if found is None or found[4]:
+        return spec
+    mark = "#" if "#" in found[2] + default else ""
+    return f"{found[1]}{mark}{found[3]}{default[-1]}"
 
 
 def _shown(values: Any, spec: str) -> str:
     if isinstance(values, list):
         return f"[{', '.join(_shown(it, spec) for it in values)}]"
-    if spec == "g":
-        return "0" if values < 0 else "1" if values == 0 else "g" if values == 1 else f"g^{values}"
-    if spec != "p":
+    if spec[-1] == "g":
+        return format("0" if values < 0 else "1" if values == 0 else "g" if values == 1 else f"g^{values}", spec[:-1])
+    if spec[-1] != "p":
         return format(values, spec)
     powers = [f"x^{i}" if i > 1 else "x" if i else "1" for i in reversed(range(values.bit_length())) if values >> i & 1]
-    return " + ".join(powers) or "0"
+    return format(" + ".join(powers) or "0", spec[:-1])
