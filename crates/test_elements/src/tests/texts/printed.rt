@@ -44,6 +44,11 @@ fn elements_print_their_type_and_their_number(rt: HostRuntime) {
             && element_prints::<u8, RijndaelKernel>(alloc, 83, "Rijndael8b { repr: 83 }")
             && element_prints::<u64, Poly64Kernel>(alloc, 7, "Poly64 { repr: 7 }")
             && element_prints::<u128, GhashKernel>(alloc, 7, "Ghash128 { repr: 7 }")
+            && prints_as_debug(
+                alloc,
+                &Poly192::new([Poly64::new(1), Poly64::new(2), Poly64::new(3)]),
+                "Poly192 { repr: Triple { c0: 1, c1: 2, c2: 3 } }"
+            )
     );
 }
 
