@@ -8,7 +8,6 @@ use Rattle.additive_transforms.specs.Elements.{FitsField}
 use Rattle.additive_transforms.specs.Stages.{IsButterfly, TakesBlock}
 use Rattle.additive_transforms.specs.Transform.{HasStages}
 use Rattle.field_base.specs.Tower.{tower_mul}
-use Rattle.ghash_slices.specs.Cantor.{subspace_value}
 use Rattle.ghash_slices.specs.LowStages.{ghash_product}
 use Rattle.additive_transforms.specs.Images.{after_change, before_change, tower_image}
 use Rattle.word_tables.proofs.Isomorphisms.{isomorphic_128}
@@ -31,15 +30,6 @@ low_image n =
     ap tower_image (sym ((tower_ring 7).one n)) ∙ product_image 1 n
     ∙ ap (λ (unit : ℕ). ghash_product unit (tower_image n)) isomorphic_128.homomorphism.one_image
     ∙ ghash_ring.one (tower_image n) ∙ mod-eq_of_lt (isomorphic_128.homomorphism.below n)
-
--- each s_j of the image is the image of that of the element
-pub shift_image : (j z : ℕ) → tower_image (subspace_value (tower_mul 7) j z) ≡ subspace_value ghash_product j (tower_image z)
-unfolding subspace_value
-shift_image zero z = refl
-shift_image (suc j) z =
-    let below = shift_image j z in
-    sum_image (tower_mul 7 (subspace_value (tower_mul 7) j z) (subspace_value (tower_mul 7) j z)) (subspace_value (tower_mul 7) j z)
-    ∙ ap₂ bit_xor (product_image (subspace_value (tower_mul 7) j z) (subspace_value (tower_mul 7) j z) ∙ ap₂ ghash_product below below) below
 
 -- ---- butterflies
 

@@ -1,5 +1,5 @@
 -- Products by scalars of lower levels, in the bits of a level.
-use Rattle.std.proofs.Common.{◌≡◌, ℕ, suc, ◌+◌, ◌-◌, ◌%◌, ◌^◌, ◌<◌, ◌≤◌, Bool, false, true, [], ◌∷◌, refl, sym, ◌∙◌, ap, subst, arith, lit<}
+use Rattle.std.proofs.Common.{◌≡◌, ℕ, ◌+◌, ◌-◌, ◌%◌, ◌^◌, ◌<◌, ◌≤◌, Bool, false, true, [], ◌∷◌, refl, sym, ◌∙◌, ap, subst, arith, lit<}
 use Rattle.std.specs.Prelude.{bit_xor, slice_index}
 use Rattle.std.proofs.Math.Pow.{mod-mod-pow, pow_mono}
 use Rattle.std.proofs.lemmas.Nat.{pow_pos, xor_mod}
@@ -11,7 +11,6 @@ use Rattle.field_base.proofs.Coefficients.{scales_coefficients}
 use Rattle.field_base.proofs.RingLemmas.{times-mod}
 use Rattle.field_base.proofs.TowerProducts.{level-lt}
 use Rattle.field_base.proofs.TowerRing.{tower_ring}
-use Rattle.ghash_slices.specs.Cantor.{subspace_value}
 use Rattle.ghash_slices.specs.Stages.{add_multiple}
 use Rattle.field_base.proofs.ChunkLists.{chunk-first}
 
@@ -50,24 +49,6 @@ multiple_in_level k s x y product sum is product_is =
 -- a sum of numbers, in the bits of the level
 pub sum_in_level : (k x y sum : ℕ) → sum ≡ bit_xor x y → sum % 2 ^ 2 ^ k ≡ bit_xor (x % 2 ^ 2 ^ k) (y % 2 ^ 2 ^ k)
 sum_in_level k x y sum is = ap (λ (z : ℕ). z % 2 ^ 2 ^ k) is ∙ xor_mod x y (2 ^ k)
-
--- s_0 is its argument
-pub no_shift : (k z : ℕ) → z ≡ subspace_value (tower_mul k) 0 z
-unfolding subspace_value
-no_shift k z = refl
-
-one_more : (k z j : ℕ) → bit_xor (tower_mul k (subspace_value (tower_mul k) j z) (subspace_value (tower_mul k) j z)) (subspace_value (tower_mul k) j z)
-    ≡ subspace_value (tower_mul k) (suc j) z
-unfolding subspace_value
-one_more k z j = refl
-
--- and each further one is the sum of the one before it and its square
-pub next_shift : (k z j before square after : ℕ) → before ≡ subspace_value (tower_mul k) j z → square ≡ tower_mul k before before
-    → after ≡ bit_xor square before → after ≡ subspace_value (tower_mul k) (j + 1) z
-next_shift k z j before square after is square_is after_is =
-    let next : suc j ≡ j + 1 = omega arith in
-    after_is ∙ ap (λ (x : ℕ). bit_xor x before) square_is ∙ ap (λ (x : ℕ). bit_xor (tower_mul k x x) x) is ∙ one_more k z j
-    ∙ ap (λ (n : ℕ). subspace_value (tower_mul k) n z) next
 
 -- the butterfly of a pair by its numbers
 pub same_pair : (inverse : Bool) (times : ℕ → ℕ → ℕ) (s a b c d a' b' c' d' : ℕ) → a ≡ a' → b ≡ b' → c ≡ c' → d ≡ d'

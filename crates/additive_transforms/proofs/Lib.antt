@@ -24,6 +24,7 @@ pub mod PairLoops
 pub mod PointSums
 mod ScalarHalves
 mod Scalars
+pub mod SubspaceSteps
 mod Tables
 pub mod TwiddleWidths
 mod UnitFacts

@@ -4,7 +4,6 @@ ghost use Rattle.std.proofs.lemmas.Nat.{pow_pos};
 ghost use native.Mathlib.Nat.{mod-lt};
 ghost use Rattle.field_base.proofs.TowerRing.{tower_ring};
 ghost use Rattle.field_base.specs.Tower.{tower_mul};
-ghost use Rattle.ghash_slices.specs.Cantor.{subspace_value};
 ghost use Rattle.additive_transforms.specs.LevelVectors.{level_vectors};
 ghost use Rattle.additive_transforms.specs.Words.{TakesWords, cantor_vector, level_element};
 
@@ -50,8 +49,8 @@ impl<R: Unsigned, L: Level<R>, W: WordBytes<R>> StageArithmetic for OfLevel<R, L
         <Tower<L> as LevelKernel<R>>::cantor_vector(i)
     }
 
-    fn shift(z: R, stage: usize) -> R {
-        shift_of::<R, L>(z, stage)
+    fn square(x: R) -> R {
+        L::square(x)
     }
 
     fn butterflies(lo: &mut [W], hi: &mut [W], twiddle: R, inverse: bool) {
@@ -65,17 +64,6 @@ impl<R: Unsigned, L: Level<R>, W: WordBytes<R>> StageArithmetic for OfLevel<R, L
     ghost vector_law = { level_vectors L.LEVEL L.few };
 
     ghost range_law = { λ x. mod-lt (W.Reads.number x) (pow_pos (2 ^ L.LEVEL)) };
-}
-
-// s_j(z), where s_0(z) = z and s_(j + 1)(z) = s_j(z)^2 + s_j(z).
-pub(crate) fn shift_of<R: Unsigned, L: Level<R>>(z: R, stage: usize) -> R
-    ensures { R.number result ≡ subspace_value (tower_mul L.LEVEL) stage (R.number z) }
-{
-    let mut shift = z;
-    for _ in 0..stage {
-        shift = L::square(shift).xor(shift);
-    }
-    shift
 }
 
 /// The butterflies of the halves of a block: products by 8, 16 or 32 bits in vectors where the twiddle has no more, and whole ones

@@ -5,13 +5,13 @@ ghost use Rattle.ghash_slices.specs.LowStages.{ghash_cantor_vector, ghash_produc
 ghost use Rattle.additive_transforms.specs.ImageLemmas.{ghash_ring_laws, ghash_vector_laws, image_fits};
 ghost use Rattle.additive_transforms.specs.Images.{after_change, before_change, tower_image};
 
-use crate::arithmetic::{run_block, shift_of};
+use crate::arithmetic::run_block;
 use crate::elements::arithmetic::StageArithmetic;
 use field_base::Holds;
 use ghash_slices::{number_at, put_number};
 use std::marker::PhantomData;
 use word_tables::{to_polynomial_128, to_tower_128};
-use word_tower::Bits128;
+use word_tower::{Bits128, Level};
 
 /// The arithmetic of the tower's level of 128 bits, where a word stands for the image of the element that it holds.
 pub(crate) struct OfImages<W>(PhantomData<W>);
@@ -41,8 +41,8 @@ impl<W: Holds<u128>> StageArithmetic for OfImages<W> {
         word_tables::cantor_vector(i)
     }
 
-    fn shift(z: u128, stage: usize) -> u128 {
-        shift_of::<u128, Bits128>(z, stage)
+    fn square(x: u128) -> u128 {
+        <Bits128 as Level<u128>>::square(x)
     }
 
     fn butterflies(lo: &mut [W], hi: &mut [W], twiddle: u128, inverse: bool) {

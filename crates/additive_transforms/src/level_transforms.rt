@@ -3,11 +3,13 @@ ghost use Rattle.std.specs.Prelude.{◌≡◌, ◌^◌, length, map};
 ghost use Rattle.additive_transforms.specs.Elements.{FitsField};
 ghost use Rattle.additive_transforms.specs.Transform.{AreTheCoefficients, HoldValuesAtPoints};
 ghost use Rattle.field_base.specs.Tower.{tower_mul};
+ghost use Rattle.ghash_slices.specs.Cantor.{subspace_value};
 ghost use Rattle.additive_transforms.specs.Words.{cantor_vector, level_element};
 
 use crate::arithmetic::OfLevel;
+use crate::elements::arithmetic::StageArithmetic;
 use crate::elements::whole::{forward_by, inverse_by};
-use crate::word_bytes::WordBytes;
+use crate::word_bytes::{StoredBytes, WordBytes};
 use field_base::Unsigned;
 use word_tower::Level;
 
@@ -35,4 +37,12 @@ pub fn inverse_level<R: Unsigned, L: Level<R>, W: WordBytes<R>>(words: &mut [W],
     ensures length { length words.new ≡ length words.old }
 {
     inverse_by::<OfLevel<R, L, W>>(words, z);
+}
+
+/// s_`stage`(z) over the level `L` of the tower, where s_0(z) = z and s_(j + 1)(z) = s_j(z)^2 + s_j(z): the twiddle of the first block of a
+/// stage of `forward_level`. It takes as many squares.
+pub fn level_shift<R: StoredBytes, L: Level<R>>(z: R, stage: usize) -> R
+    ensures { R.Stored.number result ≡ subspace_value (tower_mul L.LEVEL) stage (R.Stored.number z) }
+{
+    OfLevel::<R, L, R>::shift(z, stage)
 }

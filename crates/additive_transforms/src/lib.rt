@@ -53,7 +53,7 @@ pub use crate::elements::whole::{forward_elements, inverse_elements};
 pub use crate::ghash::{forward, forward_numbers, inverse, inverse_numbers, transform_ghash};
 pub use crate::kernel::{Kernel, PolyKernel, WordKernel};
 pub use crate::laws::{twiddles_lie_in_subfield, values_commute_with_images};
-pub use crate::level_transforms::{forward_level, inverse_level};
+pub use crate::level_transforms::{forward_level, inverse_level, level_shift};
 pub use crate::multiples::{ByteMultiples, HalfMultiples};
 pub use crate::pair::Pair;
 pub use crate::pairs::{PairByPair, PairKernel, low_stages};

@@ -20,6 +20,7 @@ impl Twiddles {
     pub(crate) fn new(z: u128) -> Twiddles
         ensures { result.z ≡ z }
     {
+        // One square from the shift before it, where `shift` begins anew for each stage.
         let mut shifts = [z; 40];
         for j in 1..40 {
             shifts[j] = square_mod_128(shifts[j - 1]) ^ shifts[j - 1];

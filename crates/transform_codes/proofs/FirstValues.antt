@@ -12,6 +12,7 @@ use Rattle.additive_transforms.specs.Elements.{level_shifts, twiddle_basis}
 use Rattle.additive_transforms.proofs.CantorSums.{value-halves, value-one, value-same}
 use Rattle.additive_transforms.proofs.Carries.{no_image}
 use Rattle.additive_transforms.proofs.ElementStages.{basis_length, level_twiddles, shift_at}
+use Rattle.additive_transforms.proofs.SubspaceSteps.{first_subspace_value}
 use Rattle.field_base.proofs.AdditiveMaps.{keeps_zero}
 use Rattle.field_base.proofs.RingLemmas.{zero-times}
 use Rattle.field_base.proofs.TowerRing.{tower_ring}
@@ -34,25 +35,6 @@ halves_fit bits j columns words half some positive all half_is =
     let least : 1 * 1 ≤ 2 ^ j * columns = mul-le-mul (pow_pos j) some in
     let twice = ap (λ (n : ℕ). n * columns) (two-pow-succ j) in
     (1, (omega arith, omega (arith, least, half_is), omega (arith, all, twice, half_is)), omega (arith, positive))
-
--- ---- s_j as it is computed
-
-pub value_start : (k z : ℕ) → z ≡ subspace_value (tower_mul k) 0 z
-unfolding subspace_value
-value_start k z = refl
-
-next_value : (k z j : ℕ) → bit_xor (tower_mul k (subspace_value (tower_mul k) j z) (subspace_value (tower_mul k) j z)) (subspace_value (tower_mul k) j z)
-    ≡ subspace_value (tower_mul k) (suc j) z
-unfolding subspace_value
-next_value k z j = refl
-
--- one more turn
-pub value_more : (k z j before square after : ℕ) → before ≡ subspace_value (tower_mul k) j z → square ≡ tower_mul k before before
-    → after ≡ bit_xor square before → after ≡ subspace_value (tower_mul k) (j + 1) z
-value_more k z j before square after is square_is after_is =
-    let next : suc j ≡ j + 1 = omega arith in
-    after_is ∙ ap (λ (x : ℕ). bit_xor x before) square_is ∙ ap (λ (x : ℕ). bit_xor (tower_mul k x x) x) is ∙ next_value k z j
-    ∙ ap (λ (n : ℕ). subspace_value (tower_mul k) n z) next
 
 module _ (level : ℕ) (low : level ≤ 7) where
   abbrev times : ℕ → ℕ → ℕ
@@ -174,7 +156,7 @@ module _ (level : ℕ) (low : level ≤ 7) where
           fits i within r small = subst (λ (v : ℕ). v < 2 ^ 2 ^ level) (sym (row i within r small)) (element-lt (get_or old (r * half + i) nil))
 
           scalar : subspace_value times 0 (at t 0) ≡ t
-          scalar = first_values 0 t 0 wide (lit< tt) ∙ sym (value_start level t)
+          scalar = first_values 0 t 0 wide (lit< tt) ∙ sym (first_subspace_value (tower_mul level) t)
 
       -- so the values of the polynomials of the lower half are those of the whole
       pub first_step : (few z : ℕ) → few ≤ j → j < 2 ^ level → t ≡ subspace_value times j z → (lower rest new others : List W)

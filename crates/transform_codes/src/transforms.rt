@@ -2,11 +2,10 @@
 ghost use Rattle.std.specs.Prelude.{◌≡◌, ◌*◌, ◌^◌, ◌<◌, ◌≤◌, ℕ, length};
 ghost use Rattle.additive_transforms.specs.Columns.{FitsColumns};
 ghost use Rattle.field_base.specs.Tower.{tower_mul};
-ghost use Rattle.ghash_slices.specs.Cantor.{subspace_value};
 ghost use Rattle.additive_transforms.specs.Words.{level_element};
 ghost use Rattle.transform_codes.specs.Columns.{AreWordCoefficients, HoldFirstValues, HoldWordValues};
 
-use additive_transforms::{StoredBytes, forward_level_columns, inverse_level_columns};
+use additive_transforms::{StoredBytes, forward_level_columns, inverse_level_columns, level_shift};
 use word_tower::Level;
 
 // From the coefficients of each column to the values at the points from `z` on.
@@ -54,18 +53,7 @@ pub(crate) fn forward_first<R: StoredBytes, L: Level<R>>(
     }
     let stage = levels - 1;
     let half = words.len() / 2;
-    forward_strip::<R, L>(words, half, subspace_value::<R, L>(z, stage));
+    forward_strip::<R, L>(words, half, level_shift::<R, L>(z, stage));
     let (lower, _upper) = words.split_at_mut(half);
     forward_first::<R, L>(lower, columns, stage, few, z);
-}
-
-// s_j(z), where s_0(z) = z and s_(j + 1)(z) = s_j(z)^2 + s_j(z): the twiddle of the first block of stage j.
-fn subspace_value<R: StoredBytes, L: Level<R>>(z: R, j: usize) -> R
-    ensures { R.Stored.number result ≡ subspace_value (tower_mul L.LEVEL) j (R.Stored.number z) }
-{
-    let mut value = z;
-    for _ in 0..j {
-        value = L::square(value).xor(value);
-    }
-    value
 }

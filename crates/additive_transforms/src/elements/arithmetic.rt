@@ -6,7 +6,6 @@ ghost use Rattle.ghash_slices.specs.Cantor.{subspace_value};
 ghost use Rattle.additive_transforms.specs.Stages.{TakesBlock};
 
 use crate::elements::pairs::run_pairs;
-use crate::over::subspace_value;
 use field_base::traits::TowerLevel;
 use std::marker::PhantomData;
 
@@ -40,9 +39,20 @@ pub(crate) trait StageArithmetic {
         requires { i < width }
         ensures { number result ≡ vector i };
 
-    /// The shift of a stage of the transform whose points begin at `z`: s_j(z).
+    /// The square.
+    fn square(x: Self::Twiddle) -> Self::Twiddle
+        ensures { number result ≡ product (number x) (number x) };
+
+    /// The shift of a stage of the transform whose points begin at `z`: s_j(z), where s_0(z) = z and s_(j + 1)(z) = s_j(z)^2 + s_j(z).
     fn shift(z: Self::Twiddle, stage: usize) -> Self::Twiddle
-        ensures { number result ≡ subspace_value product stage (number z) };
+        ensures { number result ≡ subspace_value product stage (number z) }
+    {
+        let mut value = z;
+        for _ in 0..stage {
+            value = Self::sum(Self::square(value), value);
+        }
+        value
+    }
 
     /// The forward butterfly of each pair of places, `lo += twiddle * hi` and then `hi += lo`, or, where `inverse` is true, the inverse one,
     /// `hi += lo` and then `lo += twiddle * hi`. Both slices, the halves of a block, have to be of one length.
@@ -93,8 +103,8 @@ impl<F: TowerLevel> StageArithmetic for OfElements<F> {
         F::cantor_basis(i)
     }
 
-    fn shift(z: F, stage: usize) -> F {
-        subspace_value(z, stage)
+    fn square(x: F) -> F {
+        x.square()
     }
 
     fn butterflies(lo: &mut [F], hi: &mut [F], twiddle: F, inverse: bool) {

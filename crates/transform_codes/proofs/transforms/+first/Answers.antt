@@ -65,7 +65,7 @@ returns-clause-values g t c =
     let new : List _ = c.forward_first.new.words ++ others in
     λ k inside.
     subst (λ (n : ℕ). HoldFirstValues (level_element number level) zero level n few z columns k old new) next
-    (first_step level g.L.Level.few number zero stage columns half half_is (number c.subspace_value.result) old mid count
+    (first_step level g.L.Level.few number zero stage columns half half_is (number c.level_shift.result) old mid count
     c.forward_strip-2.ensures.length c.forward_strip-2.ensures.values few z (omega (arith, c.requires.first, c.if-levels-few.false))
-    (omega (arith, c.requires.points, next)) c.subspace_value.ensures halves.result.0.now others c.forward_first.new.words others halves.ensures.value
+    (omega (arith, c.requires.points, next)) c.level_shift.ensures halves.result.0.now others c.forward_first.new.words others halves.ensures.value
     halves.ensures.front_len c.forward_first.ensures.length k inside (c.forward_first.ensures.values k inside))
