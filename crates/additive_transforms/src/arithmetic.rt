@@ -54,7 +54,7 @@ impl<R: Unsigned, L: Level<R>, W: WordBytes<R>> StageArithmetic for OfLevel<R, L
     }
 
     fn butterflies(lo: &mut [W], hi: &mut [W], twiddle: R, inverse: bool) {
-        run_block::<R, L, W>(lo, hi, twiddle, inverse);
+        butterflies_by_width::<R, L, W>(lo, hi, twiddle, inverse);
     }
 
     ghost wide_law = { pow_pos L.LEVEL };
@@ -69,7 +69,7 @@ impl<R: Unsigned, L: Level<R>, W: WordBytes<R>> StageArithmetic for OfLevel<R, L
 /// The butterflies of the halves of a block: products by 8, 16 or 32 bits in vectors where the twiddle has no more, and whole ones
 /// otherwise. The lowest stages have blocks of few pairs, so that a call of its own would count.
 #[inline(always)]
-pub(crate) fn run_block<R: Unsigned, L: Level<R>, W: WordBytes<R>>(
+pub(crate) fn butterflies_by_width<R: Unsigned, L: Level<R>, W: WordBytes<R>>(
     lo: &mut [W],
     hi: &mut [W],
     twiddle: R,

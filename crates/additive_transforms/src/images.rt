@@ -5,7 +5,7 @@ ghost use Rattle.ghash_slices.specs.LowStages.{ghash_cantor_vector, ghash_produc
 ghost use Rattle.additive_transforms.specs.ImageLemmas.{ghash_ring_laws, ghash_vector_laws, image_fits};
 ghost use Rattle.additive_transforms.specs.Images.{after_change, before_change, tower_image};
 
-use crate::arithmetic::run_block;
+use crate::arithmetic::butterflies_by_width;
 use crate::elements::arithmetic::StageArithmetic;
 use field_base::Holds;
 use ghash_slices::{number_at, put_number};
@@ -46,7 +46,7 @@ impl<W: Holds<u128>> StageArithmetic for OfImages<W> {
     }
 
     fn butterflies(lo: &mut [W], hi: &mut [W], twiddle: u128, inverse: bool) {
-        run_block::<u128, Bits128, W>(lo, hi, twiddle, inverse);
+        butterflies_by_width::<u128, Bits128, W>(lo, hi, twiddle, inverse);
     }
 
     ghost wide_law = { lit< tt };

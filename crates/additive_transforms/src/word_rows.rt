@@ -157,14 +157,14 @@ pub(crate) fn run_words<R: Unsigned, L: Level<R>, W: WordBytes<R>, M: Scales>(
         → TakesWords W.Holds.number L.LEVEL inverse s lo.old hi.old lo.new hi.new }
 {
     let multiples = &scalar.multiples;
-    let wide = run_blocks::<R, W, M, TwoVectors>(lo, hi, 0, multiples, inverse);
-    let narrow = run_blocks::<R, W, M, u8x16>(lo, hi, wide, multiples, inverse);
+    let wide = run_vectors::<R, W, M, TwoVectors>(lo, hi, 0, multiples, inverse);
+    let narrow = run_vectors::<R, W, M, u8x16>(lo, hi, wide, multiples, inverse);
     run_pairs(lo, hi, narrow, scalar, inverse);
 }
 
 // The butterflies from the word `first` on, block by block, as far as there are whole blocks; the word behind them is returned.
 #[inline(always)]
-fn run_blocks<R: Stored, W: WordBytes<R>, M: Scales, B: WordBlock<R, W>>(
+fn run_vectors<R: Stored, W: WordBytes<R>, M: Scales, B: WordBlock<R, W>>(
     lo: &mut [W],
     hi: &mut [W],
     first: usize,

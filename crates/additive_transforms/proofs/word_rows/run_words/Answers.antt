@@ -14,10 +14,10 @@ returns-clause-values g c s is =
     let hi = c.args.hi.now in
     let few = level_within k (level_of g.W.WordBytes.size)
     (subst (λ (bits : ℕ). 2 ^ k ≤ bits) g.met.W.WordBytes.bits_law g.met.L.Level.room_law) in
-    let long = c.run_blocks-narrow.ensures.lower ∙ c.run_blocks-wide.ensures.lower in
-    taken_ends element (tower_mul k) s (length c.run_blocks-narrow.new.lo) lo hi c.run_pairs.new.lo c.run_pairs.new.hi c.requires
+    let long = c.run_vectors-narrow.ensures.lower ∙ c.run_vectors-wide.ensures.lower in
+    taken_ends element (tower_mul k) s (length c.run_vectors-narrow.new.lo) lo hi c.run_pairs.new.lo c.run_pairs.new.hi c.requires
     (omega (arith, long)) c.args.inverse
     (c.run_pairs.ensures.values s is (map element lo) (map element hi)
-    (c.run_blocks-narrow.ensures.values s is.0 is.1 k is.2 few (map element lo) (map element hi)
-    (c.run_blocks-wide.ensures.values s is.0 is.1 k is.2 few (map element lo) (map element hi)
+    (c.run_vectors-narrow.ensures.values s is.0 is.1 k is.2 few (map element lo) (map element hi)
+    (c.run_vectors-wide.ensures.values s is.0 is.1 k is.2 few (map element lo) (map element hi)
     (pairs_start (taken_pair c.args.inverse (tower_mul k) s) (map element lo) (map element hi)))))

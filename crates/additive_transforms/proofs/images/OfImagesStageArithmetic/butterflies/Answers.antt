@@ -7,4 +7,4 @@ pub returns-clause-values : goal.returns-clause-values
 returns-clause-values g c =
     let number = g.W.Reads.number in
     block_of_images (level_element number 7) number (λ x. low_image (number x)) c.args.inverse c.args.twiddle
-    (length c.args.lo.now) c.args.lo.now c.args.hi.now c.run_block.new.lo c.run_block.new.hi c.run_block.ensures.values
+    (length c.args.lo.now) c.args.lo.now c.args.hi.now c.butterflies_by_width.new.lo c.butterflies_by_width.new.hi c.butterflies_by_width.ensures.values

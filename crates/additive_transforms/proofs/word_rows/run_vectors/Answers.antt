@@ -2,7 +2,7 @@ use Rattle.std.proofs.Common.{◌≡◌, ℕ, ◌+◌, ◌-◌, ◌*◌, ◌/◌
 use Rattle.additive_transforms.proofs.PairLoops.{PairsSoFar, taken_pair}
 use Rattle.field_base.specs.Tower.{tower_mul}
 use Rattle.additive_transforms.specs.Words.{level_element}
-use Rattle.additive_transforms.proofs.word_rows.run_blocks.Goals as goal
+use Rattle.additive_transforms.proofs.word_rows.run_vectors.Goals as goal
 
 pub loop-block-preserved : goal.loop-block-preserved
 loop-block-preserved g c =

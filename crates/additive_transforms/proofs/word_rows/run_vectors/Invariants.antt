@@ -1,7 +1,7 @@
 use Rattle.std.proofs.Common.{◌≡◌, ◌+◌, ◌*◌, ◌^◌, ◌<◌, ◌≤◌, ℕ, length}
 use Rattle.additive_transforms.specs.Rows.{level_of}
 use Rattle.additive_transforms.specs.Words.{TakesWordPairs}
-use Rattle.additive_transforms.proofs.word_rows.run_blocks.Given as goal
+use Rattle.additive_transforms.proofs.word_rows.run_vectors.Given as goal
 
 -- the pairs of the blocks before this one are done
 abbrev pub invariant-loop-block : goal.invariant-loop-block
