@@ -2,6 +2,7 @@
 use Rattle.std.proofs.Common.{◌≡◌, ℕ, ◌^◌, ◌<◌, List, [], ◌∷◌, map, refl, subst, suc, sym, ap₂}
 use Rattle.std.specs.Prelude.{slice_index}
 use native.Mathlib.Nat.{mod-eq_of_lt}
+use Rattle.ghash_slices.proofs.WordValues.{of_own}
 use Rattle.additive_transforms.specs.Words.{low_word}
 
 -- such numbers are their own low bits
@@ -26,3 +27,8 @@ pub to_low : {W : Type 0} (number : W → ℕ) (P : List ℕ → List ℕ → Ty
 to_low number P old new old_fit new_fit holds =
     subst (λ (l : List ℕ). P l (map (low_word number) new)) (sym (low_words number old old_fit))
     (subst (P (map number old)) (sym (low_words number new new_fit)) holds)
+
+-- so it does where the words are the numbers themselves
+pub of_own_low : (P : List ℕ → List ℕ → Type 0) (old new : List ℕ) → ((p : ℕ) → slice_index (map (λ n. n) old) p < 2 ^ 128)
+    → ((p : ℕ) → slice_index (map (λ n. n) new) p < 2 ^ 128) → P (map (low_word (λ n. n)) old) (map (low_word (λ n. n)) new) → P old new
+of_own_low P old new old_fit new_fit holds = of_own P old new (of_low (λ n. n) P old new old_fit new_fit holds)

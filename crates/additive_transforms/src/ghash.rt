@@ -6,7 +6,7 @@ ghost use Rattle.additive_transforms.specs.Images.{IsWideShift};
 use crate::elements::whole::{forward_by, inverse_by};
 use crate::images::{OfImages, change_basis};
 use crate::whole::{forward_words, inverse_words};
-use crate::{PolyKernel, forward_with, half_of, stages_of};
+use crate::{PolyKernel, forward_with, inverse_with};
 use field_base::{Holds, Stored};
 use ghash_slices::Width;
 use std::alloc::{AllocError, Allocator};
@@ -15,10 +15,10 @@ use word_tables::to_tower_128;
 
 /// Leaves at each place p the value, at point p, of the polynomial with the coefficients `values` in the basis of the products of
 /// the s_j: point p is `z`, and Cantor vector b for each set bit b of p. The length of `values` has to be 2^m for an m from 0 to 40.
-/// `products` rises by the m * 2^(m - 1) pairs of places that are computed, and has to fit 64 bits after it.
+/// It is `forward_with` by `PolyKernel`: `products` counts the butterflies as they are computed, rises by the m * 2^(m - 1) pairs of places,
+/// and has to fit 64 bits after it. `forward_numbers` counts none, and is faster.
 /// Where `alloc` refuses the twiddles, it fails, and leaves `values` and `products` untouched; with fewer than 16 values it takes no
-/// memory, and does not fail. Nor does it where `z` is a sum of the first 32 Cantor vectors, the image of an element of the tower of at most
-/// 32 bits.
+/// memory, and does not fail.
 pub fn forward<A: Allocator>(
     alloc: A,
     values: &mut [u128],
@@ -31,55 +31,38 @@ pub fn forward<A: Allocator>(
     ensures count { IfOk result (λ _. CountsPairs (length values.old) products.old products.new) }
     ensures refused { IfErr result (λ _. (values.new ≡ values.old) × (products.new ≡ products.old)) }
     ensures large { IfErr result (λ _. 16 ≤ length values.old) }
-    ensures wide { IfErr result (λ _. IsWideShift z) }
 {
-    if is_narrow(to_tower_128(z)) {
-        *products += pairs_of(values.len());
-        transform_numbers(values, z, false);
-        return Ok(());
-    }
     let mut kernel = PolyKernel {
         products: *products,
     };
-    forward_polynomials(alloc, &mut kernel, values, z)?;
+    u128::words_fit(values);
+    let done = forward_with(alloc, &mut kernel, values, z);
+    u128::words_fit(values);
     *products = kernel.products;
-    Ok(())
-}
-
-// The transform by products of polynomials, over the numbers themselves.
-fn forward_polynomials<A: Allocator>(
-    alloc: A,
-    kernel: &mut PolyKernel,
-    values: &mut [u128],
-    z: u128,
-) -> Result<(), AllocError>
-    requires { FitsTransform (length values.old) kernel.old.products }
-    ensures length { length values.new ≡ length values.old }
-    ensures values { IfOk result (λ _. HoldPolynomialValues z values.old values.new) }
-    ensures count { IfOk result (λ _. CountsPairs (length values.old) kernel.old.products kernel.new.products) }
-    ensures refused { IfErr result (λ _. (values.new ≡ values.old) × (kernel.new ≡ kernel.old)) }
-    ensures large { IfErr result (λ _. 16 ≤ length values.old) }
-{
-    u128::words_fit(values);
-    let done = forward_with(alloc, kernel, values, z);
-    u128::words_fit(values);
     done
 }
 
 /// Replaces the values at the points by the coefficients of their polynomial, of which there is one list: with the same `z` it
-/// takes back what `forward` did. It asks what `forward` asks, and takes no memory; `products` rises by as much.
+/// takes back what `forward` did. It is `inverse_with` by `PolyKernel`. It asks what `forward` asks, and takes no memory; `products` rises
+/// by as much. `inverse_numbers` counts none, and is faster.
 pub fn inverse(values: &mut [u128], z: u128, products: &mut u64)
     requires { FitsTransform (length values.old) products.old }
     ensures length { length values.new ≡ length values.old }
     ensures coefficients { AreOnlyCoefficients z values.old values.new }
     ensures count { CountsPairs (length values.old) products.old products.new }
 {
-    *products += pairs_of(values.len());
-    transform_numbers(values, z, true);
+    let mut kernel = PolyKernel {
+        products: *products,
+    };
+    u128::words_fit(values);
+    inverse_with(&mut kernel, values, z);
+    u128::words_fit(values);
+    *products = kernel.products;
 }
 
 /// The transform `forward` without a count. The length of `values` has to be 2^m for an m from 0 to 40. Where `alloc` refuses the
-/// twiddles, it fails, and leaves `values` untouched; where `forward` does not fail, nor does this.
+/// twiddles, it fails, and leaves `values` untouched; with fewer than 16 values it takes no memory, and does not fail. Nor does it where `z`
+/// is a sum of the first 32 Cantor vectors, the image of an element of the tower of at most 32 bits.
 ///
 /// Where the tower's twiddles are narrow it goes through the tower; elsewhere its low stages go in lanes and its long butterflies by tables.
 /// So over the field of GHASH it is the fastest form. Elements of any field with Cantor vectors are transformed by `forward_elements`.
@@ -95,6 +78,10 @@ pub fn forward_numbers<A: Allocator>(
     ensures large { IfErr result (λ _. 16 ≤ length values.old) }
     ensures wide { IfErr result (λ _. IsWideShift z) }
 {
+    if is_narrow(to_tower_128(z)) {
+        transform_numbers(values, z, false);
+        return Ok(());
+    }
     let mut products = 0;
     forward(alloc, values, z, &mut products)
 }
@@ -106,8 +93,7 @@ pub fn inverse_numbers(values: &mut [u128], z: u128)
     ensures length { length values.new ≡ length values.old }
     ensures coefficients { AreOnlyCoefficients z values.old values.new }
 {
-    let mut products = 0;
-    inverse(values, z, &mut products);
+    transform_numbers(values, z, true);
 }
 
 // The transform `transform_ghash` of numbers themselves.
@@ -152,16 +138,4 @@ fn is_narrow(shift: u128) -> bool
     ensures { IsTrue result ↔ (shift < 2 ^ 32) }
 {
     shift < 1 << 32
-}
-
-// The pairs of places of the stages of so many values: half of the values in each stage.
-fn pairs_of(count: usize) -> u64
-    requires { (m : ℕ) × HasStages m count }
-    ensures { CountsPairs count 0 result }
-{
-    let stages = stages_of(count);
-    if stages == 0 {
-        return 0;
-    }
-    stages as u64 * half_of(stages - 1) as u64
 }
