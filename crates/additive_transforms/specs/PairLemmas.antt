@@ -1,6 +1,5 @@
 -- The number of a pair of halves fits the next level.
 use Rattle.std.specs.Prelude.{ℕ, suc, ◌^◌, ◌<◌}
-use Rattle.field_base.specs.Quadratic.{pair}
 use Rattle.field_base.proofs.TowerRing.{halves-lt}
 use Rattle.additive_transforms.specs.Halves.{lane_of_halves}
 use Rattle.additive_transforms.specs.Rows.{level_of}

@@ -1,4 +1,4 @@
-use Rattle.std.proofs.Common.{◌∙◌, ap₂, map, sym}
+use Rattle.std.proofs.Common.{◌∙◌, ap₂, sym}
 use Rattle.std.specs.Simd.Lanes.{zip2}
 use Rattle.ghash_slices.specs.LowStages.{ghash_product}
 use Rattle.ghash_slices.specs.Stages.{add_multiple}

@@ -1,4 +1,4 @@
-use Rattle.std.proofs.Common.{◌∙◌, ap₂, map, sym}
+use Rattle.std.proofs.Common.{◌∙◌, ap₂, sym}
 use Rattle.std.specs.Prelude.{bit_xor}
 use Rattle.std.specs.Simd.Lanes.{zip2}
 use Rattle.additive_transforms.proofs.NumberValues.{low_words}
