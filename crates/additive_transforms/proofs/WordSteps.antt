@@ -1,7 +1,7 @@
 -- Numbers of which the first are multiplied, block by block, and the others as they were.
-use Rattle.std.proofs.Common.{◌≡◌, ◌⊎◌, inl, inr, ℕ, ◌+◌, ◌-◌, ◌*◌, ◌%◌, ◌^◌, ◌<◌, ◌≤◌, List, refl, sym, ◌∙◌, ap, ap₂, subst, arith}
+use Rattle.std.proofs.Common.{◌≡◌, ◌⊎◌, inl, inr, ℕ, ◌+◌, ◌-◌, ◌*◌, ◌/◌, ◌%◌, ◌^◌, ◌<◌, ◌≤◌, List, refl, sym, ◌∙◌, ap, ap₂, subst, arith}
 use Rattle.std.specs.Prelude.{bit_xor, slice_index}
-use Rattle.std.proofs.Math.Nat.{mul-le-mul_right, mul-lt-mul_of_pos_right}
+use Rattle.std.proofs.Math.Nat.{lt-div-mul-add, mul-le-mul_right, mul-lt-mul_of_pos_right}
 use Rattle.std.proofs.lemmas.Bool.{cases_lt}
 use Rattle.std.proofs.lemmas.Nat.{pow_pos}
 use native.Mathlib.Nat.{mod-eq_of_lt}
@@ -25,6 +25,13 @@ none_first n value numbers none =
 pub last_first : (value : ℕ → ℕ) (old new : List ℕ) (count block blocks : ℕ) → block ≡ blocks → FirstAre (count * block) value old new
     → FirstAre (count * blocks) value old new
 last_first value old new count block blocks last are = subst (λ (b : ℕ). FirstAre (count * b) value old new) last are
+
+-- what fills no block
+pub rest_below : (words count lanes : ℕ) → count ≡ lanes → 0 < count → words < count * (words / count) + lanes
+rest_below words count lanes same some =
+    let less : words < words / count * count + count = lt-div-mul-add some in
+    let turned : words / count * count ≡ count * (words / count) = omega arith in
+    omega (arith, less, turned, same)
 
 -- ---- units that are whole numbers
 

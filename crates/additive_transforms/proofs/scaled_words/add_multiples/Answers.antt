@@ -1,6 +1,5 @@
-use Rattle.std.proofs.Common.{map, ◌∙◌, ◌+◌, ◌*◌, ◌/◌, ◌<◌, length, arith}
-use Rattle.std.proofs.Math.Nat.{lt-div-mul-add}
-use Rattle.additive_transforms.proofs.WordSteps.{block_added, last_first}
+use Rattle.std.proofs.Common.{map, ◌∙◌, length, arith}
+use Rattle.additive_transforms.proofs.WordSteps.{block_added, last_first, rest_below}
 use Rattle.additive_transforms.proofs.scaled_words.add_multiples.Goals as goal
 
 pub loop-block-preserved : goal.loop-block-preserved
@@ -21,6 +20,5 @@ returns-clause-products g c s are =
 
 pub returns-clause-rest : goal.returns-clause-rest
 returns-clause-rest g c =
-    let less : length c.args.words.now < length c.args.words.now / c.lane_count-lanes.result * c.lane_count-lanes.result
-    + c.lane_count-lanes.result = lt-div-mul-add c.lane_count-lanes.ensures.some in
-    omega (arith, less, c.lane_count-lanes.ensures.count, c.requires.same)
+    let rest = rest_below (length c.args.words.now) _ _ c.lane_count-lanes.ensures.count c.lane_count-lanes.ensures.some in
+    omega (arith, rest, c.requires.same)
