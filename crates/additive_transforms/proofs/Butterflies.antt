@@ -118,16 +118,6 @@ module _ {A : Type 0} (value : A → ℕ) (times : ℕ → ℕ → ℕ) (t n : �
       (sym (map-append value lo' hi'))
       (forward_numbers times t n (map value lo) (map value hi) (map value lo') (map value hi') low_count high_count low_is high_is))
 
-  -- and so is the inverse one
-  pub inverse_values : map value hi' ≡ zip2 bit_xor (map value hi) (map value lo)
-      → map value lo' ≡ zip2 (add_multiple times t) (map value lo) (map value hi')
-      → IsButterfly times t n (slice_index (map value (lo' ++ hi'))) (slice_index (map value block))
-  inverse_values high_is low_is =
-      subst (λ (l : List ℕ). IsButterfly times t n (slice_index (map value (lo' ++ hi'))) (slice_index l)) (sym before)
-      (subst (λ (l : List ℕ). IsButterfly times t n (slice_index l) (slice_index (map value lo ++ map value hi)))
-      (sym (map-append value lo' hi'))
-      (inverse_numbers times t n (map value lo) (map value hi) (map value lo') (map value hi') low_count high_count high_is low_is))
-
 -- the butterflies of the pairs of two slices, whichever way, are that of the block that was split
 module _ {A : Type 0} (value : A → ℕ) (times : ℕ → ℕ → ℕ) (t n : ℕ) (block lo hi lo' hi' : List A) (parts : block ≡ lo ++ hi) (low : length lo ≡ n) where
   pub taken_values : (inverse : Bool) → TakesBlock inverse times t (length lo) (slice_index (map value lo ++ map value hi))

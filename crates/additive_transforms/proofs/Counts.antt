@@ -1,6 +1,6 @@
 -- The number of stages, the blocks of a stage, and the pairs that are counted.
 use Rattle.std.proofs.Common.{◌≡◌, ◌⊎◌, inl, inr, ℕ, suc, ◌+◌, ◌-◌, ◌*◌, ◌/◌, ◌%◌, ◌^◌, ◌<◌, ◌≤◌, refl, ◌∙◌, ap, arith, lit<}
-use Rattle.std.proofs.Math.Nat.{mul-le-mul_right, pow-le-pow_right, two-pow-succ}
+use Rattle.std.proofs.Math.Nat.{div-add-mod, mul-le-mul_right, pow-le-pow_right, two-pow-succ}
 use Rattle.std.proofs.Math.Pow.{pow_mono}
 use Rattle.std.proofs.lemmas.Bool.{cases_order}
 use Rattle.std.proofs.lemmas.Nat.{div-mul-add, mod-mul-add, pow-add, pow_pos}
@@ -53,6 +53,17 @@ two_halves m above =
 -- half of 2 ^ m is 2 ^ (m - 1)
 pub half_count : (m length : ℕ) → 0 < m → length ≡ 2 ^ m → length / 2 ≡ 2 ^ (m - 1)
 half_count m length above is = let twice = is ∙ two_halves m above in omega (arith, twice)
+
+-- the pairs of whole blocks of a stage are half the places
+pub stage_pairs : (values stage half : ℕ) → half ≡ 2 ^ stage → values % 2 ^ (stage + 1) ≡ 0 → values / (2 * half) * half ≡ values / 2
+stage_pairs values stage half is whole =
+    let next : stage + 1 ≡ suc stage = omega arith in
+    let size = ap (λ (e : ℕ). 2 ^ e) next ∙ two-pow-succ stage in
+    let two : 2 * half ≡ 2 ^ (stage + 1) = omega (arith, is, size) in
+    let none = ap (λ (n : ℕ). values % n) two ∙ whole in
+    let all = div-add-mod values (2 * half) in
+    let pairs : 2 * half * (values / (2 * half)) ≡ 2 * (values / (2 * half) * half) = omega arith in
+    omega (arith, none, all, pairs)
 
 -- ---- pairs, h in each stage
 

@@ -1,16 +1,19 @@
 -- The loops over the stages of a transform, and the twiddles of a field of `width` bits, which reach as many stages as it has bits.
-use Rattle.std.proofs.Common.{◌≡◌, ℕ, suc, Bool, true, false, ◌+◌, ◌-◌, ◌/◌, ◌^◌, ◌<◌, ◌≤◌, List, length, map, sym, ◌∙◌, ap, subst, arith, lit<}
-use Rattle.std.specs.Prelude.{slice_index, IsTrue}
+use Rattle.std.proofs.Common.{◌≡◌, ℕ, suc, Bool, true, false, ◌+◌, ◌-◌, ◌*◌, ◌/◌, ◌^◌, ◌<◌, ◌≤◌, List, length, map, sym, ◌∙◌, ap, ap₂, subst, arith, lit<}
+use Rattle.std.specs.Prelude.{bit_xor, slice_index, IsTrue}
 use Rattle.std.proofs.Math.Nat.{pow-le-pow_right}
 use Rattle.std.proofs.lemmas.List.{length-map}
 use Rattle.std.proofs.lemmas.List.FromFn.{get_or-map-range_with_len, length-map-range_with_len}
+use Rattle.field_base.specs.LinearMaps.{linear_image}
 use Rattle.field_base.specs.Orders.{AreCantorVectors}
 use Rattle.field_base.specs.Ring.{IsRing}
+use Rattle.field_base.proofs.LinearMapLemmas.{the_linear_map}
 use Rattle.field_base.proofs.RemainderRing.{ghash_ring}
 use Rattle.ghash_slices.specs.Cantor.{AreCantorTwiddles, subspace_value}
+use Rattle.ghash_slices.specs.LowStages.{ghash_cantor_vector, ghash_product, values_from}
 use Rattle.ghash_slices.proofs.GhashVectors.{ghash_vectors}
 use Rattle.field_base.proofs.WordValues.{values_fit}
-use Rattle.additive_transforms.specs.Stages.{AreLeft, TakesStage}
+use Rattle.additive_transforms.specs.Stages.{AreLeft, TakesBlock, TakesStage}
 use Rattle.additive_transforms.specs.Transform.{AreOnlyCoefficients, AreTheCoefficients, HasStages, HoldPolynomialValues, HoldValuesAtPoints, TakesTransform}
 use Rattle.additive_transforms.proofs.Counts.{block_count}
 use Rattle.additive_transforms.proofs.HalfValues.{held_back, held_on}
@@ -145,3 +148,31 @@ pub ghash_coefficients : {A : Type 0} (value : A → ℕ) → ((x : A) → value
     → AreOnlyCoefficients z (map value old) (map value new)
 ghash_coefficients value range z m old new has same =
     the_coefficients (lit< tt) ghash_ring ghash_vectors value range z old new (m, has, omega (arith, has.0)) same
+
+-- ---- a table of twiddles
+
+-- images that begin with others have the same sums of those
+images_agree : (long short : List ℕ) → length short ≤ length long → ((t : ℕ) → t < length short → slice_index long t ≡ slice_index short t)
+    → (x : ℕ) → x < 2 ^ length short → linear_image long x ≡ linear_image short x
+images_agree long short fewer same x fits =
+    let all = the_linear_map long in
+    (the_linear_map short).only (linear_image long) all.of_sum (λ j below. all.of_bit j (omega (arith, fewer, below)) ∙ same j below) x fits
+
+-- so a stage in the field of GHASH is one by the table of the twiddles of 40 stages
+pub stage_by_table : (z : ℕ) (shifts basis : List ℕ) → AreCantorTwiddles 128 ghash_product ghash_cantor_vector z 40 shifts basis
+    → length basis ≡ 39 → (inverse : Bool) (s stage m values : ℕ) (old new : List ℕ) → stage < m → m ≤ 40 → values ≡ 2 ^ m
+    → s ≡ slice_index shifts stage
+    → TakesStage inverse ghash_product s (twiddle_basis 128 ghash_cantor_vector) stage (values / 2 ^ (stage + 1)) old new
+    → TakesStage inverse ghash_product (slice_index shifts stage) basis stage (values / 2 ^ (stage + 1)) old new
+stage_by_table z shifts basis twiddles long inverse s stage m values old new below few is same taken q inside =
+    let all = basis_length 128 ghash_cantor_vector (lit< tt) in
+    let most = few_blocks 40 m stage values below few is in
+    let size : 40 - 1 ≡ length basis = omega (arith, long) in
+    let reach = ap (λ (e : ℕ). 2 ^ e) size in
+    subst
+    (λ (t : ℕ). TakesBlock inverse ghash_product t (2 ^ stage) (values_from old (q * 2 ^ suc stage)) (values_from new (q * 2 ^ suc stage)))
+    (ap₂ bit_xor same
+    (images_agree (twiddle_basis 128 ghash_cantor_vector) basis (omega (arith, all, long))
+    (λ t within. basis_at 128 ghash_cantor_vector t (omega (arith, long, within)) ∙ sym (twiddles.basis_is t within)) q
+    (omega (arith, inside, most, reach))))
+    (taken q inside)

@@ -20,6 +20,7 @@ mod LevelProducts
 pub mod LowStageRuns
 pub mod NumberValues
 pub mod OneOrigin
+pub mod PairCounts
 pub mod PairLoops
 pub mod PointSums
 mod ScalarHalves

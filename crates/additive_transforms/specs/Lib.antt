@@ -1,6 +1,7 @@
 pub mod ChunkLemmas
 pub mod Chunks
 pub mod Columns
+pub mod Counting
 pub mod Elements
 pub mod Halves
 pub mod ImageLemmas

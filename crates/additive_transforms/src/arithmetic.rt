@@ -4,10 +4,11 @@ ghost use Rattle.std.proofs.lemmas.Nat.{pow_pos};
 ghost use native.Mathlib.Nat.{mod-lt};
 ghost use Rattle.field_base.proofs.TowerRing.{tower_ring};
 ghost use Rattle.field_base.specs.Tower.{tower_mul};
+ghost use Rattle.additive_transforms.specs.Counting.{nothing_counted};
 ghost use Rattle.additive_transforms.specs.LevelVectors.{level_vectors};
 ghost use Rattle.additive_transforms.specs.Words.{TakesWords, cantor_vector, level_element};
 
-use crate::elements::arithmetic::StageArithmetic;
+use crate::elements::arithmetic::{StageArithmetic, Uncounted};
 use crate::level_pairs::run_all;
 use crate::multiples::{multiples_8, multiples_16, multiples_32};
 use crate::products::{ChunkScalar, WholeScalar};
@@ -29,6 +30,8 @@ impl<R: Unsigned, L: Level<R>, W: WordBytes<R>> StageArithmetic for OfLevel<R, L
 
     type Twiddle = R;
 
+    type Counter = ();
+
     ghost width = { 2 ^ L.LEVEL };
 
     ghost product = { tower_mul L.LEVEL };
@@ -38,6 +41,10 @@ impl<R: Unsigned, L: Level<R>, W: WordBytes<R>> StageArithmetic for OfLevel<R, L
     ghost value = { level_element W.Reads.number L.LEVEL };
 
     ghost number = { R.number };
+
+    ghost counted = { λ _ _ _. Unit {0} };
+
+    ghost has_room = { λ _ _. Unit {0} };
 
     #[inline]
     fn sum(x: R, y: R) -> R {
@@ -53,9 +60,11 @@ impl<R: Unsigned, L: Level<R>, W: WordBytes<R>> StageArithmetic for OfLevel<R, L
         L::square(x)
     }
 
-    fn butterflies(lo: &mut [W], hi: &mut [W], twiddle: R, inverse: bool) {
+    fn butterflies(counter: &mut (), lo: &mut [W], hi: &mut [W], twiddle: R, inverse: bool) {
         butterflies_by_width::<R, L, W>(lo, hi, twiddle, inverse);
     }
+
+    ghost count_law = { nothing_counted };
 
     ghost wide_law = { pow_pos L.LEVEL };
 
@@ -64,6 +73,10 @@ impl<R: Unsigned, L: Level<R>, W: WordBytes<R>> StageArithmetic for OfLevel<R, L
     ghost vector_law = { level_vectors L.LEVEL L.few };
 
     ghost range_law = { λ x. mod-lt (W.Reads.number x) (pow_pos (2 ^ L.LEVEL)) };
+}
+
+impl<R: Unsigned, L: Level<R>, W: WordBytes<R>> Uncounted for OfLevel<R, L, W> {
+    ghost room_law = { λ _ _. tt };
 }
 
 /// The butterflies of the halves of a block: products by 8, 16 or 32 bits in vectors where the twiddle has no more, and whole ones

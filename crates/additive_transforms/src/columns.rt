@@ -30,7 +30,7 @@ pub fn forward_level_columns<R: Unsigned, L: Level<R>, W: WordBytes<R>>(
         InEachColumn columns (HoldValuesAtPoints (2 ^ L.LEVEL) (tower_mul L.LEVEL) cantor_vector (R.number z)) (map element words.old)
         (map element words.new) }
 {
-    forward_columns_by::<OfLevel<R, L, W>>(words, columns, z);
+    forward_columns_by::<OfLevel<R, L, W>>(&mut (), words, columns, z);
 }
 
 /// The transform `inverse_level` of each column: with the same `z` it takes back what `forward_level_columns` did. It requires what
@@ -46,5 +46,5 @@ pub fn inverse_level_columns<R: Unsigned, L: Level<R>, W: WordBytes<R>>(
         (map element words.new) }
     ensures length { length words.new ≡ length words.old }
 {
-    inverse_columns_by::<OfLevel<R, L, W>>(words, columns, z);
+    inverse_columns_by::<OfLevel<R, L, W>>(&mut (), words, columns, z);
 }

@@ -8,6 +8,5 @@ pub mod columns;
 pub mod halves;
 pub mod pairs;
 pub mod points;
-pub mod stages;
 pub mod twiddles;
 pub mod whole;

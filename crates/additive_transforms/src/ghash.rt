@@ -121,9 +121,9 @@ pub fn transform_ghash<V: Width, W: Holds<u128>>(words: &mut [W], z: u128, is_in
     if is_narrow(shift) {
         change_basis(words, false);
         if is_inverse {
-            inverse_by::<OfImages<W>>(words, shift);
+            inverse_by::<OfImages<W>>(&mut (), words, shift);
         } else {
-            forward_by::<OfImages<W>>(words, shift);
+            forward_by::<OfImages<W>>(&mut (), words, shift);
         }
         change_basis(words, true);
     } else if is_inverse {

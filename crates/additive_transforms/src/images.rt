@@ -2,11 +2,12 @@
 ghost use Rattle.std.specs.Prelude.{◌≡◌, ℕ, length, map};
 ghost use Rattle.std.proofs.Common.{lit<};
 ghost use Rattle.ghash_slices.specs.LowStages.{ghash_cantor_vector, ghash_product};
+ghost use Rattle.additive_transforms.specs.Counting.{nothing_counted};
 ghost use Rattle.additive_transforms.specs.ImageLemmas.{ghash_ring_laws, ghash_vector_laws, image_fits};
 ghost use Rattle.additive_transforms.specs.Images.{after_change, before_change, tower_image};
 
 use crate::arithmetic::butterflies_by_width;
-use crate::elements::arithmetic::StageArithmetic;
+use crate::elements::arithmetic::{StageArithmetic, Uncounted};
 use field_base::Holds;
 use ghash_slices::{number_at, put_number};
 use std::marker::PhantomData;
@@ -21,6 +22,8 @@ impl<W: Holds<u128>> StageArithmetic for OfImages<W> {
 
     type Twiddle = u128;
 
+    type Counter = ();
+
     ghost width = { 128 };
 
     ghost product = { ghash_product };
@@ -30,6 +33,10 @@ impl<W: Holds<u128>> StageArithmetic for OfImages<W> {
     ghost value = { λ x. tower_image (W.number x) };
 
     ghost number = { tower_image };
+
+    ghost counted = { λ _ _ _. Unit {0} };
+
+    ghost has_room = { λ _ _. Unit {0} };
 
     #[inline]
     fn sum(x: u128, y: u128) -> u128 {
@@ -45,9 +52,11 @@ impl<W: Holds<u128>> StageArithmetic for OfImages<W> {
         <Bits128 as Level<u128>>::square(x)
     }
 
-    fn butterflies(lo: &mut [W], hi: &mut [W], twiddle: u128, inverse: bool) {
+    fn butterflies(counter: &mut (), lo: &mut [W], hi: &mut [W], twiddle: u128, inverse: bool) {
         butterflies_by_width::<u128, Bits128, W>(lo, hi, twiddle, inverse);
     }
+
+    ghost count_law = { nothing_counted };
 
     ghost wide_law = { lit< tt };
 
@@ -56,6 +65,10 @@ impl<W: Holds<u128>> StageArithmetic for OfImages<W> {
     ghost vector_law = { ghash_vector_laws };
 
     ghost range_law = { λ x. image_fits (W.number x) };
+}
+
+impl<W: Holds<u128>> Uncounted for OfImages<W> {
+    ghost room_law = { λ _ _. tt };
 }
 
 /// Replaces each polynomial by the element of the tower whose image it is, or, where `back` is true, each element by its image.

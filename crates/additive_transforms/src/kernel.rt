@@ -1,19 +1,26 @@
 // What computes on the values of a transform.
 ghost use Rattle.std.specs.Prelude.{◌≡◌, ◌≢◌, ℕ, ◌+◌, ◌-◌, ◌*◌, ◌%◌, ◌/◌, ◌^◌, ◌<◌, ◌≤◌, [], bit_xor, length, map};
-ghost use Rattle.ghash_slices.specs.LowStages.{HoldSums, ghash_product};
+ghost use Rattle.ghash_slices.specs.LowStages.{HoldSums, ghash_cantor_vector, ghash_product};
 ghost use Rattle.ghash_slices.specs.Slices.{IsForward, IsInverse};
 ghost use Rattle.ghash_slices.specs.Stages.{add_multiple};
 ghost use Rattle.ghash_slices.specs.Twiddles.{basis_of, shifts_of};
 ghost use Rattle.additive_transforms.specs.Words.{low_word};
 ghost use Rattle.std.specs.Simd.Lanes.{zip2};
 ghost use native.Mathlib.Nat.{mod-lt};
+ghost use Rattle.std.proofs.Common.{lit<};
 ghost use Rattle.std.proofs.lemmas.Nat.{pow_pos};
+ghost use Rattle.additive_transforms.specs.Counting.{number_counts};
+ghost use Rattle.additive_transforms.specs.ImageLemmas.{ghash_ring_laws, ghash_vector_laws};
+ghost use Rattle.additive_transforms.specs.Images.{tower_image};
 
+use crate::elements::arithmetic::StageArithmetic;
+use crate::images::OfImages;
 use field_base::Holds;
 use ghash_slices::{LowStageTwiddles, Width, add_each, add_multiples, run_low_stages};
 use std::alloc::Allocator;
 use std::marker::PhantomData;
 use std::simd::prelude::*;
+use word_tables::to_polynomial_128;
 
 /// What computes on the values of a transform: nothing else does. Each element stands for a value, which is a number of 128
 /// bits in the field of GHASH. A kernel counts the pairs of places that it computes.
@@ -200,4 +207,69 @@ pub(crate) fn run_low_words<V: Width, W: Holds<u128>>(
     W::numbers_fit(words);
     run_low_stages::<V, W>(shifts, basis, words, first_run);
     W::numbers_fit(words);
+}
+
+/// The arithmetic of a kernel, which counts the pairs. A twiddle is the element of the tower whose image is the scalar: its Cantor vectors
+/// stand in a table.
+pub(crate) struct OfKernel<K>(PhantomData<K>);
+
+impl<K: Kernel> StageArithmetic for OfKernel<K> {
+    type Value = K::Elem;
+
+    type Twiddle = u128;
+
+    type Counter = K;
+
+    ghost width = { 128 };
+
+    ghost product = { ghash_product };
+
+    ghost vector = { ghash_cantor_vector };
+
+    ghost value = { K.value };
+
+    ghost number = { tower_image };
+
+    ghost counted = { λ before after pairs. K.count after ≡ K.count before + pairs };
+
+    ghost has_room = { λ kernel pairs. K.count kernel + pairs < 2 ^ 64 };
+
+    #[inline]
+    fn sum(x: u128, y: u128) -> u128 {
+        OfImages::<u128>::sum(x, y)
+    }
+
+    #[inline]
+    fn cantor_vector(i: usize) -> u128 {
+        OfImages::<u128>::cantor_vector(i)
+    }
+
+    fn square(x: u128) -> u128 {
+        OfImages::<u128>::square(x)
+    }
+
+    fn butterflies(
+        counter: &mut K,
+        lo: &mut [K::Elem],
+        hi: &mut [K::Elem],
+        twiddle: u128,
+        inverse: bool,
+    ) {
+        let scalar = to_polynomial_128(twiddle);
+        if inverse {
+            counter.butterfly_inverse(lo, hi, scalar);
+            return;
+        }
+        counter.butterfly_forward(lo, hi, scalar);
+    }
+
+    ghost count_law = { number_counts K.count };
+
+    ghost wide_law = { lit< tt };
+
+    ghost ring_law = { ghash_ring_laws };
+
+    ghost vector_law = { ghash_vector_laws };
+
+    ghost range_law = { K.range_law };
 }

@@ -25,7 +25,7 @@ pub fn forward_level<R: Unsigned, L: Level<R>, W: WordBytes<R>>(words: &mut [W],
     ensures values { let element = level_element W.Holds.number L.LEVEL in
         HoldValuesAtPoints (2 ^ L.LEVEL) (tower_mul L.LEVEL) cantor_vector (R.number z) (map element words.old) (map element words.new) }
 {
-    forward_by::<OfLevel<R, L, W>>(words, z);
+    forward_by::<OfLevel<R, L, W>>(&mut (), words, z);
 }
 
 /// Replaces the values at the points by the coefficients of their polynomial, of which there is one list: with the same `z` it takes back
@@ -36,7 +36,7 @@ pub fn inverse_level<R: Unsigned, L: Level<R>, W: WordBytes<R>>(words: &mut [W],
         AreTheCoefficients (2 ^ L.LEVEL) (tower_mul L.LEVEL) cantor_vector (R.number z) (map element words.old) (map element words.new) }
     ensures length { length words.new ≡ length words.old }
 {
-    inverse_by::<OfLevel<R, L, W>>(words, z);
+    inverse_by::<OfLevel<R, L, W>>(&mut (), words, z);
 }
 
 /// s_`stage`(z) over the level `L` of the tower, where s_0(z) = z and s_(j + 1)(z) = s_j(z)^2 + s_j(z): the twiddle of the first block of a

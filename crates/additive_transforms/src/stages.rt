@@ -1,42 +1,10 @@
 // One stage of a transform, block by block.
-ghost use Rattle.std.specs.Prelude.{◌≡◌, ℕ, ◌+◌, ◌*◌, ◌/◌, ◌%◌, ◌^◌, ◌<◌, ◌≤◌, length, map, slice_index};
-ghost use Rattle.ghash_slices.specs.LowStages.{ghash_product};
-ghost use Rattle.additive_transforms.specs.Stages.{TakesBlock, TakesStage};
+ghost use Rattle.std.specs.Prelude.{◌≡◌, ◌+◌, ◌-◌, ◌*◌, ◌/◌, ◌%◌, ◌^◌, ◌<◌, ◌≤◌, cond, length, map, slice_index};
+ghost use Rattle.additive_transforms.specs.Elements.{twiddle_basis};
+ghost use Rattle.additive_transforms.specs.Stages.{TakesBlock, TakesBlocks, TakesStage};
 
-use crate::kernel::Kernel;
-use crate::twiddles::Twiddles;
-use word_tables::sum_of_images;
-
-/// A stage of the forward transform, or, where `inverse` is true, of the inverse one: the butterfly in each block of 2^(stage + 1) places,
-/// with the block's twiddle: the shift of the stage, and the elements of the basis at the set bits of the block's number.
-pub(crate) fn run_stage<K: Kernel>(
-    kernel: &mut K,
-    values: &mut [K::Elem],
-    stage: usize,
-    twiddles: &Twiddles,
-    inverse: bool,
-)
-    requires stage { stage < 40 }
-    requires whole { length values.old % 2 ^ (stage + 1) ≡ 0 }
-    requires room { K.count kernel.old + length values.old / 2 < 2 ^ 64 }
-    ensures length { length values.new ≡ length values.old }
-    ensures stage { TakesStage inverse ghash_product (slice_index twiddles.now.shifts stage) twiddles.now.basis stage
-        (length values.old / 2 ^ (stage + 1)) (map K.value values.old) (map K.value values.new) }
-    ensures count { K.count kernel.new ≡ K.count kernel.old + length values.old / 2 }
-{
-    let half = half_of(stage);
-    for block in 0..values.len() / (2 * half) {
-        let start = start_of(block, 2 * half, values.len());
-        let twiddle = twiddles.shifts[stage] ^ sum_of_images(&twiddles.basis, block as u128);
-        run_block(
-            kernel,
-            &mut values[start..start + 2 * half],
-            half,
-            twiddle,
-            inverse,
-        );
-    }
-}
+use crate::elements::arithmetic::StageArithmetic;
+use crate::elements::twiddles::block_twiddle;
 
 /// Half the places of a block of a stage, whose pairs are as far apart: 2^stage. The stage has to be below 40.
 pub fn half_of(stage: usize) -> usize
@@ -57,25 +25,81 @@ pub fn start_of(block: usize, size: usize, length: usize) -> usize
     block * size
 }
 
-// The butterfly of a block of twice `half` places, or the inverse one.
-fn run_block<K: Kernel>(
-    kernel: &mut K,
-    block: &mut [K::Elem],
+/// The stage that runs when so many are done: they go from the highest down, or, of the inverse transform, from the lowest up.
+pub(crate) fn stage_after(done: usize, stages: usize, inverse: bool) -> usize
+    requires { done < stages }
+    ensures { result ≡ cond inverse done (stages - 1 - done) }
+{
+    if inverse { done } else { stages - 1 - done }
+}
+
+/// A stage of the forward transform, or, where `inverse` is true, of the inverse one: the butterfly in each block of 2^(stage + 1) places,
+/// with the block's twiddle.
+pub(crate) fn run_stage<K: StageArithmetic>(
+    counter: &mut K::Counter,
+    values: &mut [K::Value],
+    stage: usize,
+    shift: K::Twiddle,
+    inverse: bool,
+)
+    requires stage { stage < 40 }
+    requires whole { length values.old % 2 ^ (stage + 1) ≡ 0 }
+    requires few { length values.old / 2 ^ (stage + 1) ≤ 2 ^ (K.width - 1) }
+    requires room { K.has_room counter.old (length values.old / 2) }
+    ensures length { length values.new ≡ length values.old }
+    ensures stage { TakesStage inverse K.product (K.number shift) (twiddle_basis K.width K.vector) stage
+        (length values.old / 2 ^ (stage + 1)) (map K.value values.old) (map K.value values.new) }
+    ensures counted { K.counted counter.old counter.new (length values.old / 2) }
+{
+    run_blocks::<K>(counter, values, half_of(stage), shift, inverse);
+}
+
+/// The butterfly, or the inverse one, in each whole block of twice `half` places, with the block's twiddle.
+pub(crate) fn run_blocks<K: StageArithmetic>(
+    counter: &mut K::Counter,
+    values: &mut [K::Value],
     half: usize,
-    twiddle: u128,
+    shift: K::Twiddle,
+    inverse: bool,
+)
+    requires half { 0 < half }
+    requires size { 2 * half < 2 ^ 64 }
+    requires few { length values.old / (2 * half) ≤ 2 ^ (K.width - 1) }
+    requires room { K.has_room counter.old (length values.old / (2 * half) * half) }
+    ensures length { length values.new ≡ length values.old }
+    ensures blocks { TakesBlocks inverse K.product (K.number shift) (twiddle_basis K.width K.vector) half (length values.old / (2 * half))
+        (map K.value values.old) (map K.value values.new) }
+    ensures counted { K.counted counter.old counter.new (length values.old / (2 * half) * half) }
+{
+    let mut twiddle = shift;
+    for block in 0..values.len() / (2 * half) {
+        let start = start_of(block, 2 * half, values.len());
+        twiddle = block_twiddle::<K>(shift, twiddle, block);
+        run_block::<K>(
+            counter,
+            &mut values[start..start + 2 * half],
+            half,
+            twiddle,
+            inverse,
+        );
+    }
+}
+
+// The butterfly of a block of twice `half` places, or the inverse one.
+fn run_block<K: StageArithmetic>(
+    counter: &mut K::Counter,
+    block: &mut [K::Value],
+    half: usize,
+    twiddle: K::Twiddle,
     inverse: bool,
 )
     requires pairs { length block.old ≡ 2 * half }
-    requires room { K.count kernel.old + half < 2 ^ 64 }
+    requires room { K.has_room counter.old half }
     ensures length { length block.new ≡ length block.old }
-    ensures values { TakesBlock inverse ghash_product twiddle half (slice_index (map K.value block.old))
+    ensures values { TakesBlock inverse K.product (K.number twiddle) half (slice_index (map K.value block.old))
         (slice_index (map K.value block.new)) }
-    ensures count { K.count kernel.new ≡ K.count kernel.old + half }
+    ensures counted { K.counted counter.old counter.new half }
 {
     let (lower, upper) = block.split_at_mut(half);
-    if inverse {
-        kernel.butterfly_inverse(lower, upper, twiddle);
-        return;
-    }
-    kernel.butterfly_forward(lower, upper, twiddle);
+    K::butterflies(counter, lower, upper, twiddle, inverse);
 }

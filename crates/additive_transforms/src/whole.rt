@@ -7,12 +7,13 @@ ghost use Rattle.ghash_slices.specs.Twiddles.{basis_of, shifts_of};
 ghost use Rattle.additive_transforms.specs.Stages.{AreLeft};
 ghost use Rattle.additive_transforms.specs.Words.{low_word};
 
-use crate::kernel::{Kernel, WordKernel, run_low_words};
+use crate::kernel::{Kernel, OfKernel, WordKernel, run_low_words};
 use crate::stages::run_stage;
 use crate::twiddles::Twiddles;
 use field_base::Holds;
 use ghash_slices::{LOW_STAGES, LowStageTwiddles, Width};
 use std::alloc::{AllocError, Allocator};
+use word_tables::to_tower_128;
 
 /// Leaves at each place p the value, at point p, of the polynomial with the coefficients `values` in the basis of the products of
 /// the s_j: point p is `z`, and Cantor vector b for each set bit b of p. It goes by any kernel: nothing but the kernel computes on its
@@ -132,7 +133,8 @@ pub(crate) fn every_stage<K: Kernel>(
 {
     if inverse {
         for stage in 0..stages {
-            run_stage(kernel, values, stage, twiddles, true);
+            let shift = to_tower_128(twiddles.shifts[stage]);
+            run_stage::<OfKernel<K>>(kernel, values, stage, shift, true);
         }
         return;
     }
@@ -178,6 +180,7 @@ fn stages_down_to<K: Kernel>(
     ensures count { K.count kernel.new ≡ K.count kernel.old + (stages - lowest) * 2 ^ (stages - 1) }
 {
     for stage in (lowest..stages).rev() {
-        run_stage(kernel, values, stage, twiddles, false);
+        let shift = to_tower_128(twiddles.shifts[stage]);
+        run_stage::<OfKernel<K>>(kernel, values, stage, shift, false);
     }
 }

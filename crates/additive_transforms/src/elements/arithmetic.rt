@@ -3,6 +3,7 @@ ghost use Rattle.std.specs.Prelude.{◌≡◌, ◌++◌, ◌^◌, ◌<◌, Bool,
 ghost use Rattle.field_base.specs.Orders.{AreCantorVectors};
 ghost use Rattle.field_base.specs.Ring.{IsRing};
 ghost use Rattle.ghash_slices.specs.Cantor.{subspace_value};
+ghost use Rattle.additive_transforms.specs.Counting.{AddsUp, AlwaysHasRoom, nothing_counted};
 ghost use Rattle.additive_transforms.specs.Stages.{TakesBlock};
 
 use crate::elements::pairs::run_pairs;
@@ -18,6 +19,9 @@ pub(crate) trait StageArithmetic {
     /// A twiddle.
     type Twiddle: Copy;
 
+    /// What counts the pairs of places that are computed: `()` where nothing does.
+    type Counter;
+
     // The bits of the field, its product and its Cantor vectors.
     ghost width: { ℕ };
 
@@ -29,6 +33,11 @@ pub(crate) trait StageArithmetic {
     ghost value: { Self.Value → ℕ };
 
     ghost number: { Self.Twiddle → ℕ };
+
+    // How many pairs were counted from one state of the counter to another, and whether it has room for so many.
+    ghost counted: { Self.Counter → Self.Counter → ℕ → Type 0 };
+
+    ghost has_room: { Self.Counter → ℕ → Type 0 };
 
     /// The sum.
     fn sum(x: Self::Twiddle, y: Self::Twiddle) -> Self::Twiddle
@@ -55,18 +64,23 @@ pub(crate) trait StageArithmetic {
     }
 
     /// The forward butterfly of each pair of places, `lo += twiddle * hi` and then `hi += lo`, or, where `inverse` is true, the inverse one,
-    /// `hi += lo` and then `lo += twiddle * hi`. Both slices, the halves of a block, have to be of one length.
+    /// `hi += lo` and then `lo += twiddle * hi`. Both slices, the halves of a block, have to be of one length, which is counted.
     fn butterflies(
+        counter: &mut Self::Counter,
         lo: &mut [Self::Value],
         hi: &mut [Self::Value],
         twiddle: Self::Twiddle,
         inverse: bool,
     )
-        requires { length lo.old ≡ length hi.old }
+        requires pairs { length lo.old ≡ length hi.old }
+        requires room { has_room counter.old (length lo.old) }
         ensures lower { length lo.new ≡ length lo.old }
         ensures upper { length hi.new ≡ length hi.old }
         ensures values { TakesBlock inverse product (number twiddle) (length lo.old) (slice_index (map value lo.old ++ map value hi.old))
-            (slice_index (map value lo.new ++ map value hi.new)) };
+            (slice_index (map value lo.new ++ map value hi.new)) }
+        ensures counted { counted counter.old counter.new (length lo.old) };
+
+    ghost count_law: { AddsUp counted has_room };
 
     ghost wide_law: { 0 < width };
 
@@ -77,6 +91,11 @@ pub(crate) trait StageArithmetic {
     ghost range_law: { (x : Self.Value) → value x < 2 ^ width };
 }
 
+/// An arithmetic that counts nothing, and so always has room.
+pub(crate) trait Uncounted: StageArithmetic {
+    ghost room_law: { AlwaysHasRoom Self.StageArithmetic.has_room };
+}
+
 /// The arithmetic of the elements of a field: what a place holds is one, and so is a twiddle.
 pub(crate) struct OfElements<F>(PhantomData<F>);
 
@@ -84,6 +103,8 @@ impl<F: TowerLevel> StageArithmetic for OfElements<F> {
     type Value = F;
 
     type Twiddle = F;
+
+    type Counter = ();
 
     ghost width = { F.width };
 
@@ -94,6 +115,10 @@ impl<F: TowerLevel> StageArithmetic for OfElements<F> {
     ghost value = { F.repr };
 
     ghost number = { F.repr };
+
+    ghost counted = { λ _ _ _. Unit {0} };
+
+    ghost has_room = { λ _ _. Unit {0} };
 
     fn sum(x: F, y: F) -> F {
         x + y
@@ -107,9 +132,11 @@ impl<F: TowerLevel> StageArithmetic for OfElements<F> {
         x.square()
     }
 
-    fn butterflies(lo: &mut [F], hi: &mut [F], twiddle: F, inverse: bool) {
+    fn butterflies(counter: &mut (), lo: &mut [F], hi: &mut [F], twiddle: F, inverse: bool) {
         run_pairs(lo, hi, twiddle, inverse);
     }
+
+    ghost count_law = { nothing_counted };
 
     ghost wide_law = { F.wide_law };
 
@@ -118,4 +145,8 @@ impl<F: TowerLevel> StageArithmetic for OfElements<F> {
     ghost vector_law = { F.cantor_image_law };
 
     ghost range_law = { F.range_law };
+}
+
+impl<F: TowerLevel> Uncounted for OfElements<F> {
+    ghost room_law = { λ _ _. tt };
 }

@@ -6,14 +6,15 @@ ghost use Rattle.additive_transforms.specs.Elements.{level_shifts, twiddle_basis
 ghost use Rattle.additive_transforms.specs.Stages.{TakesStage};
 ghost use Rattle.additive_transforms.specs.Transform.{AreTheCoefficients, HoldValuesAtPoints, TakesTransform};
 
-use crate::elements::arithmetic::StageArithmetic;
-use crate::elements::stages::{run_blocks, stage_after};
-use crate::{half_of, stages_of};
+use crate::elements::arithmetic::Uncounted;
+use crate::stages::{half_of, run_blocks, stage_after};
+use crate::stages_of;
 
 /// The transform `forward_by` of each column of rows of `columns` values that lie one behind the other: of value c of each row, for each c
 /// below `columns`. There has to be a column, and 2^m rows, where m is at most 40 and at most the bits of the arithmetic's field. It takes
 /// no memory, and goes through all values once a stage: where they are more than a cache holds, call it for a few columns at a time.
-pub(crate) fn forward_columns_by<K: StageArithmetic>(
+pub(crate) fn forward_columns_by<K: Uncounted>(
+    counter: &mut K::Counter,
     values: &mut [K::Value],
     columns: usize,
     z: K::Twiddle,
@@ -23,12 +24,13 @@ pub(crate) fn forward_columns_by<K: StageArithmetic>(
     ensures values { InEachColumn columns (HoldValuesAtPoints K.width K.product K.vector (K.number z)) (map K.value values.old)
         (map K.value values.new) }
 {
-    run_columns::<K>(values, columns, z, false);
+    run_columns::<K>(counter, values, columns, z, false);
 }
 
 /// The transform `inverse_by` of each column: with the same `z` it takes back what `forward_columns_by` did. It requires what
 /// `forward_columns_by` requires, and takes no memory.
-pub(crate) fn inverse_columns_by<K: StageArithmetic>(
+pub(crate) fn inverse_columns_by<K: Uncounted>(
+    counter: &mut K::Counter,
     values: &mut [K::Value],
     columns: usize,
     z: K::Twiddle,
@@ -38,11 +40,12 @@ pub(crate) fn inverse_columns_by<K: StageArithmetic>(
         (map K.value values.new) }
     ensures length { length values.new ≡ length values.old }
 {
-    run_columns::<K>(values, columns, z, true);
+    run_columns::<K>(counter, values, columns, z, true);
 }
 
 // The transform of each column, or, where `inverse` is true, the inverse one.
-fn run_columns<K: StageArithmetic>(
+fn run_columns<K: Uncounted>(
+    counter: &mut K::Counter,
     values: &mut [K::Value],
     columns: usize,
     z: K::Twiddle,
@@ -56,12 +59,13 @@ fn run_columns<K: StageArithmetic>(
     let stages = stages_of(values.len() / columns);
     for done in 0..stages {
         let stage = stage_after(done, stages, inverse);
-        run_column_stage::<K>(values, columns, stages, stage, z, inverse);
+        run_column_stage::<K>(counter, values, columns, stages, stage, z, inverse);
     }
 }
 
 // One of the stages, of each column.
-fn run_column_stage<K: StageArithmetic>(
+fn run_column_stage<K: Uncounted>(
+    counter: &mut K::Counter,
     values: &mut [K::Value],
     columns: usize,
     stages: usize,
@@ -78,5 +82,5 @@ fn run_column_stage<K: StageArithmetic>(
         (twiddle_basis K.width K.vector) stage (2 ^ (stages - (stage + 1)))) (map K.value values.old) (map K.value values.new) }
 {
     let half = half_of(stage) * columns;
-    run_blocks::<K>(values, half, K::shift(z, stage), inverse);
+    run_blocks::<K>(counter, values, half, K::shift(z, stage), inverse);
 }

@@ -5,9 +5,8 @@ ghost use Rattle.additive_transforms.specs.Elements.{level_shifts, twiddle_basis
 ghost use Rattle.additive_transforms.specs.Stages.{TakesStage};
 ghost use Rattle.additive_transforms.specs.Transform.{HasStages, TakesTransform};
 
-use crate::elements::arithmetic::StageArithmetic;
-use crate::elements::stages::{run_stage, stage_after};
-use crate::half_of;
+use crate::elements::arithmetic::Uncounted;
+use crate::stages::{half_of, run_stage, stage_after};
 
 // The stages of a slice that fits the first cache, which is 32 KB or more: so many stages have 2^10 values, which are 16 KB where a value
 // has 16 bytes.
@@ -16,7 +15,8 @@ const CACHED_STAGES: usize = 10;
 /// The transform of 2 to the power of `stages` values, or, where `inverse` is true, the inverse one: stage by stage, or, where that is
 /// more than fits the first cache, the highest stage on the whole slice and the others on each half.
 #[cycle(halves)]
-pub(crate) fn run_halves<K: StageArithmetic>(
+pub(crate) fn run_halves<K: Uncounted>(
+    counter: &mut K::Counter,
     values: &mut [K::Value],
     stages: usize,
     z: K::Twiddle,
@@ -30,24 +30,25 @@ pub(crate) fn run_halves<K: StageArithmetic>(
     if stages <= CACHED_STAGES {
         for done in 0..stages {
             let stage = stage_after(done, stages, inverse);
-            stage_of::<K>(values, stages, stage, z, inverse);
+            stage_of::<K>(counter, values, stages, stage, z, inverse);
         }
         return;
     }
     let highest = stages - 1;
     if inverse {
-        both_halves::<K>(values, highest, z, true);
-        stage_of::<K>(values, stages, highest, z, true);
+        both_halves::<K>(counter, values, highest, z, true);
+        stage_of::<K>(counter, values, stages, highest, z, true);
         return;
     }
-    stage_of::<K>(values, stages, highest, z, false);
-    both_halves::<K>(values, highest, z, false);
+    stage_of::<K>(counter, values, stages, highest, z, false);
+    both_halves::<K>(counter, values, highest, z, false);
 }
 
 // Both halves of the one block of the highest stage, which are transforms of their own: the lower one from the same shift on, and the upper
 // one from the highest vector on.
 #[cycle(halves)]
-fn both_halves<K: StageArithmetic>(
+fn both_halves<K: Uncounted>(
+    counter: &mut K::Counter,
     values: &mut [K::Value],
     highest: usize,
     z: K::Twiddle,
@@ -63,12 +64,13 @@ fn both_halves<K: StageArithmetic>(
 {
     let next = K::sum(z, K::cantor_vector(highest));
     let (lower, upper) = values.split_at_mut(half_of(highest));
-    run_halves::<K>(lower, highest, z, inverse);
-    run_halves::<K>(upper, highest, next, inverse);
+    run_halves::<K>(counter, lower, highest, z, inverse);
+    run_halves::<K>(counter, upper, highest, next, inverse);
 }
 
 // A stage, with its shift.
-fn stage_of<K: StageArithmetic>(
+fn stage_of<K: Uncounted>(
+    counter: &mut K::Counter,
     values: &mut [K::Value],
     stages: usize,
     stage: usize,
@@ -82,5 +84,5 @@ fn stage_of<K: StageArithmetic>(
     ensures stage { TakesStage inverse K.product (slice_index (level_shifts K.width K.product (K.number z)) stage)
         (twiddle_basis K.width K.vector) stage (length values.old / 2 ^ (stage + 1)) (map K.value values.old) (map K.value values.new) }
 {
-    run_stage::<K>(values, stage, K::shift(z, stage), inverse);
+    run_stage::<K>(counter, values, stage, K::shift(z, stage), inverse);
 }

@@ -3,7 +3,7 @@ ghost use Rattle.std.specs.Prelude.{◌≡◌, length, map};
 ghost use Rattle.additive_transforms.specs.Elements.{FitsField};
 ghost use Rattle.additive_transforms.specs.Transform.{AreTheCoefficients, HoldValuesAtPoints, TakesTransform};
 
-use crate::elements::arithmetic::{OfElements, StageArithmetic};
+use crate::elements::arithmetic::{OfElements, Uncounted};
 use crate::elements::halves::run_halves;
 use crate::stages_of;
 use field_base::traits::TowerLevel;
@@ -19,7 +19,7 @@ pub fn forward_elements<F: TowerLevel>(values: &mut [F], z: F)
     ensures values { HoldValuesAtPoints F.width F.product (λ i. F.basis (F.cantor i)) (F.repr z)
         (map F.repr values.old) (map F.repr values.new) }
 {
-    forward_by::<OfElements<F>>(values, z);
+    forward_by::<OfElements<F>>(&mut (), values, z);
 }
 
 /// Replaces the values at the points by the coefficients of their polynomial, of which there is one list: with the same `z` it
@@ -30,34 +30,47 @@ pub fn inverse_elements<F: TowerLevel>(values: &mut [F], z: F)
     ensures coefficients { AreTheCoefficients F.width F.product (λ i. F.basis (F.cantor i)) (F.repr z)
         (map F.repr values.old) (map F.repr values.new) }
 {
-    inverse_by::<OfElements<F>>(values, z);
+    inverse_by::<OfElements<F>>(&mut (), values, z);
 }
 
 /// The transform `forward_elements` by an arithmetic: nothing but it computes on the values. The length of `values` has to be 2^m, where
 /// m is at most 40 and at most the bits of the arithmetic's field. It takes no memory.
-pub(crate) fn forward_by<K: StageArithmetic>(values: &mut [K::Value], z: K::Twiddle)
+pub(crate) fn forward_by<K: Uncounted>(
+    counter: &mut K::Counter,
+    values: &mut [K::Value],
+    z: K::Twiddle,
+)
     requires { FitsField K.width (length values.old) }
     ensures length { length values.new ≡ length values.old }
     ensures values { HoldValuesAtPoints K.width K.product K.vector (K.number z) (map K.value values.old) (map K.value values.new) }
 {
-    transform::<K>(values, z, false);
+    transform::<K>(counter, values, z, false);
 }
 
 /// The transform `inverse_elements` by an arithmetic: with the same `z` it takes back what `forward_by` did. It requires what
 /// `forward_by` requires, and takes no memory.
-pub(crate) fn inverse_by<K: StageArithmetic>(values: &mut [K::Value], z: K::Twiddle)
+pub(crate) fn inverse_by<K: Uncounted>(
+    counter: &mut K::Counter,
+    values: &mut [K::Value],
+    z: K::Twiddle,
+)
     requires { FitsField K.width (length values.old) }
     ensures length { length values.new ≡ length values.old }
     ensures coefficients { AreTheCoefficients K.width K.product K.vector (K.number z) (map K.value values.old) (map K.value values.new) }
 {
-    transform::<K>(values, z, true);
+    transform::<K>(counter, values, z, true);
 }
 
 // The transform of values, or, where `inverse` is true, the inverse one.
-fn transform<K: StageArithmetic>(values: &mut [K::Value], z: K::Twiddle, inverse: bool)
+fn transform<K: Uncounted>(
+    counter: &mut K::Counter,
+    values: &mut [K::Value],
+    z: K::Twiddle,
+    inverse: bool,
+)
     requires { FitsField K.width (length values.old) }
     ensures length { length values.new ≡ length values.old }
     ensures values { TakesTransform inverse K.width K.product K.vector (K.number z) (map K.value values.old) (map K.value values.new) }
 {
-    run_halves::<K>(values, stages_of(values.len()), z, inverse);
+    run_halves::<K>(counter, values, stages_of(values.len()), z, inverse);
 }

@@ -1,25 +1,36 @@
-use Rattle.std.proofs.Common.{ℕ, ap, arith}
-use Rattle.std.specs.Prelude.{bit_xor, slice_index}
+use Rattle.std.proofs.Common.{ℕ, length, sym, subst, arith}
+use Rattle.std.proofs.lemmas.Nat.{pow_pos}
+use Rattle.std.specs.Prelude.{bit_xor}
 use Rattle.field_base.specs.LinearMaps.{linear_image}
-use Rattle.ghash_slices.specs.LowStages.{ghash_product}
-use Rattle.additive_transforms.proofs.BlockStages.{stage_done, stage_step}
+use Rattle.additive_transforms.specs.Elements.{twiddle_basis}
+use Rattle.additive_transforms.proofs.BlockStages.{stage_blocks, stage_taken}
+use Rattle.additive_transforms.proofs.Counts.{stage_pairs}
 use Rattle.additive_transforms.proofs.stages.run_stage.Goals as goal
 
-pub loop-block-preserved : goal.loop-block-preserved
-loop-block-preserved g c =
-    let twiddles = c.args.twiddles.now in
-    let half = c.half_of-half.ensures.half in
-    let count = c.run_block.ensures.count in
-    let counted = c.loop-block.invariant.2 in
-    let both =
-    stage_step c.args.inverse ghash_product
-    (λ (q : ℕ). bit_xor (slice_index twiddles.shifts c.args.stage) (linear_image twiddles.basis q)) _
-    g.K.Kernel.value _ _ _ c.args.values.now c.loop-block.values c.run_block.new.block c.start_of-start.ensures.start
-    c.start_of-start.ensures.inside c.run_block.ensures.length
-    (ap (bit_xor (slice_index twiddles.shifts c.args.stage)) c.sum_of_images.ensures) c.run_block.ensures.values
-    c.loop-block.invariant.0 c.loop-block.invariant.1 in
-    (both.0, both.1, omega (arith, count, counted, half))
+pub run_blocks-requires-clause-half : goal.run_blocks-requires-clause-half
+run_blocks-requires-clause-half g c =
+    let some = pow_pos c.args.stage in
+    omega (arith, some, c.half_of.ensures.half)
+
+pub run_blocks-requires-clause-few : goal.run_blocks-requires-clause-few
+run_blocks-requires-clause-few g c =
+    let blocks = stage_blocks c.args.inverse g.K.StageArithmetic.product (λ (q : ℕ). q) _ c.args.stage c.half_of.ensures.half
+    (length c.args.values.now) in
+    omega (arith, blocks, c.requires.few)
+
+pub run_blocks-requires-clause-room : goal.run_blocks-requires-clause-room
+run_blocks-requires-clause-room g c =
+    subst (λ (n : ℕ). g.K.StageArithmetic.has_room c.args.counter.now n)
+    (sym (stage_pairs (length c.args.values.now) c.args.stage _ c.half_of.ensures.half c.requires.whole)) c.requires.room
+
+pub returns-clause-counted : goal.returns-clause-counted
+returns-clause-counted g c =
+    subst (λ (n : ℕ). g.K.StageArithmetic.counted c.args.counter.now c.run_blocks.new.counter n)
+    (stage_pairs (length c.args.values.now) c.args.stage _ c.half_of.ensures.half c.requires.whole) c.run_blocks.ensures.counted
 
 pub returns-clause-stage : goal.returns-clause-stage
 returns-clause-stage g c =
-    stage_done _ _ _ _ c.args.stage c.half_of-half.ensures.half _ c.loop-block.block _ _ (omega arith) c.loop-block.invariant.1
+    let by = g.K.StageArithmetic in
+    stage_taken c.args.inverse by.product
+    (λ (q : ℕ). bit_xor (by.number c.args.shift) (linear_image (twiddle_basis by.width by.vector) q)) _ c.args.stage
+    c.half_of.ensures.half _ _ _ c.run_blocks.ensures.blocks

@@ -1,10 +1,10 @@
-use Rattle.std.proofs.Common.{◌≡◌, ℕ, suc, ◌+◌, ◌-◌, ◌*◌, ◌^◌, ◌<◌, length, map, refl, sym, ◌∙◌, ap, subst, arith, lit<}
+use Rattle.std.proofs.Common.{◌≡◌, ℕ, suc, false, ◌+◌, ◌-◌, ◌*◌, ◌^◌, ◌<◌, length, map, refl, sym, ◌∙◌, ap, subst, arith, lit<}
 use Rattle.field_base.proofs.RemainderRing.{ghash_ring}
 use Rattle.ghash_slices.specs.LowStages.{ghash_product}
 use Rattle.ghash_slices.proofs.GhashVectors.{ghash_vectors}
 use Rattle.additive_transforms.specs.Stages.{AreLeft}
 use Rattle.additive_transforms.proofs.Counts.{half_count, half_counted, stage_room, whole_blocks}
-use Rattle.additive_transforms.proofs.ElementStages.{forward_on}
+use Rattle.additive_transforms.proofs.ElementStages.{few_blocks, forward_on, stage_by_table}
 use Rattle.additive_transforms.proofs.whole.stages_down_to.Goals as goal
 
 -- before the first stage nothing is counted
@@ -21,6 +21,11 @@ loop-stage-init g c =
 pub run_stage-requires-clause-whole : goal.run_stage-requires-clause-whole
 run_stage-requires-clause-whole g c =
     whole_blocks c.args.stages (c.loop-stage.stage - 1) (length c.loop-stage.values) (omega arith)
+    (c.loop-stage.invariant.1.0 ∙ c.requires.stages.1)
+
+pub run_stage-requires-clause-few : goal.run_stage-requires-clause-few
+run_stage-requires-clause-few g c =
+    few_blocks 128 c.args.stages (c.loop-stage.stage - 1) (length c.loop-stage.values) (omega arith) (omega (arith, c.requires.stages.0))
     (c.loop-stage.invariant.1.0 ∙ c.requires.stages.1)
 
 pub run_stage-requires-clause-room : goal.run_stage-requires-clause-room
@@ -42,9 +47,13 @@ loop-stage-preserved g c =
       omega arith,
       forward_on (lit< tt) ghash_ring ghash_vectors twiddles.are (ap suc twiddles.reach) g.K.Kernel.value g.K.Kernel.range_law
           c.requires.stages.0 c.args.values.now c.requires.stages stage c.loop-stage.values c.run_stage.new.values (omega arith) (omega arith)
-          c.run_stage.ensures.length c.run_stage.ensures.stage c.loop-stage.invariant.1,
+          c.run_stage.ensures.length
+          (stage_by_table twiddles.z twiddles.shifts twiddles.basis twiddles.are twiddles.reach false _ (stage - 1) m
+          (length c.loop-stage.values) _ _ (omega arith) c.requires.stages.0 (c.loop-stage.invariant.1.0 ∙ c.requires.stages.1)
+          c.to_tower_128-shift.ensures.image c.run_stage.ensures.stage)
+          c.loop-stage.invariant.1,
       half_counted _ _ _ (m - stage) m _ (omega arith) (c.loop-stage.invariant.1.0 ∙ c.requires.stages.1) c.loop-stage.invariant.2
-          c.run_stage.ensures.count
+          c.run_stage.ensures.counted
           ∙ ap (λ (n : ℕ). g.K.Kernel.count c.args.kernel.now + n * 2 ^ (m - 1)) done,
     )
 

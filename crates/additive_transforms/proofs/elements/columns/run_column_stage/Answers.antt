@@ -26,6 +26,9 @@ run_blocks-requires-clause-few g c =
     few_rows c.args.stages c.args.columns _ c.requires.rows c.args.stage _ c.requires.stage
     (ap (λ (h : ℕ). h * c.args.columns) c.half_of.ensures.half) g.K.StageArithmetic.width c.requires.few
 
+pub run_blocks-requires-clause-room : goal.run_blocks-requires-clause-room
+run_blocks-requires-clause-room g c = g.met.K.Uncounted.room_law _ _
+
 pub returns-clause-stage : goal.returns-clause-stage
 returns-clause-stage g c =
     let by = g.K.StageArithmetic in

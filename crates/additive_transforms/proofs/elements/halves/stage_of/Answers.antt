@@ -14,6 +14,9 @@ run_stage-requires-clause-few g c =
     few_blocks g.K.StageArithmetic.width c.args.stages c.args.stage (length c.args.values.now) c.requires.stage c.requires.few
     c.requires.stages.1
 
+pub run_stage-requires-clause-room : goal.run_stage-requires-clause-room
+run_stage-requires-clause-room g c = g.met.K.Uncounted.room_law _ _
+
 pub returns-clause-stage : goal.returns-clause-stage
 returns-clause-stage g c =
     let by = g.K.StageArithmetic in
