@@ -11,7 +11,7 @@ ghost use Rattle.additive_transforms.specs.Words.{TakesWords, cantor_vector, lev
 use crate::elements::arithmetic::{StageArithmetic, Uncounted};
 use crate::level_pairs::run_all;
 use crate::multiples::{multiples_8, multiples_16, multiples_32};
-use crate::products::{ChunkScalar, WholeScalar};
+use crate::products::WholeScalar;
 use crate::word_bytes::WordBytes;
 use crate::word_rows::run_words;
 use field_base::{LevelKernel, Unsigned};
@@ -93,19 +93,19 @@ pub(crate) fn butterflies_by_width<R: Unsigned, L: Level<R>, W: WordBytes<R>>(
     ensures upper { length hi.new ≡ length hi.old }
     ensures values { TakesWords W.Holds.number L.LEVEL inverse (R.number twiddle) lo.old hi.old lo.new hi.new }
 {
-    let level = PhantomData::<L>;
     let scalar = twiddle.to_u128();
     if 3 <= L::LEVEL && scalar < 1 << 8 {
-        let multiples = multiples_8(scalar as u8);
-        run_words(lo, hi, &ChunkScalar { multiples, level }, inverse);
+        run_words::<R, L, W, _>(lo, hi, multiples_8(scalar as u8), inverse);
     } else if 4 <= L::LEVEL && scalar < 1 << 16 {
-        let multiples = multiples_16(scalar as u16);
-        run_words(lo, hi, &ChunkScalar { multiples, level }, inverse);
+        run_words::<R, L, W, _>(lo, hi, multiples_16(scalar as u16), inverse);
     } else if 5 <= L::LEVEL && scalar < 1 << 32 {
-        let multiples = multiples_32(scalar as u32);
-        run_words(lo, hi, &ChunkScalar { multiples, level }, inverse);
+        run_words::<R, L, W, _>(lo, hi, multiples_32(scalar as u32), inverse);
     } else {
-        let scalar = twiddle;
-        run_all(lo, hi, &WholeScalar { scalar, level }, inverse);
+        let whole = WholeScalar {
+            scalar: twiddle,
+            inverse,
+            level: PhantomData::<L>,
+        };
+        run_all(lo, hi, &whole);
     }
 }

@@ -1,6 +1,6 @@
 // Butterflies of two words by a scalar of a level of the tower (S. Gao and T. Mateer, Additive fast Fourier transforms over finite fields,
 // IEEE Transactions on Information Theory 56, 2010).
-ghost use Rattle.std.specs.Prelude.{◌≡◌, [], ◌∷◌, ◌^◌, ◌<◌, ◌≤◌, ℕ, slice_index};
+ghost use Rattle.std.specs.Prelude.{◌≡◌, [], ◌∷◌, ◌^◌, ◌<◌, ◌≤◌, Bool, ℕ, slice_index};
 ghost use Rattle.additive_transforms.specs.Stages.{TakesBlock};
 ghost use Rattle.field_base.specs.Tower.{tower_mul};
 ghost use Rattle.ghash_slices.specs.Stages.{add_multiple};
@@ -12,7 +12,7 @@ use field_base::Unsigned;
 use std::marker::PhantomData;
 use word_tower::Level;
 
-/// A scalar of a level, by which the butterflies of words are computed.
+/// A scalar of a level, by which the butterflies of words are computed, and which way.
 pub(crate) trait Multiplies<R: Unsigned> {
     // The level.
     ghost level: { ℕ };
@@ -20,10 +20,13 @@ pub(crate) trait Multiplies<R: Unsigned> {
     // What it is as a number.
     ghost is_scalar: { Self → ℕ → Type 0 };
 
-    /// The forward butterfly of two words by the scalar, `lo += s * hi` and then `hi += lo`, or, where `inverse` is true, the inverse one.
-    fn pair(&self, lo: R, hi: R, inverse: bool) -> (R, R)
+    // Whether the butterflies are the inverse ones.
+    ghost inverse: { Self → Bool };
+
+    /// The forward butterfly of two words by the scalar, `lo += s * hi` and then `hi += lo`, or the inverse one.
+    fn pair(&self, lo: R, hi: R) -> (R, R)
         ensures { (s : ℕ) → is_scalar self.now s → let element = level_element R.number level in
-            TakesBlock inverse (tower_mul level) s 1 (slice_index (element lo ∷ element hi ∷ []))
+            TakesBlock (inverse self.now) (tower_mul level) s 1 (slice_index (element lo ∷ element hi ∷ []))
             (slice_index (element result.0 ∷ element result.1 ∷ [])) };
 }
 
@@ -31,6 +34,7 @@ pub(crate) trait Multiplies<R: Unsigned> {
 #[derive(Drop)]
 pub(crate) struct WholeScalar<R, L> {
     pub(crate) scalar: R,
+    pub(crate) inverse: bool,
     pub(crate) level: PhantomData<L>,
 }
 
@@ -39,8 +43,11 @@ impl<R: Unsigned, L: Level<R>> Multiplies<R> for WholeScalar<R, L> {
 
     ghost is_scalar = { λ whole s. R.number whole.scalar ≡ s };
 
+    ghost inverse = { λ whole. whole.inverse };
+
     #[inline(always)]
-    fn pair(&self, lo: R, hi: R, inverse: bool) -> (R, R) {
+    fn pair(&self, lo: R, hi: R) -> (R, R) {
+        let inverse = self.inverse;
         if inverse {
             let high = hi.xor(lo);
             (sum_of_multiple::<R, L>(lo, high, self.scalar), high)
@@ -64,6 +71,7 @@ fn sum_of_multiple<R: Unsigned, L: Level<R>>(x: R, y: R, scalar: R) -> R
 #[derive(Drop)]
 pub(crate) struct ChunkScalar<M, L> {
     pub(crate) multiples: M,
+    pub(crate) inverse: bool,
     pub(crate) level: PhantomData<L>,
 }
 
@@ -72,9 +80,16 @@ impl<R: Unsigned, L: Level<R>, M: Scales> Multiplies<R> for ChunkScalar<M, L> {
 
     ghost is_scalar = { λ chunk s. M.are_multiples chunk.multiples s × (s < 2 ^ 2 ^ level_of M.depth) × (level_of M.depth ≤ L.LEVEL) };
 
+    ghost inverse = { λ chunk. chunk.inverse };
+
     #[inline(always)]
-    fn pair(&self, lo: R, hi: R, inverse: bool) -> (R, R) {
-        let (low, high) = pair_of_numbers(&self.multiples, lo.to_u128(), hi.to_u128(), inverse);
+    fn pair(&self, lo: R, hi: R) -> (R, R) {
+        let (low, high) = pair_of_numbers(
+            &self.multiples,
+            lo.to_u128(),
+            hi.to_u128(),
+            self.inverse,
+        );
         (R::of_u128(low), R::of_u128(high))
     }
 }

@@ -13,6 +13,7 @@ use crate::products::ChunkScalar;
 use crate::word_bytes::WordBytes;
 use crate::word_planes::WordPlanes;
 use field_base::{Stored, Unsigned};
+use std::marker::PhantomData;
 use std::simd::prelude::*;
 use word_tables::ByteVector;
 use word_tower::Level;
@@ -45,9 +46,9 @@ pub(crate) trait WordBlock<R: Stored, W: WordBytes<R>>: Copy {
             → slice_index (map W.Holds.number words.new) k ≡ slice_index (map W.Holds.number words.old) k };
 
     /// The butterfly of each word of two.
-    fn butterflies<M: Scales>(multiples: &M, lo: Self, hi: Self, inverse: bool) -> (Self, Self)
-        ensures { (s : ℕ) → M.are_multiples multiples.now s → s < 2 ^ 2 ^ level_of M.depth → M.depth ≤ W.size
-            → TakesChunks inverse W.size s (bytes lo) (bytes hi) (bytes result.0) (bytes result.1) };
+    fn butterflies<M: Scales, L>(scalar: &ChunkScalar<M, L>, lo: Self, hi: Self) -> (Self, Self)
+        ensures { (s : ℕ) → M.are_multiples scalar.now.multiples s → s < 2 ^ 2 ^ level_of M.depth → M.depth ≤ W.size
+            → TakesChunks scalar.now.inverse W.size s (bytes lo) (bytes hi) (bytes result.0) (bytes result.1) };
 }
 
 impl<R: Stored, W: WordBytes<R>> WordBlock<R, W> for u8x16 {
@@ -74,8 +75,8 @@ impl<R: Stored, W: WordBytes<R>> WordBlock<R, W> for u8x16 {
     }
 
     #[inline(always)]
-    fn butterflies<M: Scales>(multiples: &M, lo: Self, hi: Self, inverse: bool) -> (Self, Self) {
-        pair_of_vectors(multiples, lo, hi, inverse)
+    fn butterflies<M: Scales, L>(scalar: &ChunkScalar<M, L>, lo: Self, hi: Self) -> (Self, Self) {
+        pair_of_vectors(&scalar.multiples, lo, hi, scalar.inverse)
     }
 }
 
@@ -117,12 +118,12 @@ impl<R: Stored, W: WordBytes<R>> WordBlock<R, W> for TwoVectors {
     }
 
     #[inline(always)]
-    fn butterflies<M: Scales>(multiples: &M, lo: Self, hi: Self, inverse: bool) -> (Self, Self) {
+    fn butterflies<M: Scales, L>(scalar: &ChunkScalar<M, L>, lo: Self, hi: Self) -> (Self, Self) {
         let (low, high) = two_pairs_of_vectors(
-            multiples,
+            &scalar.multiples,
             (lo.first, lo.second),
             (hi.first, hi.second),
-            inverse,
+            scalar.inverse,
         );
         lo.first.holds_bytes();
         hi.first.holds_bytes();
@@ -141,75 +142,78 @@ impl<R: Stored, W: WordBytes<R>> WordBlock<R, W> for TwoVectors {
     }
 }
 
-/// The butterflies of two rows by a narrow scalar: in blocks of two vectors, then in vectors of sixteen bytes, then word by word.
+/// The butterflies of two rows by the multiples of a narrow scalar, or, where `inverse` is true, the inverse ones: in blocks of two vectors,
+/// then in vectors of sixteen bytes, then word by word.
 #[inline(always)]
-pub(crate) fn run_words<R: Unsigned, L: Level<R>, W: WordBytes<R>, M: Scales>(
+pub(crate) fn run_words<R: Unsigned, L: Level<R>, W: WordBytes<R>, M: Scales + Copy>(
     lo: &mut [W],
     hi: &mut [W],
-    scalar: &ChunkScalar<M, L>,
+    multiples: M,
     inverse: bool,
 )
     requires { length lo.old ≡ length hi.old }
     ensures lower { length lo.new ≡ length lo.old }
     ensures upper { length hi.new ≡ length hi.old }
     ensures values { (s : ℕ)
-        → M.are_multiples scalar.now.multiples s × (s < 2 ^ 2 ^ level_of M.depth) × (level_of M.depth ≤ L.LEVEL)
+        → M.are_multiples multiples s × (s < 2 ^ 2 ^ level_of M.depth) × (level_of M.depth ≤ L.LEVEL)
         → TakesWords W.Holds.number L.LEVEL inverse s lo.old hi.old lo.new hi.new }
 {
-    let multiples = &scalar.multiples;
-    let wide = run_vectors::<R, W, M, TwoVectors>(lo, hi, 0, multiples, inverse);
-    let narrow = run_vectors::<R, W, M, u8x16>(lo, hi, wide, multiples, inverse);
-    run_pairs(lo, hi, narrow, scalar, inverse);
+    let scalar = ChunkScalar {
+        multiples,
+        inverse,
+        level: PhantomData::<L>,
+    };
+    let wide = run_vectors::<R, L, W, M, TwoVectors>(lo, hi, 0, &scalar);
+    let narrow = run_vectors::<R, L, W, M, u8x16>(lo, hi, wide, &scalar);
+    run_pairs(lo, hi, narrow, &scalar);
 }
 
 // The butterflies from the word `first` on, block by block, as far as there are whole blocks; the word behind them is returned.
 #[inline(always)]
-fn run_vectors<R: Stored, W: WordBytes<R>, M: Scales, B: WordBlock<R, W>>(
+fn run_vectors<R: Stored, L, W: WordBytes<R>, M: Scales, B: WordBlock<R, W>>(
     lo: &mut [W],
     hi: &mut [W],
     first: usize,
-    multiples: &M,
-    inverse: bool,
+    scalar: &ChunkScalar<M, L>,
 ) -> usize
     requires same { length lo.old ≡ length hi.old }
     requires inside { first ≤ length lo.old }
     ensures lower { length lo.new ≡ length lo.old }
     ensures upper { length hi.new ≡ length hi.old }
     ensures inside { result ≤ length lo.old }
-    ensures values { (s : ℕ) → M.are_multiples multiples.now s → s < 2 ^ 2 ^ level_of M.depth
+    ensures values { (s : ℕ) → M.are_multiples scalar.now.multiples s → s < 2 ^ 2 ^ level_of M.depth
         → (k : ℕ) → level_of M.depth ≤ k → k ≤ level_of W.size
-        → TakesWordPairs W.Holds.number k inverse s first result lo.old hi.old lo.new hi.new }
+        → TakesWordPairs W.Holds.number k scalar.now.inverse s first result lo.old hi.old lo.new hi.new }
 {
     let count = B::words();
     let blocks = (lo.len() - first) / count;
     for block in 0..blocks {
-        run_at::<R, W, M, B>(lo, hi, first + count * block, count, multiples, inverse);
+        run_at::<R, L, W, M, B>(lo, hi, first + count * block, count, scalar);
     }
     first + count * blocks
 }
 
 // The butterflies of the words of one block.
 #[inline(always)]
-fn run_at<R: Stored, W: WordBytes<R>, M: Scales, B: WordBlock<R, W>>(
+fn run_at<R: Stored, L, W: WordBytes<R>, M: Scales, B: WordBlock<R, W>>(
     lo: &mut [W],
     hi: &mut [W],
     start: usize,
     count: usize,
-    multiples: &M,
-    inverse: bool,
+    scalar: &ChunkScalar<M, L>,
 )
     requires count { count * 2 ^ W.size ≡ 16 * B.sixteens }
     requires low_inside { start + count ≤ length lo.old }
     requires high_inside { start + count ≤ length hi.old }
     ensures lower { length lo.new ≡ length lo.old }
     ensures upper { length hi.new ≡ length hi.old }
-    ensures values { (s : ℕ) → M.are_multiples multiples.now s → s < 2 ^ 2 ^ level_of M.depth
+    ensures values { (s : ℕ) → M.are_multiples scalar.now.multiples s → s < 2 ^ 2 ^ level_of M.depth
         → (k : ℕ) → level_of M.depth ≤ k → k ≤ level_of W.size
-        → TakesWordPairs W.Holds.number k inverse s start (start + count) lo.old hi.old lo.new hi.new }
+        → TakesWordPairs W.Holds.number k scalar.now.inverse s start (start + count) lo.old hi.old lo.new hi.new }
 {
     let lower = B::read_words(lo, start, count);
     let upper = B::read_words(hi, start, count);
-    let (low, high) = B::butterflies(multiples, lower, upper, inverse);
+    let (low, high) = B::butterflies(scalar, lower, upper);
     low.write_words(lo, start, count);
     high.write_words(hi, start, count);
 }

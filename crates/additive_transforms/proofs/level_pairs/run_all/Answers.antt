@@ -9,6 +9,6 @@ returns-clause-values g c s is =
     let k = g.S.Multiplies.level in
     let element = level_element g.W.Reads.number k in
     taken_ends element (tower_mul k) s (length c.args.lo.now) c.args.lo.now c.args.hi.now c.run_pairs.new.lo c.run_pairs.new.hi c.requires
-    (omega arith) c.args.inverse
+    (omega arith) (g.S.Multiplies.inverse c.args.scalar.now)
     (c.run_pairs.ensures.values s is (map element c.args.lo.now) (map element c.args.hi.now)
-    (pairs_start (taken_pair c.args.inverse (tower_mul k) s) (map element c.args.lo.now) (map element c.args.hi.now)))
+    (pairs_start (taken_pair (g.S.Multiplies.inverse c.args.scalar.now) (tower_mul k) s) (map element c.args.lo.now) (map element c.args.hi.now)))

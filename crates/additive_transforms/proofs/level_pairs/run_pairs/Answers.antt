@@ -18,7 +18,7 @@ loop-place-preserved g c =
       length-set c.loop-place.lo c.loop-place.place c.run_pair.new.lo ∙ so_far.0,
       length-set c.loop-place.hi c.loop-place.place c.run_pair.new.hi ∙ so_far.1,
       λ s is lower upper before.
-          next_pair (level_element g.W.Reads.number k) (taken_pair c.args.inverse (tower_mul k) s) c.loop-place.place c.loop-place.lo
+          next_pair (level_element g.W.Reads.number k) (taken_pair (g.S.Multiplies.inverse c.args.scalar.now) (tower_mul k) s) c.loop-place.place c.loop-place.lo
           c.loop-place.hi c.index-lo-place.result c.index-hi-place.result c.run_pair.new.lo c.run_pair.new.hi
           (so_far.0 ∙ c.requires.same ∙ sym so_far.1) (omega (arith, below, low)) (c.run_pair.ensures s is) lower upper
           (so_far.2 s is lower upper before),

@@ -7,4 +7,4 @@ abbrev pub invariant-loop-place : goal.invariant-loop-place
 invariant-loop-place g l =
     (length l.lo ≡ length l.fn.lo) × (length l.hi ≡ length l.fn.hi)
     × ((s : ℕ) → g.S.Multiplies.is_scalar l.fn.scalar s
-    → TakesWordPairs g.W.Reads.number g.S.Multiplies.level l.inverse s l.fn.first l.place l.fn.lo l.fn.hi l.lo l.hi)
+    → TakesWordPairs g.W.Reads.number g.S.Multiplies.level (g.S.Multiplies.inverse l.fn.scalar) s l.fn.first l.place l.fn.lo l.fn.hi l.lo l.hi)

@@ -7,7 +7,7 @@ pub returns-clause-values : goal.returns-clause-values
 returns-clause-values g c s are fits k within few =
     let size = g.W.WordBytes.size in
     let depth = g.M.Scales.depth in
-    vector_taken g.W.Reads.number c.args.inverse (level_of depth) k size c.args.start c.args.count s _ _ _ _ c.args.lo.now c.args.hi.now
+    vector_taken g.W.Reads.number c.args.scalar.now.inverse (level_of depth) k size c.args.start c.args.count s _ _ _ _ c.args.lo.now c.args.hi.now
     c.write_words.new.words c.write_words-2.new.words within few fits c.read_words-lower.ensures c.read_words-upper.ensures
     (c.butterflies-low.ensures s are fits (depth_within depth size (omega (arith, within, few))))
     c.write_words.ensures.length c.write_words.ensures.words c.write_words.ensures.kept

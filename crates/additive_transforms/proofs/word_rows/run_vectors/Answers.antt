@@ -15,7 +15,7 @@ loop-block-preserved g c =
       c.run_at.ensures.lower ∙ so_far.0,
       c.run_at.ensures.upper ∙ so_far.1,
       λ s are fits k within few lower upper before.
-          subst (λ (m : ℕ). PairsSoFar (taken_pair c.args.inverse (tower_mul k) s) m lower upper
+          subst (λ (m : ℕ). PairsSoFar (taken_pair c.args.scalar.now.inverse (tower_mul k) s) m lower upper
           (map (level_element g.W.Reads.number k) c.run_at.new.lo) (map (level_element g.W.Reads.number k) c.run_at.new.hi)) next
           (c.run_at.ensures.values s are fits k within few lower upper (so_far.2 s are fits k within few lower upper before)),
       omega (arith, inside),
@@ -27,6 +27,6 @@ returns-clause-values g c s are fits k within few lower upper before =
     let over = c.loop-block-test.false in
     let most = so_far.3 in
     let last : c.loop-block.block ≡ (length c.args.lo.now - c.args.first) / c.words-count.result = omega (arith, most, over) in
-    subst (λ (b : ℕ). PairsSoFar (taken_pair c.args.inverse (tower_mul k) s) (c.args.first + c.words-count.result * b) lower upper
+    subst (λ (b : ℕ). PairsSoFar (taken_pair c.args.scalar.now.inverse (tower_mul k) s) (c.args.first + c.words-count.result * b) lower upper
     (map (level_element g.W.Reads.number k) c.loop-block.lo) (map (level_element g.W.Reads.number k) c.loop-block.hi)) last
     (so_far.2 s are fits k within few lower upper before)

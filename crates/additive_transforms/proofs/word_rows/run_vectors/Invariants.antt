@@ -7,7 +7,7 @@ use Rattle.additive_transforms.proofs.word_rows.run_vectors.Given as goal
 abbrev pub invariant-loop-block : goal.invariant-loop-block
 invariant-loop-block g l =
     (length l.lo ≡ length l.fn.lo) × (length l.hi ≡ length l.fn.hi)
-    × ((s : ℕ) → g.M.Scales.are_multiples l.multiples s → s < 2 ^ 2 ^ level_of g.M.Scales.depth
+    × ((s : ℕ) → g.M.Scales.are_multiples l.fn.scalar.multiples s → s < 2 ^ 2 ^ level_of g.M.Scales.depth
     → (k : ℕ) → level_of g.M.Scales.depth ≤ k → k ≤ level_of g.W.WordBytes.size
-    → TakesWordPairs g.W.Reads.number k l.inverse s l.fn.first (l.fn.first + l.count * l.block) l.fn.lo l.fn.hi l.lo l.hi)
+    → TakesWordPairs g.W.Reads.number k l.fn.scalar.inverse s l.fn.first (l.fn.first + l.count * l.block) l.fn.lo l.fn.hi l.lo l.hi)
     × (l.block ≤ l.blocks)
