@@ -7,7 +7,7 @@ ghost use Rattle.additive_transforms.specs.Words.{level_element};
 ghost use Rattle.word_tables.specs.Cantor.{cantor_vector};
 
 use crate::arithmetic::OfLevel;
-use crate::elements::columns::{forward_columns_by, inverse_columns_by};
+use crate::elements::columns::{inverse_columns_by, run_columns};
 use crate::word_bytes::WordBytes;
 use field_base::Unsigned;
 use word_tower::Level;
@@ -30,7 +30,7 @@ pub fn forward_level_columns<R: Unsigned, L: Level<R>, W: WordBytes<R>>(
         InEachColumn columns (HoldValuesAtPoints (2 ^ L.LEVEL) (tower_mul L.LEVEL) cantor_vector (R.number z)) (map element words.old)
         (map element words.new) }
 {
-    forward_columns_by::<OfLevel<R, L, W>>(&mut (), words, columns, z);
+    run_columns::<OfLevel<R, L, W>>(&mut (), words, columns, z, false);
 }
 
 /// The transform `inverse_level` of each column: with the same `z` it takes back what `forward_level_columns` did. It requires what

@@ -3,7 +3,7 @@ ghost use Rattle.std.specs.Prelude.{◌≡◌, ◌↔◌, ℕ, ◌^◌, ◌<◌,
 ghost use Rattle.additive_transforms.specs.Transform.{AreOnlyCoefficients, CountsPairs, FitsTransform, HasStages, HoldPolynomialValues};
 ghost use Rattle.additive_transforms.specs.Images.{IsWideShift};
 
-use crate::elements::whole::{forward_by, inverse_by};
+use crate::elements::whole::{inverse_by, transform};
 use crate::images::{OfImages, change_basis};
 use crate::whole::{forward_words, inverse_words};
 use crate::{PolyKernel, forward_with, inverse_with};
@@ -123,7 +123,7 @@ pub fn transform_ghash<V: Width, W: Holds<u128>>(words: &mut [W], z: u128, is_in
         if is_inverse {
             inverse_by::<OfImages<W>>(&mut (), words, shift);
         } else {
-            forward_by::<OfImages<W>>(&mut (), words, shift);
+            transform::<OfImages<W>>(&mut (), words, shift, false);
         }
         change_basis(words, true);
     } else if is_inverse {

@@ -8,7 +8,7 @@ ghost use Rattle.additive_transforms.specs.Words.{cantor_vector, level_element};
 
 use crate::arithmetic::OfLevel;
 use crate::elements::arithmetic::StageArithmetic;
-use crate::elements::whole::{forward_by, inverse_by};
+use crate::elements::whole::{inverse_by, transform};
 use crate::word_bytes::{StoredBytes, WordBytes};
 use field_base::Unsigned;
 use word_tower::Level;
@@ -25,7 +25,7 @@ pub fn forward_level<R: Unsigned, L: Level<R>, W: WordBytes<R>>(words: &mut [W],
     ensures values { let element = level_element W.Holds.number L.LEVEL in
         HoldValuesAtPoints (2 ^ L.LEVEL) (tower_mul L.LEVEL) cantor_vector (R.number z) (map element words.old) (map element words.new) }
 {
-    forward_by::<OfLevel<R, L, W>>(&mut (), words, z);
+    transform::<OfLevel<R, L, W>>(&mut (), words, z, false);
 }
 
 /// Replaces the values at the points by the coefficients of their polynomial, of which there is one list: with the same `z` it takes back

@@ -4,31 +4,14 @@ ghost use Rattle.std.specs.Prelude.{◌≡◌, ◌+◌, ◌-◌, ◌^◌, ◌<�
 ghost use Rattle.additive_transforms.specs.Columns.{FitsColumns, HasRows, InEachColumn};
 ghost use Rattle.additive_transforms.specs.Elements.{level_shifts, twiddle_basis};
 ghost use Rattle.additive_transforms.specs.Stages.{TakesStage};
-ghost use Rattle.additive_transforms.specs.Transform.{AreTheCoefficients, HoldValuesAtPoints, TakesTransform};
+ghost use Rattle.additive_transforms.specs.Transform.{AreTheCoefficients, TakesTransform};
 
 use crate::elements::arithmetic::Uncounted;
 use crate::stages::{half_of, run_blocks, stage_after};
 use crate::stages_of;
 
-/// The transform `forward_by` of each column of rows of `columns` values that lie one behind the other: of value c of each row, for each c
-/// below `columns`. There has to be a column, and 2^m rows, where m is at most 40 and at most the bits of the arithmetic's field. It takes
-/// no memory, and goes through all values once a stage: where they are more than a cache holds, call it for a few columns at a time.
-pub(crate) fn forward_columns_by<K: Uncounted>(
-    counter: &mut K::Counter,
-    values: &mut [K::Value],
-    columns: usize,
-    z: K::Twiddle,
-)
-    requires rows { FitsColumns K.width columns (length values.old) }
-    ensures length { length values.new ≡ length values.old }
-    ensures values { InEachColumn columns (HoldValuesAtPoints K.width K.product K.vector (K.number z)) (map K.value values.old)
-        (map K.value values.new) }
-{
-    run_columns::<K>(counter, values, columns, z, false);
-}
-
-/// The transform `inverse_by` of each column: with the same `z` it takes back what `forward_columns_by` did. It requires what
-/// `forward_columns_by` requires, and takes no memory.
+/// The transform `inverse_by` of each column: with the same `z` it takes back what `run_columns` did. It requires what `run_columns`
+/// requires, and takes no memory.
 pub(crate) fn inverse_columns_by<K: Uncounted>(
     counter: &mut K::Counter,
     values: &mut [K::Value],
@@ -43,8 +26,10 @@ pub(crate) fn inverse_columns_by<K: Uncounted>(
     run_columns::<K>(counter, values, columns, z, true);
 }
 
-// The transform of each column, or, where `inverse` is true, the inverse one.
-fn run_columns<K: Uncounted>(
+/// The transform `transform` of each column of rows of `columns` values that lie one behind the other: of value c of each row, for each c
+/// below `columns`. There has to be a column, and 2^m rows, where m is at most 40 and at most the bits of the arithmetic's field. It takes
+/// no memory, and goes through all values once a stage: where they are more than a cache holds, call it for a few columns at a time.
+pub(crate) fn run_columns<K: Uncounted>(
     counter: &mut K::Counter,
     values: &mut [K::Value],
     columns: usize,

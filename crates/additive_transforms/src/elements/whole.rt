@@ -19,7 +19,7 @@ pub fn forward_elements<F: TowerLevel>(values: &mut [F], z: F)
     ensures values { HoldValuesAtPoints F.width F.product (λ i. F.basis (F.cantor i)) (F.repr z)
         (map F.repr values.old) (map F.repr values.new) }
 {
-    forward_by::<OfElements<F>>(&mut (), values, z);
+    transform::<OfElements<F>>(&mut (), values, z, false);
 }
 
 /// Replaces the values at the points by the coefficients of their polynomial, of which there is one list: with the same `z` it
@@ -33,22 +33,8 @@ pub fn inverse_elements<F: TowerLevel>(values: &mut [F], z: F)
     inverse_by::<OfElements<F>>(&mut (), values, z);
 }
 
-/// The transform `forward_elements` by an arithmetic: nothing but it computes on the values. The length of `values` has to be 2^m, where
-/// m is at most 40 and at most the bits of the arithmetic's field. It takes no memory.
-pub(crate) fn forward_by<K: Uncounted>(
-    counter: &mut K::Counter,
-    values: &mut [K::Value],
-    z: K::Twiddle,
-)
-    requires { FitsField K.width (length values.old) }
-    ensures length { length values.new ≡ length values.old }
-    ensures values { HoldValuesAtPoints K.width K.product K.vector (K.number z) (map K.value values.old) (map K.value values.new) }
-{
-    transform::<K>(counter, values, z, false);
-}
-
-/// The transform `inverse_elements` by an arithmetic: with the same `z` it takes back what `forward_by` did. It requires what
-/// `forward_by` requires, and takes no memory.
+/// The transform `inverse_elements` by an arithmetic: with the same `z` it takes back what `transform` did. It requires what `transform`
+/// requires, and takes no memory.
 pub(crate) fn inverse_by<K: Uncounted>(
     counter: &mut K::Counter,
     values: &mut [K::Value],
@@ -61,8 +47,9 @@ pub(crate) fn inverse_by<K: Uncounted>(
     transform::<K>(counter, values, z, true);
 }
 
-// The transform of values, or, where `inverse` is true, the inverse one.
-fn transform<K: Uncounted>(
+/// The transform `forward_elements` by an arithmetic, or, where `inverse` is true, the inverse one: nothing but it computes on the values.
+/// The length of `values` has to be 2^m, where m is at most 40 and at most the bits of the arithmetic's field. It takes no memory.
+pub(crate) fn transform<K: Uncounted>(
     counter: &mut K::Counter,
     values: &mut [K::Value],
     z: K::Twiddle,

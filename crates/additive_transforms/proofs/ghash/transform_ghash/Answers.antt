@@ -9,8 +9,8 @@ use Rattle.additive_transforms.proofs.ghash.transform_ghash.Goals.{else-is_inver
 pub inverse_by-requires : goal.inverse_by-requires
 inverse_by-requires g c = fits_ghash (length c.args.words.now) _ c.change_basis.ensures.length c.requires
 
-pub forward_by-requires : goal.forward_by-requires
-forward_by-requires g c = fits_ghash (length c.args.words.now) _ c.change_basis.ensures.length c.requires
+pub transform-requires : goal.transform-requires
+transform-requires g c = fits_ghash (length c.args.words.now) _ c.change_basis.ensures.length c.requires
 
 pub returns-after-is_inverse-clause-values : goal.returns-after-is_inverse-clause-values
 returns-after-is_inverse-clause-values g c forward =
@@ -18,9 +18,9 @@ returns-after-is_inverse-clause-values g c forward =
       | then-is_inverse w ↦ absurd (forward w.if-is_inverse.true)
       | else-is_inverse w ↦
           through_images g.W.Reads.number HoldPolynomialValues c.args.z c.to_tower_128-shift.result c.args.words.now c.change_basis.new.words
-          w.forward_by.new.values c.change_basis-then-is_narrow.new.words c.to_tower_128-shift.ensures.image c.change_basis.ensures.changed
+          w.transform.new.values c.change_basis-then-is_narrow.new.words c.to_tower_128-shift.ensures.image c.change_basis.ensures.changed
           (c.change_basis-then-is_narrow.ensures.changed ∙ ap (λ l. map (before_change true) (map g.W.Reads.number l)) w.words-is)
-          w.forward_by.ensures.values
+          w.transform.ensures.values
     ]
 
 pub returns-after-is_inverse-clause-coefficients : goal.returns-after-is_inverse-clause-coefficients
