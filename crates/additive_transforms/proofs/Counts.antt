@@ -67,23 +67,6 @@ stage_pairs values stage half is whole =
 
 -- ---- pairs, h in each stage
 
--- where all m stages fit the count, one more stage does
-pub stage_room : (old now done m h : ℕ) → done < m → old + m * h < 2 ^ 64 → now ≡ old + done * h → now + h < 2 ^ 64
-stage_room old now done m h below room is =
-    let most : suc done * h ≤ m * h = mul-le-mul_right h below in
-    let one : suc done * h ≡ done * h + h = omega arith in
-    omega (arith, most, one, room, is)
-
--- a stage adds its h pairs to the count
-pub stage_counted : (old now next done h : ℕ) → now ≡ old + done * h → next ≡ now + h → next ≡ old + suc done * h
-stage_counted old now next done h is more = let one : suc done * h ≡ done * h + h = omega arith in omega (arith, is, more, one)
-
--- so it does where it counts half of 2 ^ m values
-pub half_counted : (old now next done m values : ℕ) → 0 < m → values ≡ 2 ^ m → now ≡ old + done * 2 ^ (m - 1) → next ≡ now + values / 2
-    → next ≡ old + suc done * 2 ^ (m - 1)
-half_counted old now next done m values above is so_far more =
-    stage_counted old now next done (2 ^ (m - 1)) so_far (more ∙ ap (λ (h : ℕ). now + h) (half_count m values above is))
-
 -- the four low stages add theirs, so that all m stages are counted
 pub low_counted : (old now next m h : ℕ) → 4 ≤ m → now ≡ old + (m - 4) * h → next ≡ now + 4 * h → next ≡ old + m * h
 low_counted old now next m h enough is more =

@@ -1,82 +1,21 @@
--- Transforms depth first: the loop over the stages of a slice, and, of a larger one, its highest stage and both of its halves.
-use Rattle.std.proofs.Common.{◌≡◌, ℕ, suc, Bool, true, false, ◌+◌, ◌-◌, ◌*◌, ◌/◌, ◌^◌, ◌<◌, ◌≤◌, List, length, map, take, drop, refl, sym, ◌∙◌, ap, subst, arith}
-use Rattle.std.specs.Prelude.{bit_xor, cond, slice_index}
+-- Transforms depth first: of a slice its highest stage, and both of its halves.
+use Rattle.std.proofs.Common.{◌≡◌, ℕ, suc, ◌+◌, ◌-◌, ◌*◌, ◌/◌, ◌^◌, ◌<◌, ◌≤◌, List, length, map, take, drop, refl, sym, ◌∙◌, ap, subst, arith}
+use Rattle.std.specs.Prelude.{bit_xor, slice_index}
 use Rattle.std.proofs.lemmas.List.{length-map}
 use Rattle.std.proofs.lemmas.Nat.{pow_pos}
 use Rattle.field_base.specs.LinearMaps.{linear_image}
 use Rattle.field_base.specs.Orders.{AreCantorVectors}
 use Rattle.field_base.specs.Ring.{IsRing}
-use Rattle.ghash_slices.specs.Cantor.{AreCantorTwiddles}
 use Rattle.field_base.proofs.WordValues.{values_fit}
 use Rattle.additive_transforms.specs.Elements.{level_shifts, twiddle_basis}
-use Rattle.additive_transforms.specs.Stages.{AreLeft, IsButterfly, IsStage, TakesStage}
-use Rattle.additive_transforms.specs.Transform.{HasStages, HoldValuesAtPoints, TakesTransform}
+use Rattle.additive_transforms.specs.Stages.{IsButterfly, IsStage}
+use Rattle.additive_transforms.specs.Transform.{HoldValuesAtPoints}
 use Rattle.additive_transforms.proofs.BlockStages.{butterfly-at, butterfly-same}
 use Rattle.additive_transforms.proofs.Carries.{no_image}
 use Rattle.additive_transforms.proofs.Counts.{block_count}
-use Rattle.additive_transforms.proofs.ElementStages.{ForwardSoFar, InverseSoFar, basis_length, forward_on, forward_whole, inverse_on, inverse_whole, level_twiddles, shift_at}
+use Rattle.additive_transforms.proofs.ElementStages.{shift_at}
 use Rattle.additive_transforms.proofs.HalfValues.{halves_hold}
-use Rattle.additive_transforms.proofs.WholeStages.{undone_start}
 use Rattle.additive_transforms.proofs.Written.{map-drop, map-take}
-
--- ---- stage by stage
-
--- so many of the m stages are done, from the highest down, or, where the first argument is true, undone, from the lowest up
-abbrev pub StagesSoFar : {A : Type 0} → Bool → ℕ → (ℕ → ℕ → ℕ) → (ℕ → ℕ) → ℕ → (A → ℕ) → ℕ → ℕ → List A → List A → Type 0
-StagesSoFar false width times vector z value m done old now =
-    ForwardSoFar times (level_shifts width times z) (twiddle_basis width vector) value m (m - done) old now
-StagesSoFar true width times vector z value m done old now =
-    InverseSoFar times (level_shifts width times z) (twiddle_basis width vector) value m done old now
-
--- before the first stage
-pub stages_start : {A : Type 0} (inverse : Bool) (width : ℕ) (times : ℕ → ℕ → ℕ) (vector : ℕ → ℕ) (z : ℕ) (value : A → ℕ) (m : ℕ)
-    (old : List A) → StagesSoFar inverse width times vector z value m 0 old old
-stages_start true width times vector z value m old =
-    (refl, undone_start times (level_shifts width times z) (twiddle_basis width vector) m (map value old))
-stages_start false width times vector z value m old =
-    let all : m ≡ m - 0 = omega arith in (
-      refl,
-      subst (λ (n : ℕ). AreLeft times (level_shifts width times z) (twiddle_basis width vector) m n (map value old) (map value old)) all
-          (λ p inside. refl),
-    )
-
-module _ {width : ℕ} {times : ℕ → ℕ → ℕ} {vector : ℕ → ℕ} (wide : 0 < width) (ring : IsRing width 1 times)
-    (vectors : AreCantorVectors width times vector) {A : Type 0} (value : A → ℕ) (range : (x : A) → value x < 2 ^ width) (z : ℕ) {m : ℕ}
-    (few : m ≤ width) (old : List A) (has : HasStages m (length old)) where
-  twiddles : AreCantorTwiddles width times vector z width (level_shifts width times z) (twiddle_basis width vector)
-  twiddles = level_twiddles wide z
-
-  long : suc (length (twiddle_basis width vector)) ≡ width
-  long = basis_length width vector wide
-
-  -- one more stage, the one that comes next
-  pub stages_on : (inverse : Bool) (done stage : ℕ) (now next : List A) → done < m → stage ≡ cond inverse done (m - 1 - done)
-      → length next ≡ length now
-      → TakesStage inverse times (slice_index (level_shifts width times z) stage) (twiddle_basis width vector) stage
-      (length now / 2 ^ (stage + 1)) (map value now) (map value next)
-      → StagesSoFar inverse width times vector z value m done old now → StagesSoFar inverse width times vector z value m (done + 1) old next
-  stages_on true done stage now next below is same taken so_far =
-      subst (λ (j : ℕ). StagesSoFar true width times vector z value m (j + 1) old next) is
-      (inverse_on wide ring vectors twiddles long value range few old has stage now next (omega (arith, below, is)) same taken
-      (subst (λ (j : ℕ). StagesSoFar true width times vector z value m j old now) (sym is) so_far))
-  stages_on false done stage now next below is same taken so_far =
-      let last : m - done - 1 ≡ m - (done + 1) = omega arith in
-      let at : stage ≡ m - done - 1 = omega (arith, is) in
-      subst (λ (n : ℕ). ForwardSoFar times (level_shifts width times z) (twiddle_basis width vector) value m n old next) last
-      (forward_on wide ring vectors twiddles long value range few old has (m - done) now next (omega (arith, below)) (omega arith) same
-      (subst (λ (j : ℕ). TakesStage false times (slice_index (level_shifts width times z) j) (twiddle_basis width vector) j
-      (length now / 2 ^ (j + 1)) (map value now) (map value next)) at taken)
-      so_far)
-
-  -- after the last one
-  pub stages_whole : (inverse : Bool) (done : ℕ) (now : List A) → done ≡ m → StagesSoFar inverse width times vector z value m done old now
-      → TakesTransform inverse width times vector z (map value old) (map value now)
-  stages_whole true done now last so_far =
-      inverse_whole wide ring vectors twiddles long value range few old has true refl done now last so_far
-  stages_whole false done now last so_far =
-      forward_whole wide ring vectors twiddles long value range few old has false refl (m - done) now (omega (arith, last)) so_far
-
--- ---- by halves
 
 -- the first block of a stage begins at place 0, and its scalar is the shift
 first_block : (times : ℕ → ℕ → ℕ) (shift : ℕ) (basis : List ℕ) (j blocks : ℕ) (a b : List ℕ) → 0 < blocks

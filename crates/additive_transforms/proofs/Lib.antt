@@ -25,6 +25,7 @@ pub mod PairLoops
 pub mod PointSums
 mod ScalarHalves
 mod Scalars
+pub mod StagesFrom
 pub mod SubspaceSteps
 mod Tables
 pub mod TwiddleWidths

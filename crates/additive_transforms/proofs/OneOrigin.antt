@@ -1,5 +1,5 @@
 -- What all the stages leave has one origin.
-use Rattle.std.proofs.Common.{◌≡◌, ℕ, zero, suc, ◌+◌, ◌-◌, ◌*◌, ◌/◌, ◌%◌, ◌^◌, ◌<◌, ◌≤◌, List, length, take, refl, sym, ◌∙◌, ap, ap₂, subst, arith, lit<}
+use Rattle.std.proofs.Common.{◌≡◌, ℕ, zero, suc, ◌+◌, ◌-◌, ◌*◌, ◌/◌, ◌%◌, ◌^◌, ◌<◌, ◌≤◌, List, length, refl, sym, ◌∙◌, ap, ap₂, subst, arith}
 use Rattle.std.specs.Prelude.{bit_xor, slice_index}
 use Rattle.std.specs.Int.{bit_at}
 use Rattle.std.proofs.Math.Nat.{two-pow-succ}
@@ -11,16 +11,13 @@ use Rattle.field_base.specs.BitRingLemmas.{two_cases}
 use Rattle.field_base.specs.LinearMaps.{linear_image}
 use Rattle.field_base.specs.Orders.{AreCantorVectors}
 use Rattle.field_base.specs.Ring.{IsRing}
-use Rattle.field_base.proofs.RemainderRing.{ghash_ring}
 use Rattle.field_base.proofs.RingLemmas.{sum_times, xor_cancel, xor_back}
 use Rattle.additive_transforms.specs.Stages.{AreLeft}
 use Rattle.ghash_slices.specs.Stages.{factor, lower_place, stage, stages, upper_place}
 use Rattle.ghash_slices.specs.Cantor.{AreCantorTwiddles, point, polynomial_value}
-use Rattle.ghash_slices.proofs.GhashVectors.{ghash_vectors}
-use Rattle.ghash_slices.specs.LowStages.{ghash_cantor_vector, ghash_product, HoldSums}
-use Rattle.additive_transforms.specs.Transform.{AreTheCoefficients, HoldPolynomialValues, HoldValuesAtPoints}
+use Rattle.additive_transforms.specs.Transform.{AreTheCoefficients, HoldValuesAtPoints}
 use Rattle.additive_transforms.proofs.Counts.{one_exponent}
-use Rattle.additive_transforms.proofs.WholeStages.{AreUndone, SplitPlace, end_before, low_stages_are, split_place, stages_are_values, whole_blocks}
+use Rattle.additive_transforms.proofs.WholeStages.{AreUndone, SplitPlace, end_before, split_place, stages_are_values, whole_blocks}
 
 -- ---- both places of a pair
 
@@ -233,20 +230,3 @@ module _ (width : ℕ) (times : ℕ → ℕ → ℕ) (vector : ℕ → ℕ) (wid
             ∙ sym (are_values coefficients k inside))
             p here);
       }
-
--- ---- in the field of GHASH, with the twiddles of 40 stages
-
-module _ (shifts basis : List ℕ) (z : ℕ) (twiddles : AreCantorTwiddles 128 ghash_product ghash_cantor_vector z 40 shifts basis) (long : length basis ≡ 39) (m : ℕ) (few : m ≤ 40) where
-  -- the forward transform leaves the values where the four lowest stages were done in runs
-  pub forward_leaves : (enough : 4 ≤ m) (low_shifts low_basis old now new : List ℕ) → low_shifts ≡ take 4 shifts → low_basis ≡ take (m - 1) basis
-      → length old ≡ 2 ^ m → length now ≡ 2 ^ m → AreLeft ghash_product shifts basis m 4 old now → HoldSums low_shifts low_basis 0 now new
-      → HoldPolynomialValues z old new
-  forward_leaves enough low_shifts low_basis old now new are_shifts are_basis whole whole' left sums =
-      values_of 128 ghash_product ghash_cantor_vector (lit< tt) ghash_ring ghash_vectors shifts basis z 40 twiddles (ap suc long) m few
-      old new whole
-      (λ p inside.
-      low_stages_are shifts basis z twiddles long m enough few now new whole'
-      (subst (λ (b : List ℕ). HoldSums (take 4 shifts) b 0 now new) are_basis
-      (subst (λ (s : List ℕ). HoldSums s low_basis 0 now new) are_shifts sums))
-      p inside
-      ∙ ap (λ (v : ℕ). v % 2 ^ 128) (left p inside))

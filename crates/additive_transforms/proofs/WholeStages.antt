@@ -247,7 +247,10 @@ module _ (width : ℕ) (times : ℕ → ℕ → ℕ) (vector : ℕ → ℕ) (wid
 
 -- ---- the low stages in the field of GHASH, whose twiddles have the same factors
 
-module _ (shifts basis : List ℕ) (z : ℕ) (twiddles : AreCantorTwiddles 128 ghash_product ghash_cantor_vector z 40 shifts basis) (long : length basis ≡ 39) (m : ℕ) (enough : 4 ≤ m) (few : m ≤ 40) where
+module _ (shifts basis : List ℕ) (z : ℕ) (twiddles : AreCantorTwiddles 128 ghash_product ghash_cantor_vector z 4 shifts basis)
+    (long : length basis ≡ 39) (m : ℕ) (enough : 4 ≤ m) (few : m ≤ 40) (all_shifts all_basis : List ℕ) (n : ℕ)
+    (all : AreCantorTwiddles 128 ghash_product ghash_cantor_vector z n all_shifts all_basis) (all_long : suc (length all_basis) ≡ n)
+    (reach : m ≤ n) where
   low_basis : length (take (m - 1) basis) ≡ m - 1
   low_basis = length-take-le (m - 1) basis (omega arith)
 
@@ -256,21 +259,21 @@ module _ (shifts basis : List ℕ) (z : ℕ) (twiddles : AreCantorTwiddles 128 g
       record {
         stages_fit = lit≤ tt;
         basis_fits = omega (arith, low_basis);
-        shifts_are = λ j below. get_or-take 4 shifts j 0 below ∙ twiddles.shifts_are j (omega arith);
+        shifts_are = λ j below. get_or-take 4 shifts j 0 below ∙ twiddles.shifts_are j below;
         basis_is =
             λ t below.
             let within : t < m - 1 = omega (arith, low_basis, below) in
             get_or-take (m - 1) basis t 0 within ∙ twiddles.basis_is t (omega arith);
       }
 
-  low_factor : (j p : ℕ) → j < 4 → p < 2 ^ m → factor (take 4 shifts) (take (m - 1) basis) j p ≡ factor shifts basis j p
+  low_factor : (j p : ℕ) → j < 4 → p < 2 ^ m → factor (take 4 shifts) (take (m - 1) basis) j p ≡ factor all_shifts all_basis j p
   low_factor j p below inside =
       factors_are_subspace_values 128 ghash_product ghash_cantor_vector (lit< tt) ghash_ring ghash_vectors z 4 (take 4 shifts)
       (take (m - 1) basis) low_twiddles j p below wide
-      ∙ sym (factors_are_subspace_values 128 ghash_product ghash_cantor_vector (lit< tt) ghash_ring ghash_vectors z 40 shifts basis
-      twiddles j p (omega arith)
-      (reached 128 ghash_product ghash_cantor_vector (lit< tt) ghash_ring ghash_vectors shifts basis z 40 twiddles (omega (arith, long))
-      m p few inside))
+      ∙ sym (factors_are_subspace_values 128 ghash_product ghash_cantor_vector (lit< tt) ghash_ring ghash_vectors z n all_shifts all_basis
+      all j p (omega (arith, below, enough, reach))
+      (reached 128 ghash_product ghash_cantor_vector (lit< tt) ghash_ring ghash_vectors all_shifts all_basis z n all all_long m p reach
+      inside))
     where
       bits : suc (length (take (m - 1) basis)) ≡ m
       bits = omega (arith, low_basis)
@@ -280,21 +283,21 @@ module _ (shifts basis : List ℕ) (z : ℕ) (twiddles : AreCantorTwiddles 128 g
 
   pub low_stages_are : (now new : List ℕ) → length now ≡ 2 ^ m → HoldSums (take 4 shifts) (take (m - 1) basis) 0 now new
       → (p : ℕ) → p < 2 ^ m
-      → slice_index new p ≡ stages ghash_product (factor shifts basis) 4 (slice_index now) p % 2 ^ 128
+      → slice_index new p ≡ stages ghash_product (factor all_shifts all_basis) 4 (slice_index now) p % 2 ^ 128
   low_stages_are now new whole sums p inside =
       let at : p ≡ 16 * (p / 16) + p % 16 = omega arith in
       let within : p % 16 < 16 = omega arith in
       let here : 16 * (p / 16) + p % 16 < length now = omega (arith, at, inside, whole) in
       ap (slice_index new) at ∙ sums (p / 16) (p % 16) within here
       ∙ sum_of_factors-same ghash_product
-      (λ j. factor (take 4 shifts) (take (m - 1) basis) j (16 * (0 + p / 16) + p % 16)) (λ j. factor shifts basis j p) 4
+      (λ j. factor (take 4 shifts) (take (m - 1) basis) j (16 * (0 + p / 16) + p % 16)) (λ j. factor all_shifts all_basis j p) 4
       (values_from now (16 * (p / 16)))
       (λ j below.
       let same : 16 * (0 + p / 16) + p % 16 ≡ p = omega arith in
       ap (factor (take 4 shifts) (take (m - 1) basis) j) same ∙ low_factor j p below inside)
-      ∙ sum_of_factors-values ghash_product (λ j. factor shifts basis j p) 4 (values_from now (16 * (p / 16)))
+      ∙ sum_of_factors-values ghash_product (λ j. factor all_shifts all_basis j p) 4 (values_from now (16 * (p / 16)))
       (λ k. slice_index now (p / 2 ^ 4 * 2 ^ 4 + k))
       (λ k below. let same : 16 * (p / 16) + k ≡ p / 2 ^ 4 * 2 ^ 4 + k = omega arith in ap (slice_index now) same)
       ∙ sym
-      (stages_sum 128 ghash_product (lit< tt) ghash_ring (factor shifts basis) (by_quotient ghash_product shifts basis) 4
+      (stages_sum 128 ghash_product (lit< tt) ghash_ring (factor all_shifts all_basis) (by_quotient ghash_product all_shifts all_basis) 4
       (slice_index now) p)

@@ -55,3 +55,7 @@ abbrev pub AreLeft : (ℕ → ℕ → ℕ) → List ℕ → List ℕ → ℕ →
 AreLeft times shifts basis m n old now =
     (p : ℕ) → p < 2 ^ m
     → stages times (factor shifts basis) n (slice_index now) p ≡ stages times (factor shifts basis) m (slice_index old) p
+
+-- the stages from n on of 2 ^ m places take the values `old` to `new`, or, where `inverse` is true, their inverses do
+abbrev pub TakesStagesFrom : Bool → (ℕ → ℕ → ℕ) → List ℕ → List ℕ → ℕ → ℕ → List ℕ → List ℕ → Type 0
+TakesStagesFrom inverse times shifts basis m n old new = AreLeft times shifts basis m n (cond inverse new old) (cond inverse old new)

@@ -82,7 +82,7 @@ impl<A: Allocator> Transform<A> {
         ensures count { K.count kernel.new ≡ K.count kernel.old + self.now.stages * 2 ^ (self.now.stages - 1) }
     {
         if self.stages < LOW_STAGES {
-            every_stage(kernel, values, self.stages, &self.twiddles, false);
+            every_stage(kernel, values, self.stages, self.twiddles.z, false);
         } else {
             forward_stages(kernel, values, self.stages, &self.twiddles, &self.low);
         }
@@ -97,7 +97,7 @@ impl<A: Allocator> Transform<A> {
         ensures coefficients { AreOnlyCoefficients self.now.twiddles.z (map K.value values.old) (map K.value values.new) }
         ensures count { K.count kernel.new ≡ K.count kernel.old + self.now.stages * 2 ^ (self.now.stages - 1) }
     {
-        every_stage(kernel, values, self.stages, &self.twiddles, true);
+        every_stage(kernel, values, self.stages, self.twiddles.z, true);
     }
 }
 

@@ -1,7 +1,9 @@
 // One stage of a transform, block by block.
-ghost use Rattle.std.specs.Prelude.{◌≡◌, ◌+◌, ◌-◌, ◌*◌, ◌/◌, ◌%◌, ◌^◌, ◌<◌, ◌≤◌, cond, length, map, slice_index};
-ghost use Rattle.additive_transforms.specs.Elements.{twiddle_basis};
-ghost use Rattle.additive_transforms.specs.Stages.{TakesBlock, TakesBlocks, TakesStage};
+ghost use Rattle.std.specs.Prelude.{◌≡◌, ℕ, ◌+◌, ◌-◌, ◌*◌, ◌/◌, ◌%◌, ◌^◌, ◌<◌, ◌≤◌, cond, length, map, slice_index};
+ghost use Rattle.additive_transforms.specs.Elements.{level_shifts, twiddle_basis};
+ghost use Rattle.additive_transforms.specs.Stages.{TakesBlock, TakesBlocks, TakesStage, TakesStagesFrom};
+ghost use Rattle.additive_transforms.specs.Transform.{HasStages};
+ghost use Rattle.ghash_slices.specs.Cantor.{subspace_value};
 
 use crate::elements::arithmetic::StageArithmetic;
 use crate::elements::twiddles::block_twiddle;
@@ -31,6 +33,39 @@ pub(crate) fn stage_after(done: usize, stages: usize, inverse: bool) -> usize
     ensures { result ≡ cond inverse done (stages - 1 - done) }
 {
     if inverse { done } else { stages - 1 - done }
+}
+
+/// The stages from `stage` on of 2^stages values, from the highest down, or, where `inverse` is true, those of the inverse transform from
+/// the lowest up. `shift` is the shift of the lowest of them: that of each further one takes a square.
+pub(crate) fn stages_from<K: StageArithmetic>(
+    counter: &mut K::Counter,
+    values: &mut [K::Value],
+    stage: usize,
+    stages: usize,
+    shift: K::Twiddle,
+    inverse: bool,
+)
+    requires some { stage ≤ stages }
+    requires stages { HasStages stages (length values.old) }
+    requires few { stages ≤ K.width }
+    requires room { K.has_room counter.old ((stages - stage) * 2 ^ (stages - 1)) }
+    ensures length { length values.new ≡ length values.old }
+    ensures stages { (z : ℕ) → K.number shift ≡ subspace_value K.product stage z
+        → TakesStagesFrom inverse K.product (level_shifts K.width K.product z) (twiddle_basis K.width K.vector) stages stage
+        (map K.value values.old) (map K.value values.new) }
+    ensures counted { K.counted counter.old counter.new ((stages - stage) * 2 ^ (stages - 1)) }
+{
+    if stage == stages {
+        return;
+    }
+    let next = K::sum(K::square(shift), shift);
+    if inverse {
+        run_stage::<K>(counter, values, stage, shift, true);
+        stages_from::<K>(counter, values, stage + 1, stages, next, true);
+        return;
+    }
+    stages_from::<K>(counter, values, stage + 1, stages, next, false);
+    run_stage::<K>(counter, values, stage, shift, false);
 }
 
 /// A stage of the forward transform, or, where `inverse` is true, of the inverse one: the butterfly in each block of 2^(stage + 1) places,

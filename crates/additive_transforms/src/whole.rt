@@ -4,11 +4,13 @@ ghost use Rattle.additive_transforms.specs.Transform.{AreOnlyCoefficients, Count
 ghost use Rattle.additive_transforms.specs.Transform.{HoldPolynomialValues, TakesTransform};
 ghost use Rattle.ghash_slices.specs.LowStages.{ghash_cantor_vector, ghash_product};
 ghost use Rattle.ghash_slices.specs.Twiddles.{basis_of, shifts_of};
+ghost use Rattle.additive_transforms.specs.Elements.{level_shifts, twiddle_basis};
 ghost use Rattle.additive_transforms.specs.Stages.{AreLeft};
 ghost use Rattle.additive_transforms.specs.Words.{low_word};
 
+use crate::elements::arithmetic::StageArithmetic;
 use crate::kernel::{Kernel, OfKernel, WordKernel, run_low_words};
-use crate::stages::run_stage;
+use crate::stages::stages_from;
 use crate::twiddles::Twiddles;
 use field_base::Holds;
 use ghash_slices::{LOW_STAGES, LowStageTwiddles, Width};
@@ -34,11 +36,11 @@ pub fn forward_with<K: Kernel, A: Allocator>(
     ensures large { IfErr result (λ _. 16 ≤ length values.old) }
 {
     let stages = stages_of(values.len());
-    let twiddles = Twiddles::new(z);
     if stages < LOW_STAGES {
-        every_stage(kernel, values, stages, &twiddles, false);
+        every_stage(kernel, values, stages, z, false);
         return Ok(());
     }
+    let twiddles = Twiddles::new(z);
     let low = LowStageTwiddles::new(alloc, &twiddles.shifts, &twiddles.basis[..stages - 1])?;
     forward_stages(kernel, values, stages, &twiddles, &low);
     Ok(())
@@ -63,15 +65,15 @@ fn forward_low_words<V: Width, W: Holds<u128>>(words: &mut [W], z: u128)
     ensures values { HoldPolynomialValues z (map (low_word W.number) words.old) (map (low_word W.number) words.new) }
 {
     let stages = stages_of(words.len());
-    let twiddles = Twiddles::new(z);
     let mut kernel = WordKernel::<V, W>::new();
     if stages < LOW_STAGES {
-        every_stage(&mut kernel, words, stages, &twiddles, false);
+        every_stage(&mut kernel, words, stages, z, false);
         return;
     }
-    stages_down_to(&mut kernel, words, stages, LOW_STAGES, &twiddles);
+    let twiddles = Twiddles::new(z);
+    upper_stages(&mut kernel, words, stages, twiddles.z);
     let basis = &twiddles.basis[..stages - 1];
-    run_low_words::<V, W>(&twiddles.low_shifts(), basis, words, 0);
+    run_low_words::<V, W>(&twiddles.shifts, basis, words, 0);
 }
 
 /// The transform `inverse_with` of words that hold numbers, where they lie, without a count: it takes back what `forward_words` did with the
@@ -95,9 +97,7 @@ pub fn inverse_with<K: Kernel>(kernel: &mut K, values: &mut [K::Elem], z: u128)
     ensures coefficients { AreOnlyCoefficients z (map K.value values.old) (map K.value values.new) }
     ensures count { CountsPairs (length values.old) (K.count kernel.old) (K.count kernel.new) }
 {
-    let stages = stages_of(values.len());
-    let twiddles = Twiddles::new(z);
-    every_stage(kernel, values, stages, &twiddles, true);
+    every_stage(kernel, values, stages_of(values.len()), z, true);
 }
 
 /// The stages of a transform of so many values: the m for which there are 2^m. There has to be one, from 0 to 40.
@@ -121,24 +121,16 @@ pub(crate) fn every_stage<K: Kernel>(
     kernel: &mut K,
     values: &mut [K::Elem],
     stages: usize,
-    twiddles: &Twiddles,
+    z: u128,
     inverse: bool,
 )
     requires stages { HasStages stages (length values.old) }
     requires room { K.count kernel.old + stages * 2 ^ (stages - 1) < 2 ^ 64 }
     ensures length { length values.new ≡ length values.old }
-    ensures values { TakesTransform inverse 128 ghash_product ghash_cantor_vector twiddles.now.z (map K.value values.old)
-        (map K.value values.new) }
+    ensures values { TakesTransform inverse 128 ghash_product ghash_cantor_vector z (map K.value values.old) (map K.value values.new) }
     ensures count { K.count kernel.new ≡ K.count kernel.old + stages * 2 ^ (stages - 1) }
 {
-    if inverse {
-        for stage in 0..stages {
-            let shift = to_tower_128(twiddles.shifts[stage]);
-            run_stage::<OfKernel<K>>(kernel, values, stage, shift, true);
-        }
-        return;
-    }
-    stages_down_to(kernel, values, stages, 0, twiddles);
+    stages_from::<OfKernel<K>>(kernel, values, 0, stages, to_tower_128(z), inverse);
 }
 
 // The stages of a forward transform that has four or more, from the highest down: those from the fourth on by butterflies, and the
@@ -159,28 +151,20 @@ pub(crate) fn forward_stages<K: Kernel, A: Allocator>(
     ensures values { HoldPolynomialValues twiddles.now.z (map K.value values.old) (map K.value values.new) }
     ensures count { K.count kernel.new ≡ K.count kernel.old + stages * 2 ^ (stages - 1) }
 {
-    stages_down_to(kernel, values, stages, LOW_STAGES, twiddles);
+    upper_stages(kernel, values, stages, twiddles.z);
     kernel.low_forward(low, values, 0);
 }
 
-// The stages of a forward transform by butterflies, from the highest down to the stage `lowest`.
-fn stages_down_to<K: Kernel>(
-    kernel: &mut K,
-    values: &mut [K::Elem],
-    stages: usize,
-    lowest: usize,
-    twiddles: &Twiddles,
-)
-    requires some { lowest ≤ stages }
+// The stages of a forward transform by butterflies, but for the four lowest.
+fn upper_stages<K: Kernel>(kernel: &mut K, values: &mut [K::Elem], stages: usize, z: u128)
+    requires enough { 4 ≤ stages }
     requires stages { HasStages stages (length values.old) }
     requires room { K.count kernel.old + stages * 2 ^ (stages - 1) < 2 ^ 64 }
     ensures length { length values.new ≡ length values.old }
-    ensures left { AreLeft ghash_product twiddles.now.shifts twiddles.now.basis stages lowest (map K.value values.old)
-        (map K.value values.new) }
-    ensures count { K.count kernel.new ≡ K.count kernel.old + (stages - lowest) * 2 ^ (stages - 1) }
+    ensures left { AreLeft ghash_product (level_shifts 128 ghash_product z) (twiddle_basis 128 ghash_cantor_vector) stages 4
+        (map K.value values.old) (map K.value values.new) }
+    ensures count { K.count kernel.new ≡ K.count kernel.old + (stages - 4) * 2 ^ (stages - 1) }
 {
-    for stage in (lowest..stages).rev() {
-        let shift = to_tower_128(twiddles.shifts[stage]);
-        run_stage::<OfKernel<K>>(kernel, values, stage, shift, false);
-    }
+    let lowest = OfKernel::<K>::shift(to_tower_128(z), LOW_STAGES);
+    stages_from::<OfKernel<K>>(kernel, values, LOW_STAGES, stages, lowest, false);
 }

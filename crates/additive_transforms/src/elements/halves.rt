@@ -6,7 +6,7 @@ ghost use Rattle.additive_transforms.specs.Stages.{TakesStage};
 ghost use Rattle.additive_transforms.specs.Transform.{HasStages, TakesTransform};
 
 use crate::elements::arithmetic::Uncounted;
-use crate::stages::{half_of, run_stage, stage_after};
+use crate::stages::{half_of, run_stage, stages_from};
 
 // The stages of a slice that fits the first cache, which is 32 KB or more: so many stages have 2^10 values, which are 16 KB where a value
 // has 16 bytes.
@@ -28,10 +28,7 @@ pub(crate) fn run_halves<K: Uncounted>(
     ensures values { TakesTransform inverse K.width K.product K.vector (K.number z) (map K.value values.old) (map K.value values.new) }
 {
     if stages <= CACHED_STAGES {
-        for done in 0..stages {
-            let stage = stage_after(done, stages, inverse);
-            stage_of::<K>(counter, values, stages, stage, z, inverse);
-        }
+        stages_from::<K>(counter, values, 0, stages, z, inverse);
         return;
     }
     let highest = stages - 1;

@@ -1,5 +1,4 @@
 use Rattle.std.proofs.Common.{◌+◌, ◌*◌}
-use Rattle.additive_transforms.proofs.DepthFirst.{StagesSoFar}
 use Rattle.additive_transforms.proofs.elements.halves.+halves.Given as goal
 
 -- the calls for both halves are below that for the whole, and above those for a half
@@ -8,9 +7,3 @@ decreases-run_halves g l = 2 * l.stages
 
 abbrev pub decreases-both_halves : goal.decreases-both_halves
 decreases-both_halves g l = 2 * l.highest + 1
-
--- so many stages are done
-abbrev pub invariant-run_halves-loop-done : goal.invariant-run_halves-loop-done
-invariant-run_halves-loop-done g l =
-    let by = g.K.StageArithmetic in
-    StagesSoFar l.inverse by.width by.product by.vector (by.number l.z) by.value l.stages l.done l.fn.values l.values

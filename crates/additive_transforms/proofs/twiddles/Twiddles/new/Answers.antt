@@ -5,7 +5,7 @@ use Rattle.ghash_slices.specs.LowStages.{ghash_product}
 use Rattle.additive_transforms.proofs.SubspaceSteps.{first_subspace_value, next_subspace_value}
 use Rattle.additive_transforms.proofs.twiddles.Twiddles.new.Goals as goal
 
-first : (z i : ℕ) → i < 1 → get_or (replicate 40 z) i 0 ≡ subspace_value ghash_product i z
+first : (z i : ℕ) → i < 1 → get_or (replicate 4 z) i 0 ≡ subspace_value ghash_product i z
 first z zero below = first_subspace_value ghash_product z
 first z (suc i) below = absurd (omega arith)
 
