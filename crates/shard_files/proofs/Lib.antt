@@ -4,6 +4,7 @@ mod Groups
 mod Heads
 mod Joined
 mod KnownCodes
+mod Layouts
 mod Lost
 mod MatrixWords
 mod Pieces

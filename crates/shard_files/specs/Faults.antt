@@ -4,11 +4,10 @@ use Rattle.shard_files.specs.declared.error.JoinError.TheVariants as join_error
 use Rattle.shard_files.specs.declared.error.RepairError.{RepairError}
 use Rattle.shard_files.specs.declared.error.RepairError.TheVariants.{Join, Split}
 use Rattle.shard_files.specs.declared.error.SplitError.{SplitError}
-use Rattle.shard_files.specs.declared.error.SplitError.TheVariants.{CannotRead, CannotWrite, Changed, Counts, Memory}
+use Rattle.shard_files.specs.declared.error.SplitError.TheVariants.{CannotRead, CannotWrite, Changed, Memory}
 
 -- memory was refused, or the file of a shard was not written
 abbrev pub IsWriteFault : SplitError → Type 0
-IsWriteFault Counts = ⊥
 IsWriteFault Memory = ⊤
 IsWriteFault Changed = ⊥
 IsWriteFault (CannotRead _) = ⊥
@@ -16,7 +15,6 @@ IsWriteFault (CannotWrite _) = ⊤
 
 -- memory was refused, the reader failed, or the file of a shard was not written
 abbrev pub IsSplitFault : SplitError → Type 0
-IsSplitFault Counts = ⊥
 IsSplitFault Memory = ⊤
 IsSplitFault Changed = ⊥
 IsSplitFault (CannotRead _) = ⊤

@@ -8,9 +8,6 @@ use thiserror::Error;
 /// Why a file is not restored.
 #[derive(Clone, Copy, Debug, PartialEq, Eq, Error)]
 pub enum JoinError {
-    /// No code has so many shards, or the lengths are greater than they may be.
-    #[error("no code has so many shards")]
-    Counts,
     /// Fewer shards are at hand in a stripe than the data have.
     #[error("too few shards are whole")]
     TooFew,
@@ -28,9 +25,6 @@ pub enum JoinError {
 /// Why the shards of a file are not written.
 #[derive(Debug, Drop, Error)]
 pub enum SplitError {
-    /// No code has so many shards.
-    #[error("no code has so many shards")]
-    Counts,
     /// Memory was refused.
     #[error("out of memory")]
     Memory,

@@ -1,44 +1,39 @@
 // The shards of a file in one stripe: put to their places by what heads say, restored, and looked at.
 ghost use Rattle.std.specs.Prelude.{◌≡◌, ℕ, List, ◌+◌, ◌*◌, ◌<◌, ◌≤◌, ◌↔◌, ◌⊎◌, drop, take};
-ghost use Rattle.std.specs.Prelude.{length, false, replicate, slice_index_or, Err, IsOk, IsTrue, IfErr, IfOk, OnErr};
+ghost use Rattle.std.specs.Prelude.{length, false, replicate, slice_index_or, IsOk, IsTrue, IfErr, IfOk, OnErr};
 ghost use Rattle.reed_solomon.specs.Shards.{present_count};
-ghost use Rattle.shard_files.specs.declared.error.JoinError.TheVariants.{Counts, Memory, TooFew};
+ghost use Rattle.shard_files.specs.declared.error.JoinError.TheVariants.{Memory, TooFew};
 ghost use Rattle.shard_files.specs.Groups.{AreOf, HasEnough, HaveSameShards, Puts, shard_at, Takes};
 ghost use Rattle.shard_files.specs.Pieces.{piece_bytes};
-ghost use Rattle.shard_files.specs.Heads.{head_digest, IsOrigin};
+ghost use Rattle.shard_files.specs.Heads.{head_digest};
 ghost use Rattle.shard_files.specs.Codes.{IsStripeWord};
-ghost use Rattle.shard_files.specs.Stripes.{IsPossible, shard_total};
+ghost use Rattle.shard_files.specs.Stripes.{shard_total};
 
 use crate::error::JoinError;
 use crate::head::{Head, Origin};
+use crate::layout::Layout;
 use crate::piece::{DIGEST, is_piece};
 use std::alloc::{AllocError, Global};
 
 /// The shards of a file in one stripe, as far as they are at hand.
 #[derive(Drop)]
 pub struct Group {
-    pub(crate) origin: Origin,
+    pub(crate) layout: Layout,
     pub(crate) shards: Vec<u8>,
     pub(crate) present: Vec<bool>,
-    ghost possible: { IsPossible origin },
-    ghost whole: { length shards.items ≡ (origin.data_shards + origin.parity_shards) * origin.size },
-    ghost flags: { length present.items ≡ origin.data_shards + origin.parity_shards },
-    ghost fits: { IsOrigin origin },
+    ghost whole: { length shards.items ≡ (layout.origin.data_shards + layout.origin.parity_shards) * layout.origin.size },
+    ghost flags: { length present.items ≡ layout.origin.data_shards + layout.origin.parity_shards },
 }
 
 impl Group {
-    /// No shard of the stripe is at hand yet. It fails where the origin is not possible, or else where memory is refused.
-    pub fn new(alloc: Global, origin: Origin) -> Result<Group, JoinError>
-        ensures of { IfOk result (λ group. group.origin ≡ origin) }
-        ensures counts { (IsPossible origin → ⊥) → result ≡ Err Counts }
-        ensures refused { IfErr result (λ error. IsPossible origin → error ≡ Memory) }
+    /// No shard of the stripe is at hand yet. It fails where memory is refused.
+    pub fn new(alloc: Global, layout: Layout) -> Result<Group, JoinError>
+        ensures of { IfOk result (λ group. group.layout.origin ≡ layout.origin) }
+        ensures refused { IfErr result (λ error. error ≡ Memory) }
         ensures empty { IfOk result (λ group. (index : ℕ) → slice_index_or group.present.items index false ≡ false) }
     {
-        if !origin.is_possible() {
-            return Err(JoinError::Counts);
-        }
-        let total = origin.total();
-        let shards = match zeros(alloc, total, origin.size as usize) {
+        let total = layout.total();
+        let shards = match zeros(alloc, total, layout.origin.size as usize) {
             Ok(shards) => shards,
             Err(_) => return Err(JoinError::Memory),
         };
@@ -47,7 +42,7 @@ impl Group {
             Err(_) => return Err(JoinError::Memory),
         };
         Ok(Group {
-            origin,
+            layout,
             shards,
             present,
         })
@@ -55,13 +50,13 @@ impl Group {
 
     /// Takes the shard that a head and a piece of the stripe were written of, if it is one of these and none of its number is at hand.
     pub fn take(&mut self, head: &[u8], stripe: u64, piece: &[u8])
-        ensures kept { self.new.origin ≡ self.old.origin }
-        ensures taken { Takes self.old.origin (AreOf self.old.origin stripe head.now piece.now)
+        ensures kept { self.new.layout.origin ≡ self.old.layout.origin }
+        ensures taken { Takes self.old.layout.origin (AreOf self.old.layout.origin stripe head.now piece.now)
             self.old.shards.items self.old.present.items self.new.shards.items self.new.present.items }
     {
         match Head::of_bytes(head) {
             Some(read) => {
-                if read.origin.is_same(&self.origin) {
+                if read.origin.is_same(&self.layout.origin) {
                     self.take_piece(&read, stripe, piece);
                 }
             }
@@ -71,9 +66,9 @@ impl Group {
 
     // Takes a shard by its head, which is of these, and its piece, if that is one and none of its number is at hand.
     fn take_piece(&mut self, head: &Head, stripe: u64, piece: &[u8])
-        requires { head.now.origin ≡ self.old.origin }
-        ensures kept { self.new.origin ≡ self.old.origin }
-        ensures taken { Takes self.old.origin
+        requires { head.now.origin ≡ self.old.layout.origin }
+        ensures kept { self.new.layout.origin ≡ self.old.layout.origin }
+        ensures taken { Takes self.old.layout.origin
             (λ index shard. (head.now.index ≡ index) × (piece.now ≡ piece_bytes (head_digest head.now) stripe shard))
             self.old.shards.items self.old.present.items self.new.shards.items self.new.present.items }
     {
@@ -84,11 +79,11 @@ impl Group {
 
     // Puts a shard to its place, if it has the size of these and none of its number is at hand.
     fn put(&mut self, index: usize, shard: &[u8])
-        ensures kept { self.new.origin ≡ self.old.origin }
-        ensures put { Puts (shard_total self.old.origin) self.old.origin.size index shard.now
+        ensures kept { self.new.layout.origin ≡ self.old.layout.origin }
+        ensures put { Puts (shard_total self.old.layout.origin) self.old.layout.origin.size index shard.now
             self.old.shards.items self.old.present.items self.new.shards.items self.new.present.items }
     {
-        let size = self.origin.size as usize;
+        let size = self.layout.origin.size as usize;
         if index < self.present.len() && shard.len() == size && !self.present[index] {
             let begin = index * size;
             self.shards.as_mut_slice()[begin..begin + size].copy_from_slice(shard);
@@ -98,9 +93,9 @@ impl Group {
 
     /// What the heads of these shards say.
     pub fn origin(&self) -> Origin
-        ensures { result ≡ self.now.origin }
+        ensures { result ≡ self.now.layout.origin }
     {
-        self.origin
+        self.layout.origin
     }
 
     /// Whether the shard of a number is at hand.
@@ -122,10 +117,10 @@ impl Group {
 
     /// The bytes of a shard in the stripe. There is a shard of that number.
     pub fn shard(&self, index: usize) -> &[u8]
-        requires { index < shard_total self.now.origin }
-        ensures { result.now ≡ shard_at self.now.origin.size self.now.shards.items index }
+        requires { index < shard_total self.now.layout.origin }
+        ensures { result.now ≡ shard_at self.now.layout.origin.size self.now.shards.items index }
     {
-        let size = self.origin.size as usize;
+        let size = self.layout.origin.size as usize;
         let begin = index * size;
         &self.shards.as_slice()[begin..begin + size]
     }
@@ -133,17 +128,19 @@ impl Group {
     /// Restores the missing shards, and leaves those at hand. It fails where fewer are at hand than the data have, or else where memory is
     /// refused; then all are as they were.
     pub fn restore(&mut self, alloc: Global) -> Result<(), JoinError>
-        ensures kept { (self.new.origin ≡ self.old.origin) × (self.new.present ≡ self.old.present) }
-        ensures enough { IsOk result → self.old.origin.data_shards ≤ present_count self.old.present.items }
+        ensures kept { (self.new.layout.origin ≡ self.old.layout.origin) × (self.new.present ≡ self.old.present) }
+        ensures enough { IsOk result → self.old.layout.origin.data_shards ≤ present_count self.old.present.items }
         ensures stays { IsOk result
-            → HaveSameShards self.old.origin self.old.present.items self.new.shards.items self.old.shards.items }
-        ensures restored { (content whole : List ℕ) → HasEnough self.old.origin content whole self.old.shards.items self.old.present.items
+            → HaveSameShards self.old.layout.origin self.old.present.items self.new.shards.items self.old.shards.items }
+        ensures restored { (content whole : List ℕ)
+            → HasEnough self.old.layout.origin content whole self.old.shards.items self.old.present.items
             → IsOk result → self.new.shards.items ≡ whole }
-        ensures refused { IfErr result (λ error. ((error ≡ TooFew) × (present_count self.old.present.items < self.old.origin.data_shards))
-            ⊎ ((error ≡ Memory) × (self.old.origin.data_shards ≤ present_count self.old.present.items))) }
+        ensures refused { IfErr result (λ error.
+            ((error ≡ TooFew) × (present_count self.old.present.items < self.old.layout.origin.data_shards))
+            ⊎ ((error ≡ Memory) × (self.old.layout.origin.data_shards ≤ present_count self.old.present.items))) }
         ensures same { OnErr result (self.new.shards.items ≡ self.old.shards.items) }
     {
-        if self.count() < self.origin.data_shards as usize {
+        if self.count() < self.layout.origin.data_shards as usize {
             return Err(JoinError::TooFew);
         }
         self.restore_shards(alloc)
@@ -151,19 +148,17 @@ impl Group {
 
     // Restores the missing shards, of which as many are at hand as the data have.
     fn restore_shards(&mut self, alloc: Global) -> Result<(), JoinError>
-        requires { self.old.origin.data_shards ≤ present_count self.old.present.items }
-        ensures kept { (self.new.origin ≡ self.old.origin) × (self.new.present ≡ self.old.present) }
+        requires { self.old.layout.origin.data_shards ≤ present_count self.old.present.items }
+        ensures kept { (self.new.layout.origin ≡ self.old.layout.origin) × (self.new.present ≡ self.old.present) }
         ensures stays { IsOk result
-            → HaveSameShards self.old.origin self.old.present.items self.new.shards.items self.old.shards.items }
-        ensures restored { (content whole : List ℕ) → HasEnough self.old.origin content whole self.old.shards.items self.old.present.items
+            → HaveSameShards self.old.layout.origin self.old.present.items self.new.shards.items self.old.shards.items }
+        ensures restored { (content whole : List ℕ)
+            → HasEnough self.old.layout.origin content whole self.old.shards.items self.old.present.items
             → IsOk result → self.new.shards.items ≡ whole }
         ensures refused { IfErr result (λ error. error ≡ Memory) }
         ensures same { OnErr result (self.new.shards.items ≡ self.old.shards.items) }
     {
-        let code = match self.origin.stripe_code() {
-            Some(code) => code,
-            None => return Err(JoinError::Counts),
-        };
+        let code = self.layout.code;
         let shards = self.shards.as_mut_slice();
         match code.restore(alloc, shards, self.present.as_slice()) {
             Ok(()) => Ok(()),
@@ -173,7 +168,7 @@ impl Group {
 
     /// The first bytes of the stripe: its bytes of the file, once the shards are restored. The shards have so many.
     pub fn content(&self, length: usize) -> &[u8]
-        requires { length ≤ shard_total self.now.origin * self.now.origin.size }
+        requires { length ≤ shard_total self.now.layout.origin * self.now.layout.origin.size }
         ensures { result.now ≡ take length self.now.shards.items }
     {
         &self.shards.as_slice()[..length]
@@ -181,15 +176,11 @@ impl Group {
 
     /// Whether the parity is that of the data. It fails where memory is refused.
     pub fn has_parity(&self, alloc: Global) -> Result<bool, JoinError>
-        ensures answer { IfOk result (λ is_whole. IsTrue is_whole ↔ IsStripeWord self.now.origin.code self.now.origin.data_shards
-            self.now.origin.parity_shards self.now.origin.size self.now.shards.items) }
+        ensures answer { let origin = self.now.layout.origin in IfOk result (λ is_whole. IsTrue is_whole
+            ↔ IsStripeWord origin.code origin.data_shards origin.parity_shards origin.size self.now.shards.items) }
         ensures refused { IfErr result (λ error. error ≡ Memory) }
     {
-        let code = match self.origin.stripe_code() {
-            Some(code) => code,
-            None => return Err(JoinError::Counts),
-        };
-        match code.verify(alloc, self.shards.as_slice()) {
+        match self.layout.code.verify(alloc, self.shards.as_slice()) {
             Ok(is_whole) => Ok(is_whole),
             Err(_) => Err(JoinError::Memory),
         }

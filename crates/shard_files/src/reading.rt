@@ -1,18 +1,19 @@
 // The shards of a file from the files that have them, stripe by stripe, and the file from its shards.
 ghost use Rattle.std.specs.Prelude.{◌≡◌, ◌≢◌, ◌⊎◌, ℕ, List, [], ◌+◌, ◌*◌, ◌<◌, ◌≤◌, ◌++◌, length};
-ghost use Rattle.std.specs.Prelude.{false, slice_index_or, take, None, Some, Err, IfErr, IfOk, IsTrue, OnOk};
+ghost use Rattle.std.specs.Prelude.{false, slice_index_or, take, None, Some, IfErr, IfOk, IsTrue, OnOk};
 ghost use Rattle.std.specs.Io.KnownBytes.{Appends};
 ghost use Rattle.sha2.specs.Hashers.{Holds256};
 ghost use Rattle.sha2.specs.Sha256.{sha256};
-ghost use Rattle.shard_files.specs.declared.error.JoinError.TheVariants.{CannotWrite, Counts, Memory, OtherBytes, TooFew};
+ghost use Rattle.shard_files.specs.declared.error.JoinError.TheVariants.{CannotWrite, Memory, OtherBytes, TooFew};
 ghost use Rattle.shard_files.specs.Files.{HoldFile};
 ghost use Rattle.shard_files.specs.Groups.{GivesEnough, GivesPiece, GivesFile, GivesStripe, Holdings, IsGathered, numbered, Takes};
 ghost use Rattle.shard_files.specs.Splits.{BeginWith};
-ghost use Rattle.shard_files.specs.Stripes.{IsPossible, piece_start, shard_total, stripe_length, stripe_total};
+ghost use Rattle.shard_files.specs.Stripes.{piece_start, shard_total, stripe_length, stripe_total};
 
 use crate::error::JoinError;
 use crate::group::{Group, zeros};
-use crate::head::{HEAD, Origin};
+use crate::head::HEAD;
+use crate::layout::Layout;
 use crate::piece::DIGEST;
 use sha2::{Digest, Sha256};
 use std::alloc::Global;
@@ -35,24 +36,23 @@ pub trait ShardSource {
         ensures missed { (files : Holdings) → holds self.old files → result ≡ false → files.reads place start (length bytes.old) ≡ None };
 }
 
-/// The group of all shards of one origin in a stripe that the files give, and of no other file. The origin has that stripe. It fails where
-/// the origin is not possible, or memory is refused.
+/// The group of all shards of one origin in a stripe that the files give, and of no other file. There is a stripe of that number. It fails
+/// where memory is refused.
 pub fn gather<S: ShardSource>(
     alloc: Global,
     source: &mut S,
-    origin: Origin,
+    layout: Layout,
     stripe: u64,
 ) -> Result<Group, JoinError>
-    requires { stripe < stripe_total origin }
-    ensures of { IfOk result (λ group. group.origin ≡ origin) }
-    ensures counts { (IsPossible origin → ⊥) → result ≡ Err Counts }
-    ensures refused { IfErr result (λ error. IsPossible origin → error ≡ Memory) }
+    requires { stripe < stripe_total layout.origin }
+    ensures of { IfOk result (λ group. group.layout.origin ≡ layout.origin) }
+    ensures refused { IfErr result (λ error. error ≡ Memory) }
     ensures kept { (files : Holdings) → S.holds source.old files → S.holds source.new files }
     ensures gathered { (files : Holdings) → S.holds source.old files
-        → IfOk result (λ group. IsGathered origin files stripe files.places group.shards.items group.present.items) }
+        → IfOk result (λ group. IsGathered layout.origin files stripe files.places group.shards.items group.present.items) }
 {
-    let mut group = Group::new(alloc, origin)?;
-    let mut piece = match zeros(alloc, 1, DIGEST + origin.size as usize) {
+    let mut group = Group::new(alloc, layout)?;
+    let mut piece = match zeros(alloc, 1, DIGEST + layout.origin.size as usize) {
         Ok(piece) => piece,
         Err(_) => return Err(JoinError::Memory),
     };
@@ -70,12 +70,12 @@ fn take_next<S: ShardSource>(
     group: &mut Group,
     piece: &mut [u8],
 )
-    requires within { stripe < stripe_total group.old.origin }
-    requires room { length piece.old ≡ 32 + group.old.origin.size }
-    ensures of { group.new.origin ≡ group.old.origin }
+    requires within { stripe < stripe_total group.old.layout.origin }
+    requires room { length piece.old ≡ 32 + group.old.layout.origin.size }
+    ensures of { group.new.layout.origin ≡ group.old.layout.origin }
     ensures kept { (files : Holdings) → S.holds source.old files → S.holds source.new files }
     ensures taken { (files : Holdings) → S.holds source.old files
-        → Takes group.old.origin (λ index shard. GivesPiece files place (numbered group.old.origin index) stripe shard)
+        → Takes group.old.layout.origin (λ index shard. GivesPiece files place (numbered group.old.layout.origin index) stripe shard)
         group.old.shards.items group.old.present.items group.new.shards.items group.new.present.items }
 {
     let start = start_of(group, stripe);
@@ -91,41 +91,40 @@ fn take_next<S: ShardSource>(
 
 // Where the piece of a stripe begins in the files of a group.
 fn start_of(group: &Group, stripe: u64) -> u64
-    requires { stripe < stripe_total group.now.origin }
-    ensures { result ≡ piece_start group.now.origin stripe }
+    requires { stripe < stripe_total group.now.layout.origin }
+    ensures { result ≡ piece_start group.now.layout.origin stripe }
 {
-    group.origin.piece_start(stripe)
+    group.layout.piece_start(stripe)
 }
 
-/// Writes a file from its shards, stripe by stripe, of which it takes those alone that stand behind heads of the origin. The origin is
-/// possible. It fails where in a stripe too few shards are given, where what it wrote has not the identity that the origin names, where it
-/// cannot be written, or where memory is refused; what it wrote till then is not the file.
+/// Writes a file from its shards, stripe by stripe, of which it takes those alone that stand behind heads of the layout's origin. It fails
+/// where in a stripe too few shards are given, where what it wrote has not the identity that the origin names, where it cannot be written,
+/// or where memory is refused; what it wrote till then is not the file.
 pub fn write_content<S: ShardSource, W: Write>(
     alloc: Global,
     source: &mut S,
-    origin: Origin,
+    layout: Layout,
     writer: &mut W,
 ) -> Result<(), JoinError>
-    requires { IsPossible origin }
-    ensures named { OnOk result ((content : List ℕ) × (wholes : List (List ℕ)) × HoldFile origin content wholes
+    ensures named { OnOk result ((content : List ℕ) × (wholes : List (List ℕ)) × HoldFile layout.origin content wholes
         × Appends (W.contents writer.old) (W.contents writer.new) content × ((files : Holdings) → S.holds source.old files
-        → (stripe : ℕ) → stripe < stripe_total origin → GivesEnough origin files stripe (slice_index_or wholes stripe []))) }
+        → (stripe : ℕ) → stripe < stripe_total layout.origin → GivesEnough layout.origin files stripe (slice_index_or wholes stripe []))) }
     ensures restored { (files : Holdings) (content : List ℕ) (wholes : ℕ → List ℕ) → S.holds source.old files
-        → GivesFile origin files content wholes → OnOk result (Appends (W.contents writer.old) (W.contents writer.new) content) }
+        → GivesFile layout.origin files content wholes → OnOk result (Appends (W.contents writer.old) (W.contents writer.new) content) }
     ensures refused { IfErr result (λ error. (error ≡ TooFew) ⊎ (error ≡ CannotWrite) ⊎ (error ≡ Memory) ⊎ ((error ≡ OtherBytes)
-        × ((content : List ℕ) × Appends (W.contents writer.old) (W.contents writer.new) content × (length content ≡ origin.length)
-        × (sha256 content ≢ origin.identity)))) }
+        × ((content : List ℕ) × Appends (W.contents writer.old) (W.contents writer.new) content × (length content ≡ layout.origin.length)
+        × (sha256 content ≢ layout.origin.identity)))) }
     ensures enough { (files : Holdings) (wholes : ℕ → List ℕ) → S.holds source.old files
-        → ((stripe : ℕ) → stripe < stripe_total origin → GivesEnough origin files stripe (wholes stripe))
+        → ((stripe : ℕ) → stripe < stripe_total layout.origin → GivesEnough layout.origin files stripe (wholes stripe))
         → IfErr result (λ error. error ≢ TooFew) }
     ensures granted { (files : Holdings) (content : List ℕ) (wholes : ℕ → List ℕ) → S.holds source.old files
-        → GivesFile origin files content wholes → IfErr result (λ error. (error ≡ CannotWrite) ⊎ (error ≡ Memory)) }
+        → GivesFile layout.origin files content wholes → IfErr result (λ error. (error ≡ CannotWrite) ⊎ (error ≡ Memory)) }
 {
     let mut hasher = Sha256::new();
-    for stripe in 0..origin.stripe_count() {
-        write_stripe(alloc, source, origin, stripe, &mut hasher, writer)?;
+    for stripe in 0..layout.stripe_count() {
+        write_stripe(alloc, source, layout, stripe, &mut hasher, writer)?;
     }
-    if hasher.finalize() != origin.identity {
+    if hasher.finalize() != layout.origin.identity {
         return Err(JoinError::OtherBytes);
     }
     Ok(())
@@ -135,27 +134,26 @@ pub fn write_content<S: ShardSource, W: Write>(
 fn write_stripe<S: ShardSource, W: Write>(
     alloc: Global,
     source: &mut S,
-    origin: Origin,
+    layout: Layout,
     stripe: u64,
     hasher: &mut Sha256,
     writer: &mut W,
 ) -> Result<(), JoinError>
-    requires possible { IsPossible origin }
-    requires within { stripe < stripe_total origin }
+    requires { stripe < stripe_total layout.origin }
     ensures kept { (files : Holdings) → S.holds source.old files → S.holds source.new files }
     ensures wrote { OnOk result ((bytes : List ℕ) × (restored : List ℕ) × Appends (W.contents writer.old) (W.contents writer.new) bytes
-        × BeginWith bytes restored × (length restored ≡ shard_total origin * origin.size)
-        × ((files : Holdings) → S.holds source.old files → GivesEnough origin files stripe restored)
+        × BeginWith bytes restored × (length restored ≡ shard_total layout.origin * layout.origin.size)
+        × ((files : Holdings) → S.holds source.old files → GivesEnough layout.origin files stripe restored)
         × ((before : List ℕ) → Holds256 hasher.old before → Holds256 hasher.new (before ++ bytes))
-        × (length bytes ≡ stripe_length origin stripe)
-        × ((files : Holdings) (content whole : List ℕ) → S.holds source.old files → GivesStripe origin files stripe content whole
-        → length content ≡ stripe_length origin stripe → bytes ≡ content)) }
+        × (length bytes ≡ stripe_length layout.origin stripe)
+        × ((files : Holdings) (content whole : List ℕ) → S.holds source.old files → GivesStripe layout.origin files stripe content whole
+        → length content ≡ stripe_length layout.origin stripe → bytes ≡ content)) }
     ensures refused { IfErr result (λ error. (error ≡ TooFew) ⊎ (error ≡ CannotWrite) ⊎ (error ≡ Memory)) }
-    ensures granted { (files : Holdings) (whole : List ℕ) → S.holds source.old files → GivesEnough origin files stripe whole
+    ensures granted { (files : Holdings) (whole : List ℕ) → S.holds source.old files → GivesEnough layout.origin files stripe whole
         → IfErr result (λ error. (error ≡ CannotWrite) ⊎ (error ≡ Memory)) }
 {
-    let group = restored(alloc, source, origin, stripe)?;
-    let content = group.content(origin.stripe_length(stripe));
+    let group = restored(alloc, source, layout, stripe)?;
+    let content = group.content(layout.stripe_length(stripe));
     hasher.update(content);
     match writer.write_all(content) {
         Ok(()) => Ok(()),
@@ -163,27 +161,26 @@ fn write_stripe<S: ShardSource, W: Write>(
     }
 }
 
-/// All shards of a stripe, restored from those that the files give behind heads of this origin. The origin is possible, and has that stripe.
+/// All shards of a stripe, restored from those that the files give behind heads of the layout's origin. There is a stripe of that number.
 /// It fails where too few are given, or else where memory is refused.
 pub fn restored<S: ShardSource>(
     alloc: Global,
     source: &mut S,
-    origin: Origin,
+    layout: Layout,
     stripe: u64,
 ) -> Result<Group, JoinError>
-    requires within { stripe < stripe_total origin }
-    requires possible { IsPossible origin }
-    ensures of { IfOk result (λ group. group.origin ≡ origin) }
+    requires { stripe < stripe_total layout.origin }
+    ensures of { IfOk result (λ group. group.layout.origin ≡ layout.origin) }
     ensures kept { (files : Holdings) → S.holds source.old files → S.holds source.new files }
     ensures given { (files : Holdings) → S.holds source.old files
-        → IfOk result (λ group. GivesEnough origin files stripe group.shards.items) }
+        → IfOk result (λ group. GivesEnough layout.origin files stripe group.shards.items) }
     ensures restored { (files : Holdings) (content whole : List ℕ) → S.holds source.old files
-        → GivesStripe origin files stripe content whole → IfOk result (λ group. group.shards.items ≡ whole) }
+        → GivesStripe layout.origin files stripe content whole → IfOk result (λ group. group.shards.items ≡ whole) }
     ensures refused { IfErr result (λ error. (error ≡ TooFew) ⊎ (error ≡ Memory)) }
-    ensures granted { (files : Holdings) (whole : List ℕ) → S.holds source.old files → GivesEnough origin files stripe whole
+    ensures granted { (files : Holdings) (whole : List ℕ) → S.holds source.old files → GivesEnough layout.origin files stripe whole
         → IfErr result (λ error. error ≡ Memory) }
 {
-    let mut group = gather(alloc, source, origin, stripe)?;
+    let mut group = gather(alloc, source, layout, stripe)?;
     group.restore(alloc)?;
     Ok(group)
 }

@@ -5,48 +5,48 @@ ghost use Rattle.shard_files.specs.Files.{AppendsToLost, HoldFile, shard_file};
 ghost use Rattle.shard_files.specs.Groups.{GivesEnough, GivesFile, Holdings, numbered, shard_at};
 ghost use Rattle.shard_files.specs.Heads.{head_digest, head_file};
 ghost use Rattle.shard_files.specs.Pieces.{piece_bytes};
-ghost use Rattle.shard_files.specs.Stripes.{IsPossible, shard_total, stripe_length, stripe_total};
+ghost use Rattle.shard_files.specs.Stripes.{shard_total, stripe_length, stripe_total};
 
 use crate::error::{JoinError, RepairError, SplitError};
 use crate::group::Group;
 use crate::head::Origin;
+use crate::layout::Layout;
 use crate::reading::{ShardSource, restored};
 use crate::writing::{ShardFiles, put_head, put_piece};
 use sha2::{Digest, Sha256};
 use std::alloc::Global;
 
-/// Restores the shards of a file from those alone that stand behind heads of the origin, and writes those that are lost, as `write_shards`
-/// wrote them. The origin is possible, and there is a flag for each shard. It fails where too few shards are given in a stripe, where what is
-/// restored has not the identity that the origin names, where a file cannot be written, or where memory is refused.
+/// Restores the shards of a file from those alone that stand behind heads of the layout's origin, and writes those that are lost, as
+/// `write_shards` wrote them. There is a flag for each shard. It fails where too few shards are given in a stripe, where what is restored
+/// has not the identity that the origin names, where a file cannot be written, or where memory is refused.
 pub fn repair_shards<S: ShardSource, F: ShardFiles>(
     alloc: Global,
     source: &mut S,
-    origin: Origin,
+    layout: Layout,
     lost: &[bool],
     files: &mut F,
 ) -> Result<(), RepairError>
-    requires possible { IsPossible origin }
-    requires flags { length lost.now ≡ shard_total origin }
-    ensures named { OnOk result ((content : List ℕ) × (wholes : List (List ℕ)) × HoldFile origin content wholes
+    requires { length lost.now ≡ shard_total layout.origin }
+    ensures named { OnOk result ((content : List ℕ) × (wholes : List (List ℕ)) × HoldFile layout.origin content wholes
         × ((held : Holdings) → S.holds source.old held
-        → (stripe : ℕ) → stripe < stripe_total origin → GivesEnough origin held stripe (slice_index_or wholes stripe []))
+        → (stripe : ℕ) → stripe < stripe_total layout.origin → GivesEnough layout.origin held stripe (slice_index_or wholes stripe []))
         × ((before : ℕ → List ℕ) → F.holds files.old before → (now : ℕ → List ℕ) × F.holds files.new now
-        × AppendsToLost (length lost.now) lost.now (shard_file origin wholes) before now)) }
+        × AppendsToLost (length lost.now) lost.now (shard_file layout.origin wholes) before now)) }
     ensures restored { (held : Holdings) (content : List ℕ) (wholes : List (List ℕ)) (before : ℕ → List ℕ) → S.holds source.old held
-        → length wholes ≡ stripe_total origin → GivesFile origin held content (λ stripe. slice_index_or wholes stripe [])
+        → length wholes ≡ stripe_total layout.origin → GivesFile layout.origin held content (λ stripe. slice_index_or wholes stripe [])
         → F.holds files.old before → OnOk result ((now : ℕ → List ℕ) × F.holds files.new now
-        × AppendsToLost (length lost.now) lost.now (shard_file origin wholes) before now) }
+        × AppendsToLost (length lost.now) lost.now (shard_file layout.origin wholes) before now) }
     ensures granted { (held : Holdings) (content : List ℕ) (wholes : ℕ → List ℕ) → S.holds source.old held
-        → GivesFile origin held content wholes → IfErr result IsRepairFault }
+        → GivesFile layout.origin held content wholes → IfErr result IsRepairFault }
 {
-    put_lost_heads(alloc, &origin, lost, files)?;
+    put_lost_heads(alloc, &layout.origin, lost, files)?;
     let mut hasher = Sha256::new();
-    for stripe in 0..origin.stripe_count() {
-        let group = restored(alloc, source, origin, stripe)?;
+    for stripe in 0..layout.stripe_count() {
+        let group = restored(alloc, source, layout, stripe)?;
         hasher.update(content_of(&group, stripe));
         put_lost_pieces(&group, stripe, lost, files)?;
     }
-    if hasher.finalize() != origin.identity {
+    if hasher.finalize() != layout.origin.identity {
         return Err(RepairError::Join(JoinError::OtherBytes));
     }
     Ok(())
@@ -54,10 +54,10 @@ pub fn repair_shards<S: ShardSource, F: ShardFiles>(
 
 // The bytes of the file in a stripe.
 fn content_of(group: &Group, stripe: u64) -> &[u8]
-    requires { stripe < stripe_total group.now.origin }
-    ensures { result.now ≡ take (stripe_length group.now.origin stripe) group.now.shards.items }
+    requires { stripe < stripe_total group.now.layout.origin }
+    ensures { result.now ≡ take (stripe_length group.now.layout.origin stripe) group.now.shards.items }
 {
-    group.content(group.origin.stripe_length(stripe))
+    group.content(group.layout.stripe_length(stripe))
 }
 
 // Writes the heads of the shards that are lost.
@@ -87,15 +87,21 @@ fn put_lost_pieces<F: ShardFiles>(
     lost: &[bool],
     files: &mut F,
 ) -> Result<(), SplitError>
-    requires { length lost.now ≡ shard_total group.now.origin }
+    requires { length lost.now ≡ shard_total group.now.layout.origin }
     ensures put { (before : ℕ → List ℕ) → F.holds files.old before → OnOk result ((now : ℕ → List ℕ) × F.holds files.new now
-        × AppendsToLost (length lost.now) lost.now (λ index. piece_bytes (head_digest (numbered group.now.origin index)) stripe
-        (shard_at group.now.origin.size group.now.shards.items index)) before now) }
+        × AppendsToLost (length lost.now) lost.now (λ index. piece_bytes (head_digest (numbered group.now.layout.origin index)) stripe
+        (shard_at group.now.layout.origin.size group.now.shards.items index)) before now) }
     ensures refused { IfErr result IsWriteFault }
 {
     for index in 0..lost.len() {
         if lost[index] {
-            put_piece(&group.origin, stripe, index, group.shard(index), files)?;
+            put_piece(
+                &group.layout.origin,
+                stripe,
+                index,
+                group.shard(index),
+                files,
+            )?;
         }
     }
     Ok(())

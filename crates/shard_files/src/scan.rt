@@ -2,7 +2,8 @@
 ghost use Rattle.std.specs.Prelude.{◌≤◌, ◌↔◌, IsTrue};
 
 use crate::TRANSFORM;
-use crate::head::{Head, Origin, older_format};
+use crate::head::{Head, older_format};
+use crate::layout::Layout;
 use std::alloc::{AllocError, Global};
 
 /// What a file that was looked at is.
@@ -24,7 +25,7 @@ pub enum Finding {
 #[derive(Clone, Copy)]
 pub struct Seen {
     /// What the heads of its shards say.
-    pub origin: Origin,
+    pub layout: Layout,
     /// How many different shards were seen.
     pub count: usize,
     /// The place of the flag of its shard 0.
@@ -34,9 +35,9 @@ pub struct Seen {
 impl Seen {
     /// Whether they are enough.
     pub fn has_enough(&self) -> bool
-        ensures { IsTrue result ↔ (self.now.origin.data_shards ≤ self.now.count) }
+        ensures { IsTrue result ↔ (self.now.layout.origin.data_shards ≤ self.now.count) }
     {
-        self.count >= self.origin.data_shards as usize
+        self.count >= self.layout.origin.data_shards as usize
     }
 }
 
@@ -87,17 +88,7 @@ impl Scan {
     // What a file is that begins with these bytes.
     fn finding_of(&mut self, begin: &[u8]) -> Result<Finding, AllocError> {
         match Head::of_bytes(begin) {
-            Some(head) => {
-                if !is_possible(&head) {
-                    return Ok(if head.origin.code > TRANSFORM {
-                        Finding::OtherCode(head.origin.code)
-                    } else {
-                        Finding::Damaged
-                    });
-                }
-                let place = self.place_of(&head)?;
-                Ok(Finding::Shard(place, head.index as usize))
-            }
+            Some(head) => self.finding_of_head(&head),
             None => Ok(match older_format(begin) {
                 Some(version) => Finding::OldFormat(version),
                 None => Finding::Damaged,
@@ -105,22 +96,41 @@ impl Scan {
         }
     }
 
-    // The number of the file that a shard of this head is of.
-    fn place_of(&mut self, head: &Head) -> Result<usize, AllocError> {
+    // What a file is that begins with this head.
+    fn finding_of_head(&mut self, head: &Head) -> Result<Finding, AllocError> {
+        let layout = match Layout::of(head.origin) {
+            Some(layout) => layout,
+            None => {
+                return Ok(if head.origin.code > TRANSFORM {
+                    Finding::OtherCode(head.origin.code)
+                } else {
+                    Finding::Damaged
+                });
+            }
+        };
         let index = head.index as usize;
+        if index >= layout.total() {
+            return Ok(Finding::Damaged);
+        }
+        let place = self.place_of(layout, index)?;
+        Ok(Finding::Shard(place, index))
+    }
+
+    // The number of the file that the shard of this number and layout is of.
+    fn place_of(&mut self, layout: Layout, index: usize) -> Result<usize, AllocError> {
         for place in 0..self.seen.len() {
-            if self.seen[place].origin.is_same(&head.origin) {
+            if self.seen[place].layout.origin.is_same(&layout.origin) {
                 self.mark(place, index);
                 return Ok(place);
             }
         }
         let place = self.seen.len();
         self.seen.push(Seen {
-            origin: head.origin,
+            layout,
             count: 0,
             first: self.flags.len(),
         })?;
-        for _ in 0..head.origin.total() {
+        for _ in 0..layout.total() {
             self.flags.push(false)?;
         }
         self.mark(place, index);
@@ -201,14 +211,9 @@ impl Scan {
             self.seen.as_slice().get(first),
             self.seen.as_slice().get(second),
         ) {
-            (Some(first), Some(second)) => first.origin.identity == second.origin.identity,
+            (Some(first), Some(second)) => first.layout.origin.identity
+                == second.layout.origin.identity,
             _ => false,
         }
     }
-}
-
-// Whether a code has so many shards, and one of that number.
-fn is_possible(head: &Head) -> bool {
-    let index = head.index as usize;
-    head.origin.is_possible() && index < head.origin.total()
 }

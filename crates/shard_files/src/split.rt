@@ -1,51 +1,31 @@
 // The bytes of a stripe in shards.
-ghost use Rattle.std.specs.Prelude.{◌≡◌, ◌*◌, ◌<◌, ◌≤◌, ◌↔◌, ℕ, length, slice_index, IfErr, IsOk, IsTrue};
+ghost use Rattle.std.specs.Prelude.{◌≡◌, ◌*◌, ◌<◌, ◌≤◌, ℕ, length, slice_index, IfErr, IsOk};
 ghost use Rattle.shard_files.specs.declared.error.SplitError.TheVariants.{Memory};
 ghost use Rattle.shard_files.specs.Splits.{IsSplit};
-ghost use Rattle.shard_files.specs.Stripes.{IsPossible, shard_total, stripe_width};
+ghost use Rattle.shard_files.specs.Stripes.{shard_total, stripe_width};
 
 use crate::error::SplitError;
-use crate::head::Origin;
+use crate::layout::Layout;
 use std::alloc::Global;
 
-/// Fills `shards` with the bytes of a stripe, with zeros behind them, and with their parity. It fails where there is no such code, where the
-/// shards of data have too little room, or where memory is refused.
+/// Fills `shards` with the bytes of a stripe, with zeros behind them, and with their parity. The bytes are no more than a stripe has, and
+/// there is room for each shard. It fails where memory is refused.
 pub(crate) fn split_into(
     alloc: Global,
-    origin: &Origin,
+    layout: &Layout,
     content: &[u8],
     shards: &mut [u8],
 ) -> Result<(), SplitError>
-    requires { length shards.old ≡ shard_total origin.now * origin.now.size }
-    ensures split { IsOk result → IsSplit origin.now content.now shards.new }
-    ensures refused { IfErr result (λ error. IsPossible origin.now → length content.now ≤ stripe_width origin.now → error ≡ Memory) }
+    requires fits { length content.now ≤ stripe_width layout.now.origin }
+    requires whole { length shards.old ≡ shard_total layout.now.origin * layout.now.origin.size }
+    ensures split { IsOk result → IsSplit layout.now.origin content.now shards.new }
+    ensures refused { IfErr result (λ error. error ≡ Memory) }
     ensures long { length shards.new ≡ length shards.old }
 {
-    if !has_room(
-        content.len(),
-        origin.data_shards as usize,
-        origin.size as usize,
-    ) {
-        return Err(SplitError::Counts);
-    }
-    let code = match origin.stripe_code() {
-        Some(code) => code,
-        None => return Err(SplitError::Counts),
-    };
     fill(shards, content);
-    match code.encode(alloc, shards) {
+    match layout.code.encode(alloc, shards) {
         Ok(()) => Ok(()),
         Err(_) => Err(SplitError::Memory),
-    }
-}
-
-// Whether so many bytes fit into the shards of data: any do where the room is no number of a word.
-fn has_room(content: usize, data_shards: usize, size: usize) -> bool
-    ensures { IsTrue result ↔ (content ≤ data_shards * size) }
-{
-    match data_shards.checked_mul(size) {
-        Some(room) => content <= room,
-        None => true,
     }
 }
 

@@ -10,11 +10,12 @@ ghost use Rattle.shard_files.specs.Groups.{numbered, shard_at};
 ghost use Rattle.shard_files.specs.Heads.{head_digest, head_file};
 ghost use Rattle.shard_files.specs.Pieces.{piece_bytes};
 ghost use Rattle.shard_files.specs.Splits.{IsSplit};
-ghost use Rattle.shard_files.specs.Stripes.{IsPossible, shard_total, stripe_length, stripe_total, stripe_width};
+ghost use Rattle.shard_files.specs.Stripes.{shard_total, stripe_length, stripe_total, stripe_width};
 
 use crate::error::SplitError;
 use crate::group::zeros;
 use crate::head::{Head, Origin};
+use crate::layout::Layout;
 use crate::piece::digest_of;
 use crate::split::split_into;
 use sha2::{Digest, Sha256};
@@ -33,44 +34,41 @@ pub trait ShardFiles {
             → OnOk result ((now : ℕ → List ℕ) × holds self.new now × IsAppended index bytes.now files now) };
 }
 
-/// Splits what a reader gives into shards, and writes the file of each: the head, and behind it a piece of each stripe. The origin is
-/// possible. It fails where the reader does not give the bytes that the origin names, where a file cannot be written, or where memory is
-/// refused.
+/// Splits what a reader gives into shards, and writes the file of each: the head, and behind it a piece of each stripe. It fails where the
+/// reader does not give the bytes that the layout's origin names, where a file cannot be written, or where memory is refused.
 pub fn write_shards<R: Read, F: ShardFiles>(
     alloc: Global,
-    origin: Origin,
+    layout: Layout,
     reader: &mut R,
     files: &mut F,
 ) -> Result<(), SplitError>
-    requires { IsPossible origin }
-    ensures written { OnOk result ((content : List ℕ) × (wholes : List (List ℕ)) × AreShards origin content wholes
+    ensures written { OnOk result ((content : List ℕ) × (wholes : List (List ℕ)) × AreShards layout.origin content wholes
         × Consumes (R.remaining reader.old) (R.remaining reader.new) content
         × ((before : ℕ → List ℕ) → F.holds files.old before → (now : ℕ → List ℕ) × F.holds files.new now
-        × AppendsToEach (shard_total origin) (shard_file origin wholes) before now)) }
+        × AppendsToEach (shard_total layout.origin) (shard_file layout.origin wholes) before now)) }
     ensures refused { IfErr result (λ error. IsSplitFault error ⊎ ((error ≡ Changed) × ((content : List ℕ)
-        × Consumes (R.remaining reader.old) (R.remaining reader.new) content × (length content ≡ origin.length)
-        × (sha256 content ≢ origin.identity)))) }
+        × Consumes (R.remaining reader.old) (R.remaining reader.new) content × (length content ≡ layout.origin.length)
+        × (sha256 content ≢ layout.origin.identity)))) }
 {
-    put_heads(alloc, &origin, files)?;
+    put_heads(alloc, &layout, files)?;
     let mut hasher = Sha256::new();
-    for stripe in 0..origin.stripe_count() {
-        write_stripe(alloc, &origin, stripe, reader, &mut hasher, files)?;
+    for stripe in 0..layout.stripe_count() {
+        write_stripe(alloc, &layout, stripe, reader, &mut hasher, files)?;
     }
-    if hasher.finalize() != origin.identity {
+    if hasher.finalize() != layout.origin.identity {
         return Err(SplitError::Changed);
     }
     Ok(())
 }
 
 // Writes the head of each shard.
-fn put_heads<F: ShardFiles>(alloc: Global, origin: &Origin, files: &mut F) -> Result<(), SplitError>
-    requires { IsPossible origin.now }
+fn put_heads<F: ShardFiles>(alloc: Global, layout: &Layout, files: &mut F) -> Result<(), SplitError>
     ensures put { (before : ℕ → List ℕ) → F.holds files.old before → OnOk result ((now : ℕ → List ℕ) × F.holds files.new now
-        × AppendsToEach (shard_total origin.now) (λ index. head_file (numbered origin.now index)) before now) }
+        × AppendsToEach (shard_total layout.now.origin) (λ index. head_file (numbered layout.now.origin index)) before now) }
     ensures refused { IfErr result IsWriteFault }
 {
-    for index in 0..origin.total() {
-        put_head(alloc, origin, index, files)?;
+    for index in 0..layout.total() {
+        put_head(alloc, &layout.origin, index, files)?;
     }
     Ok(())
 }
@@ -123,27 +121,28 @@ fn append<F: ShardFiles>(files: &mut F, index: usize, bytes: &[u8]) -> Result<()
 // Reads the bytes of a stripe, adds them to those that are hashed, and writes a piece of each shard.
 fn write_stripe<R: Read, F: ShardFiles>(
     alloc: Global,
-    origin: &Origin,
+    layout: &Layout,
     stripe: u64,
     reader: &mut R,
     hasher: &mut Sha256,
     files: &mut F,
 ) -> Result<(), SplitError>
-    requires possible { IsPossible origin.now }
-    requires within { stripe < stripe_total origin.now }
-    ensures written { OnOk result ((bytes : List ℕ) × (whole : List ℕ) × IsSplit origin.now bytes whole
-        × (length whole ≡ shard_total origin.now * origin.now.size) × (length bytes ≡ stripe_length origin.now stripe)
+    requires { stripe < stripe_total layout.now.origin }
+    ensures written { OnOk result ((bytes : List ℕ) × (whole : List ℕ) × IsSplit layout.now.origin bytes whole
+        × (length whole ≡ shard_total layout.now.origin * layout.now.origin.size)
+        × (length bytes ≡ stripe_length layout.now.origin stripe)
         × Consumes (R.remaining reader.old) (R.remaining reader.new) bytes
         × ((before : List ℕ) → Holds256 hasher.old before → Holds256 hasher.new (before ++ bytes))
         × ((before : ℕ → List ℕ) → F.holds files.old before → (now : ℕ → List ℕ) × F.holds files.new now
-        × AppendsToEach (shard_total origin.now)
-        (λ index. piece_bytes (head_digest (numbered origin.now index)) stripe (shard_at origin.now.size whole index)) before now)) }
+        × AppendsToEach (shard_total layout.now.origin)
+        (λ index. piece_bytes (head_digest (numbered layout.now.origin index)) stripe
+        (shard_at layout.now.origin.size whole index)) before now)) }
     ensures refused { IfErr result IsSplitFault }
 {
-    let content = read_stripe(alloc, origin.stripe_length(stripe), reader)?;
+    let content = read_stripe(alloc, layout.stripe_length(stripe), reader)?;
     hasher.update(content.as_slice());
-    let shards = split_stripe(alloc, origin, content.as_slice())?;
-    put_pieces(origin, stripe, shards.as_slice(), files)?;
+    let shards = split_stripe(alloc, layout, content.as_slice())?;
+    put_pieces(layout, stripe, shards.as_slice(), files)?;
     Ok(())
 }
 
@@ -164,39 +163,40 @@ fn read_stripe<R: Read>(alloc: Global, count: usize, reader: &mut R) -> Result<V
 }
 
 // All shards of the bytes of a stripe.
-fn split_stripe(alloc: Global, origin: &Origin, content: &[u8]) -> Result<Vec<u8>, SplitError>
-    ensures split { IfOk result (λ shards. IsSplit origin.now content.now shards.items) }
-    ensures long { IfOk result (λ shards. length shards.items ≡ shard_total origin.now * origin.now.size) }
-    ensures refused { IfErr result (λ error. IsPossible origin.now → length content.now ≤ stripe_width origin.now → error ≡ Memory) }
+fn split_stripe(alloc: Global, layout: &Layout, content: &[u8]) -> Result<Vec<u8>, SplitError>
+    requires { length content.now ≤ stripe_width layout.now.origin }
+    ensures split { IfOk result (λ shards. IsSplit layout.now.origin content.now shards.items) }
+    ensures long { IfOk result (λ shards. length shards.items ≡ shard_total layout.now.origin * layout.now.origin.size) }
+    ensures refused { IfErr result (λ error. error ≡ Memory) }
 {
-    let mut shards = match zeros(alloc, origin.total(), origin.size as usize) {
+    let mut shards = match zeros(alloc, layout.total(), layout.origin.size as usize) {
         Ok(shards) => shards,
         Err(_) => return Err(SplitError::Memory),
     };
-    split_into(alloc, origin, content, shards.as_mut_slice())?;
+    split_into(alloc, layout, content, shards.as_mut_slice())?;
     Ok(shards)
 }
 
 // Writes a piece of each shard.
 fn put_pieces<F: ShardFiles>(
-    origin: &Origin,
+    layout: &Layout,
     stripe: u64,
     shards: &[u8],
     files: &mut F,
 ) -> Result<(), SplitError>
-    requires possible { IsPossible origin.now }
-    requires whole { length shards.now ≡ shard_total origin.now * origin.now.size }
+    requires { length shards.now ≡ shard_total layout.now.origin * layout.now.origin.size }
     ensures put { (before : ℕ → List ℕ) → F.holds files.old before → OnOk result ((now : ℕ → List ℕ) × F.holds files.new now
-        × AppendsToEach (shard_total origin.now)
-        (λ index. piece_bytes (head_digest (numbered origin.now index)) stripe (shard_at origin.now.size shards.now index)) before now) }
+        × AppendsToEach (shard_total layout.now.origin)
+        (λ index. piece_bytes (head_digest (numbered layout.now.origin index)) stripe
+        (shard_at layout.now.origin.size shards.now index)) before now) }
     ensures refused { IfErr result IsWriteFault }
 {
-    for index in 0..origin.total() {
+    for index in 0..layout.total() {
         put_piece(
-            origin,
+            &layout.origin,
             stripe,
             index,
-            shard_of(origin, shards, index),
+            shard_of(&layout.origin, shards, index),
             files,
         )?;
     }

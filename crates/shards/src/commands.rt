@@ -6,23 +6,18 @@ use crate::output_files::{NewFiles, NewShards};
 use crate::progress::{Progress, clear};
 use anyhow::{Context, Result, bail};
 use sha2::{Digest, Sha256};
-use shard_files::{JoinError, Origin, default_code, limit_of, write_content, write_shards};
-use std::fs::{File, Files};
+use shard_files::{JoinError, Layout, Origin, default_code, limit_of, write_content, write_shards};
+use std::fs::File;
 use std::io;
 use std::io::{Read, Write};
 use std::path::Path;
-use std::rt::Clock;
 
 /// How many bytes are read at once to compute an identity.
 const CHUNK: usize = 1 << 20;
 
 /// Writes the shards of a file: FILE.0, FILE.1, .., beside it or in a folder. The file is read twice: its identity, which each head and
 /// each piece is bound to, has to be known before the first is written.
-pub(crate) fn split_file<R: Files + AllocGlobal + Clock + Print + Eprint>(
-    rt: &R,
-    words: &Words<'_>,
-    file: &str,
-) -> Result<()> {
+pub(crate) fn split_file(rt: &HostRuntime, words: &Words<'_>, file: &str) -> Result<()> {
     let (length, identity) = identify(rt, file, words.is_quiet)?;
     let mode = mode_of(rt, file)?;
     let (data, parity) = (words.data_shards, words.parity_shards);
@@ -30,21 +25,21 @@ pub(crate) fn split_file<R: Files + AllocGlobal + Clock + Print + Eprint>(
         .code
         .unwrap_or(default_code(data as usize, parity as usize));
     let origin = Origin::of_file(code, data, parity, length, identity);
-    if !origin.is_possible() {
-        bail!("cannot split {file}: {}", limit_of(code))
-    }
+    let layout = match Layout::of(origin) {
+        Some(layout) => layout,
+        None => bail!("cannot split {file}: {}", limit_of(code)),
+    };
+    let (total, size) = (layout.total(), layout.file_length());
     let base = base_of(rt, file, words.folder)?;
     let files = NewFiles::new(rt, mode, words.is_forced);
-    let all = origin.file_length().saturating_mul(origin.total() as u64);
-    let progress = Progress::new(words.is_quiet, all);
-    let mut new = NewShards::new(rt, files, base, origin.total(), progress)?;
-    for index in 0..origin.total() {
+    let progress = Progress::new(words.is_quiet, size.saturating_mul(total as u64));
+    let mut new = NewShards::new(rt, files, base, total, progress)?;
+    for index in 0..total {
         new.require_free(index)?;
     }
-    let work = split_to(rt, file, origin, &mut new);
+    let work = split_to(rt, file, layout, &mut new);
     clear(rt, words.is_quiet);
     new.end(work)?;
-    let (total, size) = (origin.total(), origin.file_length());
     let _ = println!(rt;
         "{total} shards of {size} bytes, of which any {data} restore {length} bytes"
     );
@@ -52,17 +47,9 @@ pub(crate) fn split_file<R: Files + AllocGlobal + Clock + Print + Eprint>(
 }
 
 // Writes the shards of a file beside their places.
-fn split_to<R: Files + AllocGlobal + Clock + Eprint>(
-    rt: &R,
-    file: &str,
-    origin: Origin,
-    new: &mut NewShards<'_, R>,
-) -> Result<()> {
+fn split_to(rt: &HostRuntime, file: &str, layout: Layout, new: &mut NewShards<'_>) -> Result<()> {
     let mut reader = File::open(rt, file).context(format_args!("cannot read {file}"))?;
-    if !origin.is_possible() {
-        bail!("cannot split {file}: no code has so many shards")
-    }
-    let written = write_shards(rt.alloc(), origin, &mut reader, new);
+    let written = write_shards(rt.alloc(), layout, &mut reader, new);
     if let Err(error) = written {
         match new.fault() {
             Some(fault) => return Err(fault),
@@ -73,11 +60,7 @@ fn split_to<R: Files + AllocGlobal + Clock + Eprint>(
 }
 
 // How many bytes a file has, and their SHA-256.
-fn identify<R: Files + AllocGlobal + Clock + Eprint>(
-    rt: &R,
-    file: &str,
-    is_quiet: bool,
-) -> Result<(u64, [u8; 32])> {
+fn identify(rt: &HostRuntime, file: &str, is_quiet: bool) -> Result<(u64, [u8; 32])> {
     let mut progress = Progress::new(is_quiet, length_of(rt, file));
     let mut reader = File::open(rt, file).context(format_args!("cannot read {file}"))?;
     let mut chunk = vec![in rt.alloc(); 0u8; CHUNK]?;
@@ -98,11 +81,7 @@ fn identify<R: Files + AllocGlobal + Clock + Eprint>(
 }
 
 /// Writes a file from its shards, as far as they are whole: to its place, or to standard output.
-pub(crate) fn join_file<R: Files + AllocGlobal + Clock + Print + Eprint>(
-    rt: &R,
-    words: &Words<'_>,
-    file: &str,
-) -> Result<()> {
+pub(crate) fn join_file(rt: &HostRuntime, words: &Words<'_>, file: &str) -> Result<()> {
     if file == "-" {
         let found = find_shards(rt, words, file)?;
         return join_to(rt, &found, &mut io::writer(rt));
@@ -112,8 +91,8 @@ pub(crate) fn join_file<R: Files + AllocGlobal + Clock + Print + Eprint>(
     let mut new = NewFiles::new(rt, found.mode(rt)?, words.is_forced);
     let work = write_joined(rt, &mut new, &found, file);
     new.end(work)?;
-    let (origin, count) = (found.origin(), found.seen.count);
-    let (total, length, size) = (origin.total(), origin.length, origin.size);
+    let (layout, count) = (found.seen.layout, found.seen.count);
+    let (total, length, size) = (layout.total(), layout.origin.length, layout.origin.size);
     let _ = println!(rt;
         "{length} bytes from {count} of {total} shards, {size} bytes of each in a stripe"
     );
@@ -121,14 +100,14 @@ pub(crate) fn join_file<R: Files + AllocGlobal + Clock + Print + Eprint>(
 }
 
 // Fails where a file is at that place, and is not to be overwritten.
-fn require_free<R: Files + AllocGlobal>(rt: &R, words: &Words<'_>, file: &str) -> Result<()> {
+fn require_free(rt: &HostRuntime, words: &Words<'_>, file: &str) -> Result<()> {
     NewFiles::new(rt, 0o600, words.is_forced).require_free(file)
 }
 
 // Writes a file beside its place.
-fn write_joined<R: Files + AllocGlobal + Clock + Eprint>(
-    rt: &R,
-    new: &mut NewFiles<'_, R>,
+fn write_joined(
+    rt: &HostRuntime,
+    new: &mut NewFiles<'_>,
     found: &Found<'_>,
     file: &str,
 ) -> Result<()> {
@@ -139,17 +118,10 @@ fn write_joined<R: Files + AllocGlobal + Clock + Eprint>(
 }
 
 // Writes the bytes of a file.
-fn join_to<R: Files + AllocGlobal + Clock + Eprint, W: Write>(
-    rt: &R,
-    found: &Found<'_>,
-    writer: &mut W,
-) -> Result<()> {
+fn join_to<W: Write>(rt: &HostRuntime, found: &Found<'_>, writer: &mut W) -> Result<()> {
     require_enough(found)?;
-    let (file, origin) = (found.file, found.origin());
-    if !origin.is_possible() {
-        bail!("cannot restore {file}: no code has so many shards")
-    }
-    let written = write_content(rt.alloc(), &mut found.source(rt), origin, writer);
+    let (file, layout) = (found.file, found.seen.layout);
+    let written = write_content(rt.alloc(), &mut found.source(rt), layout, writer);
     clear(rt, found.is_quiet);
     match written {
         Ok(()) => Ok(()),
@@ -159,7 +131,7 @@ fn join_to<R: Files + AllocGlobal + Clock + Eprint, W: Write>(
 }
 
 // The names of the shards of a file without their numbers: beside it, or in a folder.
-fn base_of<R: AllocGlobal>(rt: &R, file: &str, folder: Option<&str>) -> Result<String> {
+fn base_of(rt: &HostRuntime, file: &str, folder: Option<&str>) -> Result<String> {
     let name = Path::new(file).file_name().unwrap_or(file);
     Ok(match folder {
         Some(folder) => format!(in rt.alloc(); "{folder}/{name}")?,

@@ -1,7 +1,7 @@
 // Shards that are missing or damaged, by stripes.
 use crate::finding::Found;
 use anyhow::{Result, bail};
-use shard_files::{Group, Origin};
+use shard_files::{Group, Layout};
 use std::alloc::{AllocError, Global};
 
 /// A shard that is missing or damaged in neighbouring stripes.
@@ -15,7 +15,7 @@ pub(crate) struct Run {
 /// What was found wrong with the shards of a file.
 #[derive(Drop)]
 pub(crate) struct Faults {
-    origin: Origin,
+    layout: Layout,
     pub(crate) runs: Vec<Run>,
     /// Of each shard one more than the place of its last run, or 0 where it has none.
     last: Vec<usize>,
@@ -27,11 +27,11 @@ pub(crate) struct Faults {
 
 impl Faults {
     /// Nothing was found wrong.
-    pub(crate) fn new(alloc: Global, origin: Origin) -> Result<Faults, AllocError> {
+    pub(crate) fn new(alloc: Global, layout: Layout) -> Result<Faults, AllocError> {
         Ok(Faults {
-            origin,
+            layout,
             runs: Vec::new(alloc),
-            last: vec![in alloc; 0usize; origin.total()]?,
+            last: vec![in alloc; 0usize; layout.total()]?,
             too_few: None,
             is_false: false,
         })
@@ -39,7 +39,7 @@ impl Faults {
 
     /// Adds which shards of an empty file, which has no stripes, are not at hand.
     pub(crate) fn add_heads(&mut self, found: &Found<'_>) -> Result<(), AllocError> {
-        for index in 0..self.origin.total() {
+        for index in 0..self.layout.total() {
             if !found.scan.has(&found.seen, index) {
                 self.add_one(0, index)?;
             }
@@ -52,12 +52,12 @@ impl Faults {
 
     /// Adds which shards are not at hand in a stripe. Stripes come in order.
     pub(crate) fn add(&mut self, stripe: u64, group: &Group) -> Result<(), AllocError> {
-        for index in 0..self.origin.total() {
+        for index in 0..self.layout.total() {
             if !group.has(index) {
                 self.add_one(stripe, index)?;
             }
         }
-        if group.count() < self.origin.data_shards as usize && self.too_few.is_none() {
+        if group.count() < self.layout.origin.data_shards as usize && self.too_few.is_none() {
             self.too_few = Some(stripe);
         }
         Ok(())
@@ -101,8 +101,8 @@ pub(crate) fn require_enough(found: &Found<'_>) -> Result<()> {
     if found.seen.has_enough() {
         Ok(())
     } else {
-        let (count, total) = (found.seen.count, found.origin().total());
-        let enough = found.origin().data_shards;
+        let (count, layout) = (found.seen.count, found.seen.layout);
+        let (total, enough) = (layout.total(), layout.origin.data_shards);
         bail!(
             "{}: {count} of {total} shards are whole, and {enough} are enough",
             found.file
@@ -112,7 +112,7 @@ pub(crate) fn require_enough(found: &Found<'_>) -> Result<()> {
 
 /// Fails, since in a stripe fewer shards are whole than the data have.
 pub(crate) fn too_few(found: &Found<'_>) -> Result<()> {
-    let enough = found.origin().data_shards;
+    let enough = found.seen.layout.origin.data_shards;
     bail!(
         "{}: in a stripe too few shards are whole, and {enough} are enough",
         found.file

@@ -2,28 +2,32 @@
 use crate::arguments::Words;
 use crate::progress::{Progress, note};
 use anyhow::{Result, bail};
-use shard_files::{Choice, Finding, HEAD, MOST_SHARDS, Origin, Scan, Seen, ShardSource};
+use shard_files::{Choice, Finding, HEAD, MOST_SHARDS, Scan, Seen, ShardSource};
 use std::fs;
-use std::fs::{File, Files};
+use std::fs::File;
 use std::io::{Read, Seek, SeekFrom};
 use std::os::unix::fs::PermissionsExt;
-use std::rt::Clock;
 
 /// Files that are read in turn, of which one is open at a time.
 #[derive(Drop)]
-pub(crate) struct OldFiles<'a, R: Files> {
-    rt: &'a R,
+pub(crate) struct OldFiles<'a> {
+    rt: &'a HostRuntime,
     file: &'a str,
     paths: &'a [String],
-    open: Option<R::File>,
+    open: Option<File>,
     /// The place of the file that is open.
     place: usize,
     progress: Progress,
 }
 
-impl<'a, R: Files + AllocGlobal + Clock + Eprint> OldFiles<'a, R> {
+impl<'a> OldFiles<'a> {
     // The files at these paths.
-    fn new(rt: &'a R, file: &'a str, paths: &'a [String], progress: Progress) -> OldFiles<'a, R> {
+    fn new(
+        rt: &'a HostRuntime,
+        file: &'a str,
+        paths: &'a [String],
+        progress: Progress,
+    ) -> OldFiles<'a> {
         OldFiles {
             rt,
             file,
@@ -44,7 +48,7 @@ impl<'a, R: Files + AllocGlobal + Clock + Eprint> OldFiles<'a, R> {
 }
 
 // What the system's files hold is not told.
-impl<R: Files + AllocGlobal + Clock + Eprint> ShardSource for OldFiles<'_, R> {
+impl ShardSource for OldFiles<'_> {
     ghost holds = { λ source files. ⊥ };
 
     fn count(&self) -> usize {
@@ -85,28 +89,16 @@ pub(crate) struct Found<'a> {
 }
 
 impl Found<'_> {
-    /// What its heads say.
-    pub(crate) fn origin(&self) -> Origin {
-        self.seen.origin
-    }
-
     /// The files that were looked at, to be read.
-    pub(crate) fn source<'b, R: Files + AllocGlobal + Clock + Eprint>(
-        &'b self,
-        rt: &'b R,
-    ) -> OldFiles<'b, R> {
-        let origin = self.seen.origin;
-        let all = if origin.is_possible() {
-            origin.file_length().saturating_mul(self.seen.count as u64)
-        } else {
-            0
-        };
+    pub(crate) fn source<'b>(&'b self, rt: &'b HostRuntime) -> OldFiles<'b> {
+        let length = self.seen.layout.file_length();
+        let all = length.saturating_mul(self.seen.count as u64);
         let progress = Progress::new(self.is_quiet, all);
         OldFiles::new(rt, self.file, self.paths.as_slice(), progress)
     }
 
     /// The mode of the first of its shards.
-    pub(crate) fn mode<R: Files>(&self, rt: &R) -> Result<u32> {
+    pub(crate) fn mode(&self, rt: &HostRuntime) -> Result<u32> {
         match self.paths.as_slice().get(self.first) {
             Some(path) => mode_of(rt, path.as_str()),
             None => Ok(0o600),
@@ -115,7 +107,7 @@ impl Found<'_> {
 }
 
 /// The mode of a file.
-pub(crate) fn mode_of<R: Files>(rt: &R, path: &str) -> Result<u32> {
+pub(crate) fn mode_of(rt: &HostRuntime, path: &str) -> Result<u32> {
     match fs::metadata(rt, path) {
         Ok(about) => Ok(about.permissions().mode()),
         Err(error) => bail!("cannot read {path}: {error}"),
@@ -123,7 +115,7 @@ pub(crate) fn mode_of<R: Files>(rt: &R, path: &str) -> Result<u32> {
 }
 
 /// How many bytes a file has, or 0 where that cannot be told.
-pub(crate) fn length_of<R: Files>(rt: &R, path: &str) -> u64 {
+pub(crate) fn length_of(rt: &HostRuntime, path: &str) -> u64 {
     match fs::metadata(rt, path) {
         Ok(about) => about.len(),
         Err(_error) => 0,
@@ -132,8 +124,8 @@ pub(crate) fn length_of<R: Files>(rt: &R, path: &str) -> u64 {
 
 /// Looks at the files that are named behind the file, or at FILE.0, FILE.1, .. where none is, and chooses the file of which there are
 /// enough shards. It tells of each file that is not taken.
-pub(crate) fn find_shards<'a, R: Files + AllocGlobal + Clock + Eprint>(
-    rt: &R,
+pub(crate) fn find_shards<'a>(
+    rt: &HostRuntime,
     words: &Words<'_>,
     file: &'a str,
 ) -> Result<Found<'a>> {
@@ -157,7 +149,7 @@ pub(crate) fn find_shards<'a, R: Files + AllocGlobal + Clock + Eprint>(
 }
 
 /// What the files at these paths are, by the bytes that they begin with.
-pub(crate) fn scan_of<R: Files + AllocGlobal>(rt: &R, paths: &[String]) -> Result<Scan> {
+pub(crate) fn scan_of(rt: &HostRuntime, paths: &[String]) -> Result<Scan> {
     let mut scan = Scan::new(rt.alloc());
     for path in paths {
         look_at(rt, path.as_str(), &mut scan)?;
@@ -166,7 +158,7 @@ pub(crate) fn scan_of<R: Files + AllocGlobal>(rt: &R, paths: &[String]) -> Resul
 }
 
 // Adds what a file is.
-fn look_at<R: Files + AllocGlobal>(rt: &R, path: &str, scan: &mut Scan) -> Result<()> {
+fn look_at(rt: &HostRuntime, path: &str, scan: &mut Scan) -> Result<()> {
     match begin_of(rt, path) {
         Some(bytes) => scan.add(Some(bytes.as_slice()))?,
         None => scan.add(None)?,
@@ -175,21 +167,17 @@ fn look_at<R: Files + AllocGlobal>(rt: &R, path: &str, scan: &mut Scan) -> Resul
 }
 
 /// What the head of a file says, where it is a shard.
-pub(crate) fn seen_at<R: Files + AllocGlobal>(rt: &R, path: &str) -> Result<Option<Seen>> {
+pub(crate) fn seen_at(rt: &HostRuntime, path: &str) -> Result<Option<Seen>> {
     let mut scan = Scan::new(rt.alloc());
     look_at(rt, path, &mut scan)?;
     Ok(scan.seen.first().copied())
 }
 
 // Fails where the first name is that of a shard of the file that is chosen, or of any where none is.
-fn require_no_shard<R: Files + AllocGlobal>(
-    rt: &R,
-    file: &str,
-    chosen: Option<&Seen>,
-) -> Result<()> {
+fn require_no_shard(rt: &HostRuntime, file: &str, chosen: Option<&Seen>) -> Result<()> {
     if let Some(own) = seen_at(rt, file)? {
         let is_of = match chosen {
-            Some(seen) => own.origin.identity == seen.origin.identity,
+            Some(seen) => own.layout.origin.identity == seen.layout.origin.identity,
             None => true,
         };
         if is_of {
@@ -200,7 +188,7 @@ fn require_no_shard<R: Files + AllocGlobal>(
 }
 
 // As many bytes as a head has, or as a file has, from its beginning.
-fn begin_of<R: Files + AllocGlobal>(rt: &R, path: &str) -> Option<Vec<u8>> {
+fn begin_of(rt: &HostRuntime, path: &str) -> Option<Vec<u8>> {
     let file = File::open(rt, path).ok()?;
     let mut bytes = Vec::new(rt.alloc());
     let mut begin = file.take(HEAD as u64);
@@ -209,12 +197,7 @@ fn begin_of<R: Files + AllocGlobal>(rt: &R, path: &str) -> Option<Vec<u8>> {
 }
 
 // Tells of each file that is no shard of the chosen one, and finds the place of the first that is.
-fn tell_others<R: AllocGlobal + Eprint>(
-    rt: &R,
-    paths: &[String],
-    chosen: usize,
-    scan: &Scan,
-) -> Result<usize> {
+fn tell_others(rt: &HostRuntime, paths: &[String], chosen: usize, scan: &Scan) -> Result<usize> {
     let mut first = paths.len();
     for place in 0..paths.len() {
         match scan.findings.as_slice().get(place) {
@@ -227,11 +210,7 @@ fn tell_others<R: AllocGlobal + Eprint>(
 }
 
 /// The names of the files that may be shards.
-pub(crate) fn paths_of<R: Files + AllocGlobal>(
-    rt: &R,
-    words: &Words<'_>,
-    file: &str,
-) -> Result<Vec<String>> {
+pub(crate) fn paths_of(rt: &HostRuntime, words: &Words<'_>, file: &str) -> Result<Vec<String>> {
     let mut paths = Vec::new(rt.alloc());
     for shard in words.shards.as_slice() {
         paths.push(format!(in rt.alloc(); "{shard}")?)?;
@@ -248,12 +227,7 @@ pub(crate) fn paths_of<R: Files + AllocGlobal>(
 }
 
 // The number of the file that is to be restored, or how many there are where it is none of them.
-fn choose<R: AllocGlobal + Eprint>(
-    rt: &R,
-    words: &Words<'_>,
-    file: &str,
-    scan: &Scan,
-) -> Result<usize> {
+fn choose(rt: &HostRuntime, words: &Words<'_>, file: &str, scan: &Scan) -> Result<usize> {
     let mut wanted = Vec::new(rt.alloc());
     for seen in scan.seen.as_slice() {
         let name = name_of(rt, seen)?;
@@ -278,12 +252,7 @@ fn choose<R: AllocGlobal + Eprint>(
 }
 
 /// Tells why a file is not taken.
-pub(crate) fn tell<R: AllocGlobal + Eprint>(
-    rt: &R,
-    path: &str,
-    finding: Finding,
-    scan: &Scan,
-) -> Result<()> {
+pub(crate) fn tell(rt: &HostRuntime, path: &str, finding: Finding, scan: &Scan) -> Result<()> {
     match finding {
         Finding::Unread => note(rt, path, "it cannot be read"),
         Finding::Damaged => note(rt, path, "it is no shard, or was damaged"),
@@ -311,9 +280,9 @@ pub(crate) fn tell<R: AllocGlobal + Eprint>(
 }
 
 /// The identity of a file, as 64 hexadecimal digits.
-pub(crate) fn name_of<R: AllocGlobal>(rt: &R, seen: &Seen) -> Result<String> {
+pub(crate) fn name_of(rt: &HostRuntime, seen: &Seen) -> Result<String> {
     let mut name = String::new(rt.alloc());
-    for byte in &seen.origin.identity {
+    for byte in &seen.layout.origin.identity {
         let digits = format!(in rt.alloc(); "{byte:02x}")?;
         name.push_str(digits.as_str())?;
     }

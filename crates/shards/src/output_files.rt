@@ -3,26 +3,25 @@
 use crate::progress::Progress;
 use anyhow::{Context, Result, bail};
 use shard_files::ShardFiles;
-use std::fs::{File, Files, OpenFile, OpenOptions, Permissions};
+use std::fs::{File, OpenOptions, Permissions};
 use std::io::Write;
 use std::os::unix::fs::{OpenOptionsExt, PermissionsExt};
 use std::path::Path;
-use std::rt::Clock;
 use std::{fs, io};
 
 /// New files. What is there already is not overwritten, unless that is asked for.
 #[derive(Drop)]
-pub(crate) struct NewFiles<'a, R> {
-    rt: &'a R,
+pub(crate) struct NewFiles<'a> {
+    rt: &'a HostRuntime,
     mode: u32,
     is_forced: bool,
     targets: Vec<String>,
     placed: usize,
 }
 
-impl<'a, R: Files + AllocGlobal> NewFiles<'a, R> {
+impl<'a> NewFiles<'a> {
     /// No file yet. Each is to have this mode.
-    pub(crate) fn new(rt: &'a R, mode: u32, is_forced: bool) -> NewFiles<'a, R> {
+    pub(crate) fn new(rt: &'a HostRuntime, mode: u32, is_forced: bool) -> NewFiles<'a> {
         NewFiles {
             rt,
             mode: mode & 0o777,
@@ -41,7 +40,7 @@ impl<'a, R: Files + AllocGlobal> NewFiles<'a, R> {
     }
 
     /// Opens a new file beside its place. Only its owner may read it as yet.
-    pub(crate) fn begin(&mut self, target: String) -> Result<R::File> {
+    pub(crate) fn begin(&mut self, target: String) -> Result<File> {
         self.require_free(target.as_str())?;
         let part = part_of(self.rt, target.as_str())?;
         self.require_free(part.as_str())?;
@@ -58,7 +57,7 @@ impl<'a, R: Files + AllocGlobal> NewFiles<'a, R> {
     }
 
     /// Gives a file its mode, and waits until it is on the disk.
-    pub(crate) fn finish(&self, file: &R::File, target: &str) -> Result<()> {
+    pub(crate) fn finish(&self, file: &File, target: &str) -> Result<()> {
         file.set_permissions(Permissions::from_mode(self.mode))
             .context(format_args!("cannot set the mode of {target}.part"))?;
         file.sync_all()
@@ -106,12 +105,12 @@ impl<'a, R: Files + AllocGlobal> NewFiles<'a, R> {
 
 /// The new files of the shards of a file, of which one is open at a time.
 #[derive(Drop)]
-pub(crate) struct NewShards<'a, R: Files> {
-    rt: &'a R,
-    files: NewFiles<'a, R>,
+pub(crate) struct NewShards<'a> {
+    rt: &'a HostRuntime,
+    files: NewFiles<'a>,
     /// The names of the shards without their numbers.
     base: String,
-    open: Option<R::File>,
+    open: Option<File>,
     /// The number of the shard whose file is open, or was written last.
     index: usize,
     is_begun: Vec<bool>,
@@ -120,15 +119,15 @@ pub(crate) struct NewShards<'a, R: Files> {
     progress: Progress,
 }
 
-impl<'a, R: Files + AllocGlobal + Clock + Eprint> NewShards<'a, R> {
+impl<'a> NewShards<'a> {
     /// No file of so many shards yet.
     pub(crate) fn new(
-        rt: &'a R,
-        files: NewFiles<'a, R>,
+        rt: &'a HostRuntime,
+        files: NewFiles<'a>,
         base: String,
         total: usize,
         progress: Progress,
-    ) -> Result<NewShards<'a, R>> {
+    ) -> Result<NewShards<'a>> {
         Ok(NewShards {
             rt,
             files,
@@ -209,7 +208,7 @@ impl<'a, R: Files + AllocGlobal + Clock + Eprint> NewShards<'a, R> {
 }
 
 // What the system's files hold is not told.
-impl<R: Files + AllocGlobal + Clock + Eprint> ShardFiles for NewShards<'_, R> {
+impl ShardFiles for NewShards<'_> {
     ghost holds = { λ files held. ⊥ };
 
     fn append(&mut self, index: usize, bytes: &[u8]) -> io::Result<()> {
@@ -224,18 +223,18 @@ impl<R: Files + AllocGlobal + Clock + Eprint> ShardFiles for NewShards<'_, R> {
 }
 
 // Puts a file at its place.
-fn place_one<R: Files + AllocGlobal>(rt: &R, target: &str) -> Result<()> {
+fn place_one(rt: &HostRuntime, target: &str) -> Result<()> {
     let part = part_of(rt, target)?;
     fs::rename(rt, part.as_str(), target).context(format_args!("cannot write {target}"))
 }
 
 // The name under which a file is written at first.
-fn part_of<R: AllocGlobal>(rt: &R, target: &str) -> Result<String> {
+fn part_of(rt: &HostRuntime, target: &str) -> Result<String> {
     Ok(format!(in rt.alloc(); "{target}.part")?)
 }
 
 // Waits until the names in the folder of a file are on the disk, where the system does that for folders.
-fn sync_folder<R: Files>(rt: &R, file: &str) {
+fn sync_folder(rt: &HostRuntime, file: &str) {
     let folder = match Path::new(file).parent() {
         Some(folder) if !folder.as_str().is_empty() => folder.as_str(),
         _ => ".",

@@ -1,6 +1,5 @@
 // What is told of work that takes long, on a terminal, and of shards that are not taken. It goes to standard error; where that cannot be
 // written, the work goes on.
-use std::rt::Clock;
 use std::time::Instant;
 
 /// How many bytes are done of all, since when, and after how many seconds it was told last.
@@ -26,7 +25,7 @@ impl Progress {
     }
 
     /// Counts so many bytes more, and tells of them once a second.
-    pub(crate) fn add<R: Eprint + Clock>(&mut self, rt: &R, file: &str, what: &str, bytes: usize) {
+    pub(crate) fn add(&mut self, rt: &HostRuntime, file: &str, what: &str, bytes: usize) {
         self.done = self.done.saturating_add(bytes as u64);
         if self.is_quiet {
             return;
@@ -43,7 +42,7 @@ impl Progress {
 
     // Tells what is done after so many milliseconds, where another second is full: how much of all, how fast, and how long the rest takes
     // at that speed. What is told next overwrites it.
-    fn tell<R: Eprint>(&mut self, rt: &R, file: &str, what: &str, passed: u128) {
+    fn tell(&mut self, rt: &HostRuntime, file: &str, what: &str, passed: u128) {
         let seconds = passed / 1000;
         if seconds > self.told {
             self.told = seconds;
@@ -58,13 +57,13 @@ impl Progress {
 }
 
 /// Clears the line on which progress was told, where it is told.
-pub(crate) fn clear<R: Eprint>(rt: &R, is_quiet: bool) {
+pub(crate) fn clear(rt: &HostRuntime, is_quiet: bool) {
     if !is_quiet {
         let _ = eprint!(rt; "\x1b[K");
     }
 }
 
 /// Tells why a file is not taken as a shard.
-pub(crate) fn note<R: Eprint>(rt: &R, path: &str, why: &str) {
+pub(crate) fn note(rt: &HostRuntime, path: &str, why: &str) {
     let _ = eprintln!(rt; "{path}: {why}");
 }

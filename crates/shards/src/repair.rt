@@ -6,23 +6,18 @@ use crate::output_files::{NewFiles, NewShards};
 use crate::progress::{Progress, clear};
 use anyhow::{Result, bail};
 use sha2::{Digest, Sha256};
-use shard_files::{Finding, MATRIX, Origin, Scan, Seen, gather, repair_shards};
+use shard_files::{Finding, MATRIX, Scan, Seen, gather, repair_shards};
 use std::fs;
-use std::fs::Files;
 use std::process::ExitCode;
-use std::rt::Clock;
 
 /// Says of each shard whether it is whole, and in which stripes it is not. The status is 1 where shards are missing or damaged and enough
 /// are left, and 2 where too few are, or where they are not those of the file.
-pub(crate) fn verify_file<R: Files + AllocGlobal + Clock + Print + Eprint>(
-    rt: &R,
-    words: &Words<'_>,
-    file: &str,
-) -> Result<ExitCode> {
+pub(crate) fn verify_file(rt: &HostRuntime, words: &Words<'_>, file: &str) -> Result<ExitCode> {
     let found = find_shards(rt, words, file)?;
     let faults = faults_of(rt, &found)?;
-    let (total, enough) = (found.origin().total(), found.origin().data_shards);
-    tell_runs(rt, &faults, total, stripes_of(&found.origin()))?;
+    let layout = found.seen.layout;
+    let (total, enough) = (layout.total(), layout.origin.data_shards);
+    tell_runs(rt, &faults, total, layout.stripe_count())?;
     if faults.is_whole() {
         println!(rt; "all {total} shards are whole")?;
         return Ok(ExitCode::SUCCESS);
@@ -43,48 +38,36 @@ pub(crate) fn verify_file<R: Files + AllocGlobal + Clock + Print + Eprint>(
     Ok(ExitCode::FAILURE)
 }
 
-// How many stripes a file has.
-fn stripes_of(origin: &Origin) -> u64 {
-    if origin.is_possible() {
-        origin.stripe_count()
-    } else {
-        0
-    }
-}
-
 // What is wrong with the shards of a file.
-fn faults_of<R: Files + AllocGlobal + Clock + Eprint>(rt: &R, found: &Found<'_>) -> Result<Faults> {
-    let origin = found.origin();
-    let mut faults = Faults::new(rt.alloc(), origin)?;
-    if !origin.is_possible() {
-        bail!("{}: no code has so many shards", found.file)
-    }
-    if origin.stripe_count() == 0 {
+fn faults_of(rt: &HostRuntime, found: &Found<'_>) -> Result<Faults> {
+    let layout = found.seen.layout;
+    let mut faults = Faults::new(rt.alloc(), layout)?;
+    if layout.stripe_count() == 0 {
         faults.add_heads(found)?;
         return Ok(faults);
     }
     let mut source = found.source(rt);
     let mut hasher = Sha256::new();
-    for stripe in 0..origin.stripe_count() {
-        let mut group = gather(rt.alloc(), &mut source, origin, stripe)?;
+    for stripe in 0..layout.stripe_count() {
+        let mut group = gather(rt.alloc(), &mut source, layout, stripe)?;
         faults.add(stripe, &group)?;
-        if group.count() == origin.total() && !group.has_parity(rt.alloc())? {
+        if group.count() == layout.total() && !group.has_parity(rt.alloc())? {
             faults.is_false = true;
         }
         if faults.too_few.is_none() {
             group.restore(rt.alloc())?;
-            hasher.update(group.content(origin.stripe_length(stripe)));
+            hasher.update(group.content(layout.stripe_length(stripe)));
         }
     }
     clear(rt, found.is_quiet);
-    if faults.too_few.is_none() && hasher.finalize() != origin.identity {
+    if faults.too_few.is_none() && hasher.finalize() != layout.origin.identity {
         faults.is_false = true;
     }
     Ok(faults)
 }
 
 // Tells of each shard in which stripes it is damaged, or that it is in none whole.
-fn tell_runs<R: Print>(rt: &R, faults: &Faults, total: usize, stripes: u64) -> Result<()> {
+fn tell_runs(rt: &HostRuntime, faults: &Faults, total: usize, stripes: u64) -> Result<()> {
     for index in 0..total {
         if !faults.is_lost(index) {
             continue;
@@ -107,11 +90,7 @@ fn tell_runs<R: Print>(rt: &R, faults: &Faults, total: usize, stripes: u64) -> R
 }
 
 /// Writes the shards again that are missing or damaged: to FILE.0, FILE.1, .., as they were split.
-pub(crate) fn repair_file<R: Files + AllocGlobal + Clock + Print + Eprint>(
-    rt: &R,
-    words: &Words<'_>,
-    file: &str,
-) -> Result<()> {
+pub(crate) fn repair_file(rt: &HostRuntime, words: &Words<'_>, file: &str) -> Result<()> {
     let found = find_shards(rt, words, file)?;
     require_enough(&found)?;
     let faults = faults_of(rt, &found)?;
@@ -122,19 +101,14 @@ pub(crate) fn repair_file<R: Files + AllocGlobal + Clock + Print + Eprint>(
         bail!("{file}: the parity is not that of the data, or the data are not those of the file")
     }
     let mut lost = Vec::new(rt.alloc());
-    for index in 0..found.origin().total() {
+    for index in 0..found.seen.layout.total() {
         lost.push(faults.is_lost(index))?;
     }
     write_lost(rt, words, &found, lost.as_slice())
 }
 
 // Writes shards of a file.
-fn write_lost<R: Files + AllocGlobal + Clock + Print + Eprint>(
-    rt: &R,
-    words: &Words<'_>,
-    found: &Found<'_>,
-    lost: &[bool],
-) -> Result<()> {
+fn write_lost(rt: &HostRuntime, words: &Words<'_>, found: &Found<'_>, lost: &[bool]) -> Result<()> {
     let file = found.file;
     let files = NewFiles::new(rt, found.mode(rt)?, true);
     let base = format!(in rt.alloc(); "{file}")?;
@@ -152,23 +126,23 @@ fn write_lost<R: Files + AllocGlobal + Clock + Print + Eprint>(
     }
     let work = repair_to(rt, found, lost, &mut new);
     new.end(work)?;
-    let total = found.origin().total();
+    let total = found.seen.layout.total();
     let _ = println!(rt; "{count} of {total} shards are written again");
     Ok(())
 }
 
 // Writes shards of a file beside their places.
-fn repair_to<R: Files + AllocGlobal + Clock + Eprint>(
-    rt: &R,
+fn repair_to(
+    rt: &HostRuntime,
     found: &Found<'_>,
     lost: &[bool],
-    new: &mut NewShards<'_, R>,
+    new: &mut NewShards<'_>,
 ) -> Result<()> {
-    let (file, origin) = (found.file, found.origin());
-    if !origin.is_possible() || lost.len() != origin.total() {
+    let (file, layout) = (found.file, found.seen.layout);
+    if lost.len() != layout.total() {
         bail!("{file}: no code has so many shards")
     }
-    let repaired = repair_shards(rt.alloc(), &mut found.source(rt), origin, lost, new);
+    let repaired = repair_shards(rt.alloc(), &mut found.source(rt), layout, lost, new);
     clear(rt, found.is_quiet);
     if let Err(error) = repaired {
         match new.fault() {
@@ -181,7 +155,7 @@ fn repair_to<R: Files + AllocGlobal + Clock + Eprint>(
 
 // Fails where at the place of a shard that is written again there is what may not be overwritten: a whole shard of another number or
 // of another file, or a file that was not looked at.
-fn require_damaged<R: Files + AllocGlobal>(rt: &R, found: &Found<'_>, index: usize) -> Result<()> {
+fn require_damaged(rt: &HostRuntime, found: &Found<'_>, index: usize) -> Result<()> {
     let target = format!(in rt.alloc(); "{}.{index}", found.file)?;
     if fs::symlink_metadata(rt, target.as_str()).is_err() {
         return Ok(());
@@ -203,11 +177,7 @@ fn require_damaged<R: Files + AllocGlobal>(rt: &R, found: &Found<'_>, index: usi
 }
 
 /// Says what shards say of themselves: the files that they are of, and the number of each. The first name may be that of a shard too.
-pub(crate) fn tell_file<R: Files + AllocGlobal + Clock + Print + Eprint>(
-    rt: &R,
-    words: &Words<'_>,
-    file: &str,
-) -> Result<()> {
+pub(crate) fn tell_file(rt: &HostRuntime, words: &Words<'_>, file: &str) -> Result<()> {
     let mut paths = paths_of(rt, words, file)?;
     if seen_at(rt, file)?.is_some() {
         paths.push(format!(in rt.alloc(); "{file}")?)?;
@@ -235,7 +205,7 @@ pub(crate) fn tell_file<R: Files + AllocGlobal + Clock + Print + Eprint>(
 }
 
 // Tells why files are no shards.
-fn tell_no_shards<R: AllocGlobal + Eprint>(rt: &R, paths: &[String], scan: &Scan) -> Result<()> {
+fn tell_no_shards(rt: &HostRuntime, paths: &[String], scan: &Scan) -> Result<()> {
     for place in 0..paths.len() {
         match scan.findings.as_slice().get(place) {
             Some(Finding::Shard(_, _)) | None => {}
@@ -246,8 +216,8 @@ fn tell_no_shards<R: AllocGlobal + Eprint>(rt: &R, paths: &[String], scan: &Scan
 }
 
 // Tells what the heads of the shards of a file say.
-fn tell_seen<R: Print>(rt: &R, name: &str, seen: &Seen) -> Result<()> {
-    let origin: Origin = seen.origin;
+fn tell_seen(rt: &HostRuntime, name: &str, seen: &Seen) -> Result<()> {
+    let origin = seen.layout.origin;
     let (data, parity) = (origin.data_shards, origin.parity_shards);
     let code = if origin.code == MATRIX {
         "matrix"
@@ -259,20 +229,18 @@ fn tell_seen<R: Print>(rt: &R, name: &str, seen: &Seen) -> Result<()> {
         "  {} bytes, format 3, code {} ({code}): {data} shards of data and {parity} of parity",
         origin.length, origin.code
     )?;
-    if origin.is_possible() {
-        println!(rt;
-            "  {} stripes, {} bytes of each shard in a stripe",
-            origin.stripe_count(),
-            origin.size
-        )?;
-    }
+    println!(rt;
+        "  {} stripes, {} bytes of each shard in a stripe",
+        seen.layout.stripe_count(),
+        origin.size
+    )?;
     println!(rt; "  heads of {} shards were seen", seen.count)?;
     Ok(())
 }
 
 // Tells the numbers of the shards of a file that were seen.
-fn tell_places<R: Print>(
-    rt: &R,
+fn tell_places(
+    rt: &HostRuntime,
     paths: &[String],
     findings: &[Finding],
     number: usize,

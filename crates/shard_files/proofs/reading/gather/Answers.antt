@@ -10,7 +10,7 @@ loop-place-init g c =
     let group = c.in_ok-group.group in (
       c.in_ok-group.ensures.of,
       omega (arith, c.in-Ok.ensures),
-      λ files held. (held, gathered_none c.args.origin files c.args.stripe group.shards.items group.present.items c.in_ok-group.ensures.empty),
+      λ files held. (held, gathered_none c.args.layout.origin files c.args.stripe group.shards.items group.present.items c.in_ok-group.ensures.empty),
     )
 
 pub loop-place-preserved : goal.loop-place-preserved
@@ -26,7 +26,7 @@ loop-place-preserved g c =
       λ files held.
           let before = kept.2 files held in (
             c.take_next.ensures.kept files before.0,
-            gathered_more c.args.origin files stripe place old.shards.items new.shards.items old.present.items new.present.items before.1
+            gathered_more c.args.layout.origin files stripe place old.shards.items new.shards.items old.present.items new.present.items before.1
                 (subst (λ (origin : Origin). Takes origin (λ index shard. GivesPiece files place (numbered origin index) stripe shard)
                 old.shards.items old.present.items new.shards.items new.present.items) kept.0
                 (c.take_next.ensures.taken files before.0)),
@@ -44,5 +44,5 @@ returns-clause-gathered g c =
     λ files held.
     let group = c.loop-place.group in
     let count = c.count-place-end.ensures files held in
-    subst (λ (n : ℕ). IsGathered c.args.origin files c.args.stripe n group.shards.items group.present.items)
+    subst (λ (n : ℕ). IsGathered c.args.layout.origin files c.args.stripe n group.shards.items group.present.items)
     (omega (arith, count, c.loop-place-test.false, c.loop-place.auto.place-end)) (c.loop-place.invariant.2 files held).1

@@ -4,6 +4,6 @@ use Rattle.shard_files.proofs.reading.gather.Given as goal
 
 abbrev pub invariant-loop-place : goal.invariant-loop-place
 invariant-loop-place g l =
-    (l.group.origin ≡ l.fn.origin) × (length l.piece.items ≡ 32 + l.fn.origin.size)
+    (l.group.layout.origin ≡ l.fn.layout.origin) × (length l.piece.items ≡ 32 + l.fn.layout.origin.size)
     × ((files : Holdings) → g.S.ShardSource.holds l.fn.source files
-    → (g.S.ShardSource.holds l.source files) × IsGathered l.fn.origin files l.stripe l.place l.group.shards.items l.group.present.items)
+    → (g.S.ShardSource.holds l.source files) × IsGathered l.fn.layout.origin files l.stripe l.place l.group.shards.items l.group.present.items)

@@ -15,7 +15,7 @@ use Rattle.shard_files.proofs.reading.write_content.Goals as goal
 
 pub loop-stripe-init : goal.loop-stripe-init
 loop-stripe-init g c =
-    let origin = c.args.origin in (
+    let origin = c.args.layout.origin in (
       [],
       [],
       Appends-nil (g.W.Write.contents c.args.writer.now),
@@ -26,7 +26,7 @@ loop-stripe-init g c =
 
 pub loop-stripe-preserved : goal.loop-stripe-preserved
 loop-stripe-preserved g c =
-    let origin = c.args.origin in
+    let origin = c.args.layout.origin in
     let stripe = c.loop-stripe.stripe in
     let width = stripe_width origin in
     let old = c.loop-stripe.invariant in
@@ -37,7 +37,7 @@ loop-stripe-preserved g c =
       Appends-trans (g.W.Write.contents c.args.writer.now) (g.W.Write.contents c.loop-stripe.writer) (g.W.Write.contents c.write_stripe.new.writer)
           old.0 wrote.0 old.2 wrote.2,
       wrote.6 old.0 old.3,
-      split_more BeginWith origin c.requires stripe within old.0 wrote.0 wrote.1 old.1 old.4 wrote.3 wrote.4 wrote.7,
+      split_more BeginWith origin c.args.layout.possible stripe within old.0 wrote.0 wrote.1 old.1 old.4 wrote.3 wrote.4 wrote.7,
       λ files held.
           let before = old.5 files held in (
             c.in_ok-write_stripe.ensures.kept files before.0,
@@ -51,12 +51,12 @@ loop-stripe-preserved g c =
 
 pub returns-clause-named : goal.returns-clause-named
 returns-clause-named g c =
-    let origin = c.args.origin in
+    let origin = c.args.layout.origin in
     let done = c.loop-stripe.invariant in
     let same : c.finalize.result ≡ origin.identity = search rules in (
       done.0,
       done.1,
-      split_all BeginWith origin c.requires done.0 done.1 c.loop-stripe.stripe
+      split_all BeginWith origin c.args.layout.possible done.0 done.1 c.loop-stripe.stripe
           (omega (arith, c.loop-stripe-test.false, c.stripe_count-stripe-end.ensures))
           (omega (arith, c.loop-stripe.auto.stripe-end, c.stripe_count-stripe-end.ensures)) done.4 (sym (c.finalize.ensures done.0 done.3) ∙ same),
       done.2,
@@ -67,9 +67,9 @@ returns-clause-named g c =
 pub returns-clause-restored : goal.returns-clause-restored
 returns-clause-restored g c =
     λ files content wholes held gives.
-    let origin = c.args.origin in
+    let origin = c.args.layout.origin in
     let done = c.loop-stripe.invariant in
-    let all = ends_at origin c.requires c.loop-stripe.stripe (omega (arith, c.loop-stripe-test.false, c.stripe_count-stripe-end.ensures)) in
+    let all = ends_at origin c.args.layout.possible c.loop-stripe.stripe (omega (arith, c.loop-stripe-test.false, c.stripe_count-stripe-end.ensures)) in
     subst (Appends (g.W.Write.contents c.args.writer.now) (g.W.Write.contents c.loop-stripe.writer))
     ((done.5 files held).2 content wholes gives
     ∙ take_all (c.loop-stripe.stripe * stripe_width origin) content (omega (arith, all, gives.length_is))) done.2
@@ -78,7 +78,7 @@ pub returns-in_err-write_stripe-clause-enough : goal.returns-in_err-write_stripe
 returns-in_err-write_stripe-clause-enough g c =
     λ files wholes held gives.
     let stripe = c.loop-stripe.stripe in
-    let within : stripe < stripe_total c.args.origin = omega (arith, c.loop-stripe-test.true, c.stripe_count-stripe-end.ensures) in
+    let within : stripe < stripe_total c.args.layout.origin = omega (arith, c.loop-stripe-test.true, c.stripe_count-stripe-end.ensures) in
     let error = err_from_is_err_and c.from_residual.result c.from_residual.ensures.1 in
     rw (error.1, error.2) (not_few c.in_err-write_stripe.field-0.0
     (c.in_err-write_stripe.ensures.granted files (wholes stripe) (c.loop-stripe.invariant.5 files held).0 (gives stripe within)))
@@ -87,14 +87,14 @@ pub returns-in_err-write_stripe-clause-granted : goal.returns-in_err-write_strip
 returns-in_err-write_stripe-clause-granted g c =
     λ files content wholes held gives.
     let stripe = c.loop-stripe.stripe in
-    let within : stripe < stripe_total c.args.origin = omega (arith, c.loop-stripe-test.true, c.stripe_count-stripe-end.ensures) in
+    let within : stripe < stripe_total c.args.layout.origin = omega (arith, c.loop-stripe-test.true, c.stripe_count-stripe-end.ensures) in
     let error = err_from_is_err_and c.from_residual.result c.from_residual.ensures.1 in
     rw (error.1, error.2) (c.in_err-write_stripe.ensures.granted files (wholes stripe) (c.loop-stripe.invariant.5 files held).0
     (gives.stripes stripe within).given)
 
 pub returns-then-ne-clause-refused : goal.returns-then-ne-clause-refused
 returns-then-ne-clause-refused g c =
-    let origin = c.args.origin in
+    let origin = c.args.layout.origin in
     let done = c.loop-stripe.invariant in
     inr (inr (inr (
       refl,
@@ -102,7 +102,7 @@ returns-then-ne-clause-refused g c =
         done.0,
         done.2,
         whole_length c.loop-stripe.stripe (stripe_width origin) origin.length (length done.0)
-            (ends_at origin c.requires c.loop-stripe.stripe (omega (arith, c.loop-stripe-test.false, c.stripe_count-stripe-end.ensures))) done.4.long,
+            (ends_at origin c.args.layout.possible c.loop-stripe.stripe (omega (arith, c.loop-stripe-test.false, c.stripe_count-stripe-end.ensures))) done.4.long,
         λ is.
             let same : c.finalize.result ≡ origin.identity = c.finalize.ensures done.0 done.3 ∙ is in
             let equal : c.ne.result ≡ false = search rules in
@@ -113,9 +113,9 @@ returns-then-ne-clause-refused g c =
 pub returns-then-ne-clause-granted : goal.returns-then-ne-clause-granted
 returns-then-ne-clause-granted g c =
     λ files content wholes held gives.
-    let origin = c.args.origin in
+    let origin = c.args.layout.origin in
     let done = c.loop-stripe.invariant in
-    let all = ends_at origin c.requires c.loop-stripe.stripe (omega (arith, c.loop-stripe-test.false, c.stripe_count-stripe-end.ensures)) in
+    let all = ends_at origin c.args.layout.possible c.loop-stripe.stripe (omega (arith, c.loop-stripe-test.false, c.stripe_count-stripe-end.ensures)) in
     let is : done.0 ≡ content =
     (done.5 files held).2 content wholes gives
     ∙ take_all (c.loop-stripe.stripe * stripe_width origin) content (omega (arith, all, gives.length_is)) in

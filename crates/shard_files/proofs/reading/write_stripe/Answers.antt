@@ -8,7 +8,7 @@ use Rattle.shard_files.proofs.reading.write_stripe.Goals as goal
 
 pub content-content-requires : goal.content-content-requires
 content-content-requires g c =
-    let room = stripe_room c.args.origin c.args.stripe in
+    let room = stripe_room c.args.layout.origin c.args.stripe in
     subst (λ (o : Origin). c.stripe_length.result ≤ shard_total o * o.size) (sym c.in_ok-group.ensures.of)
     (omega (arith, room, c.stripe_length.ensures))
 
@@ -19,7 +19,7 @@ returns-in-Ok-clause-wrote g c =
     omega (
       arith,
       c.stripe_length.ensures,
-      stripe_room c.args.origin c.args.stripe,
+      stripe_room c.args.layout.origin c.args.stripe,
       subst (λ (o : Origin). length group.shards.items ≡ shard_total o * o.size) c.in_ok-group.ensures.of group.whole,
     ) in (
       c.content-content.result.now,

@@ -10,4 +10,4 @@ invariant-loop-index g l =
     (before : ℕ → List ℕ) → g.F.ShardFiles.holds l.initial.files before
     → (now : ℕ → List ℕ) × g.F.ShardFiles.holds l.files now
     × AppendsToLost l.index l.lost
-    (λ index. piece_bytes (head_digest (numbered l.group.origin index)) l.stripe (shard_at l.group.origin.size l.group.shards.items index)) before now
+    (λ index. piece_bytes (head_digest (numbered l.group.layout.origin index)) l.stripe (shard_at l.group.layout.origin.size l.group.shards.items index)) before now

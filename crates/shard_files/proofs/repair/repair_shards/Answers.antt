@@ -18,7 +18,7 @@ use Rattle.shard_files.proofs.repair.repair_shards.Goals as goal
 
 pub loop-stripe-init : goal.loop-stripe-init
 loop-stripe-init g c =
-    let origin = c.args.origin in
+    let origin = c.args.layout.origin in
     let lost = c.args.lost.now in (
       (
         [],
@@ -48,22 +48,22 @@ loop-stripe-init g c =
 
 pub loop-stripe-preserved : goal.loop-stripe-preserved
 loop-stripe-preserved g c =
-    let origin = c.args.origin in
+    let origin = c.args.layout.origin in
     let lost = c.args.lost.now in
     let stripe = c.loop-stripe.stripe in
     let group = c.in_ok-group.group in
     let restored = group.shards.items in
-    let own : group.origin ≡ origin = c.in_ok-group.ensures.of in
+    let own : group.layout.origin ≡ origin = c.in_ok-group.ensures.of in
     let bytes = c.content_of.result.now in
     let within : stripe < stripe_total origin = omega (arith, c.loop-stripe-test.true, c.stripe_count-stripe-end.ensures) in
     let old = c.loop-stripe.invariant.0 in
-    let long = all_long origin group.origin own stripe bytes restored group.whole c.content_of.ensures in
-    let bytes_long = first_long origin group.origin own stripe bytes restored group.whole c.content_of.ensures in
-    let begins = begin_with origin group.origin own stripe bytes restored group.whole c.content_of.ensures in
+    let long = all_long origin group.layout.origin own stripe bytes restored group.whole c.content_of.ensures in
+    let bytes_long = first_long origin group.layout.origin own stripe bytes restored group.whole c.content_of.ensures in
+    let begins = begin_with origin group.layout.origin own stripe bytes restored group.whole c.content_of.ensures in
     let pieces : List ℕ → ℕ → List ℕ = λ whole index. piece_bytes (head_digest (numbered origin index)) stripe (shard_at origin.size whole index) in
     let added : (before now : ℕ → List ℕ)
     → AppendsToLost (length lost) lost
-    (λ index. piece_bytes (head_digest (numbered group.origin index)) stripe (shard_at group.origin.size restored index)) before now
+    (λ index. piece_bytes (head_digest (numbered group.layout.origin index)) stripe (shard_at group.layout.origin.size restored index)) before now
     → AppendsToLost (length lost) lost (pieces restored) before now =
     λ before now put. subst (λ (o : Origin). AppendsToLost (length lost) lost
     (λ index. piece_bytes (head_digest (numbered o index)) stripe (shard_at o.size restored index)) before now) own put in (
@@ -71,7 +71,7 @@ loop-stripe-preserved g c =
         old.0 ++ bytes,
         old.1 ++ restored ∷ [],
         c.update.ensures old.0 old.2,
-        split_more BeginWith origin c.requires.possible stripe within old.0 bytes restored old.1 old.3 begins long bytes_long,
+        split_more BeginWith origin c.args.layout.possible stripe within old.0 bytes restored old.1 old.3 begins long bytes_long,
         λ held source_held.
             let so_far = old.4 held source_held in (
               c.in_ok-group.ensures.kept held so_far.0,
@@ -79,7 +79,7 @@ loop-stripe-preserved g c =
               λ content wholes gives.
                   let given = gives.stripes stripe within in
                   joined_content stripe (stripe_width origin) content old.0 bytes (so_far.2 content wholes gives)
-                  (first_bytes origin group.origin own stripe bytes restored group.whole c.content_of.ensures
+                  (first_bytes origin group.layout.origin own stripe bytes restored group.whole c.content_of.ensures
                   ∙ ap₂ (λ (n : ℕ) (l : List ℕ). take n l) (sym (content_length origin stripe content gives.length_is))
                   (c.in_ok-group.ensures.restored held (stripe_content origin stripe content) (wholes stripe) so_far.0 given)
                   ∙ given.split.begins),
@@ -90,7 +90,7 @@ loop-stripe-preserved g c =
               put.0,
               put.1,
               lost_twice (length lost) lost (shard_file origin old.1) (pieces restored) (shard_file origin (old.1 ++ restored ∷ [])) before so_far.0 put.0
-                  (λ index below. file_more BeginWith origin c.requires.possible stripe within old.0 bytes restored old.1 old.3 begins long bytes_long index)
+                  (λ index below. file_more BeginWith origin c.args.layout.possible stripe within old.0 bytes restored old.1 old.3 begins long bytes_long index)
                   so_far.2 (added so_far.0 put.0 put.2),
             ),
       ),
@@ -114,12 +114,12 @@ loop-stripe-preserved g c =
 
 pub returns-clause-named : goal.returns-clause-named
 returns-clause-named g c =
-    let origin = c.args.origin in
+    let origin = c.args.layout.origin in
     let done = c.loop-stripe.invariant.0 in
     let same : c.finalize.result ≡ origin.identity = search rules in (
       done.0,
       done.1,
-      split_all BeginWith origin c.requires.possible done.0 done.1 c.loop-stripe.stripe
+      split_all BeginWith origin c.args.layout.possible done.0 done.1 c.loop-stripe.stripe
           (omega (arith, c.loop-stripe-test.false, c.stripe_count-stripe-end.ensures))
           (omega (arith, c.loop-stripe.auto.stripe-end, c.stripe_count-stripe-end.ensures)) done.3 (sym (c.finalize.ensures done.0 done.2) ∙ same),
       λ held source_held stripe within.
@@ -130,7 +130,7 @@ returns-clause-named g c =
 pub returns-clause-restored : goal.returns-clause-restored
 returns-clause-restored g c =
     λ held content wholes before source_held count gives files_held.
-    let origin = c.args.origin in
+    let origin = c.args.layout.origin in
     let lost = c.args.lost.now in
     let done = c.loop-stripe.invariant.1 held content wholes before source_held count gives files_held in
     let all : take c.loop-stripe.stripe wholes ≡ wholes =
@@ -141,7 +141,7 @@ pub returns-in_err-group-clause-granted : goal.returns-in_err-group-clause-grant
 returns-in_err-group-clause-granted g c =
     λ held content wholes source_held gives.
     let stripe = c.loop-stripe.stripe in
-    let within : stripe < stripe_total c.args.origin = omega (arith, c.loop-stripe-test.true, c.stripe_count-stripe-end.ensures) in
+    let within : stripe < stripe_total c.args.layout.origin = omega (arith, c.loop-stripe-test.true, c.stripe_count-stripe-end.ensures) in
     let error = err_from_is_err_and c.from_residual-in_err-group.result c.from_residual-in_err-group.ensures.1 in
     rw (error.1, error.2) (c.in_err-group.ensures.granted held (wholes stripe) (c.loop-stripe.invariant.0.4 held source_held).0
     (gives.stripes stripe within).given)
@@ -149,9 +149,9 @@ returns-in_err-group-clause-granted g c =
 pub returns-then-ne-clause-granted : goal.returns-then-ne-clause-granted
 returns-then-ne-clause-granted g c =
     λ held content wholes source_held gives.
-    let origin = c.args.origin in
+    let origin = c.args.layout.origin in
     let done = c.loop-stripe.invariant.0 in
-    let all = ends_at origin c.requires.possible c.loop-stripe.stripe (omega (arith, c.loop-stripe-test.false, c.stripe_count-stripe-end.ensures)) in
+    let all = ends_at origin c.args.layout.possible c.loop-stripe.stripe (omega (arith, c.loop-stripe-test.false, c.stripe_count-stripe-end.ensures)) in
     let is : done.0 ≡ content =
     (done.4 held source_held).2 content wholes gives
     ∙ take_all (c.loop-stripe.stripe * stripe_width origin) content (omega (arith, all, gives.length_is)) in

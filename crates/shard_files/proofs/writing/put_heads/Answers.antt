@@ -5,14 +5,14 @@ use Rattle.shard_files.proofs.Appended.{appends_more, appends_none}
 use Rattle.shard_files.proofs.writing.put_heads.Goals as goal
 
 pub loop-index-init : goal.loop-index-init
-loop-index-init g c = λ before held. (before, held, appends_none (λ index. head_file (numbered c.args.origin.now index)) before)
+loop-index-init g c = λ before held. (before, held, appends_none (λ index. head_file (numbered c.args.layout.now.origin index)) before)
 
 pub loop-index-preserved : goal.loop-index-preserved
 loop-index-preserved g c =
     λ before held.
     let old = c.loop-index.invariant before held in
     let put = c.in_ok-put_head.ensures.put old.0 old.1 in
-    (put.0, put.1, appends_more c.loop-index.index (λ index. head_file (numbered c.args.origin.now index)) before old.0 put.0 old.2 put.2)
+    (put.0, put.1, appends_more c.loop-index.index (λ index. head_file (numbered c.args.layout.now.origin index)) before old.0 put.0 old.2 put.2)
 
 pub returns-clause-put : goal.returns-clause-put
 returns-clause-put g c =

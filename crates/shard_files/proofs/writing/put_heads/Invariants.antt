@@ -7,4 +7,4 @@ use Rattle.shard_files.proofs.writing.put_heads.Given as goal
 abbrev pub invariant-loop-index : goal.invariant-loop-index
 invariant-loop-index g l =
     (before : ℕ → List ℕ) → g.F.ShardFiles.holds l.initial.files before
-    → (now : ℕ → List ℕ) × g.F.ShardFiles.holds l.files now × AppendsBelow l.index (λ index. head_file (numbered l.origin index)) before now
+    → (now : ℕ → List ℕ) × g.F.ShardFiles.holds l.files now × AppendsBelow l.index (λ index. head_file (numbered l.layout.origin index)) before now

@@ -9,14 +9,14 @@ use Rattle.shard_files.proofs.writing.put_pieces.Goals as goal
 pub loop-index-init : goal.loop-index-init
 loop-index-init g c =
     λ before held.
-    let origin = c.args.origin.now in
+    let origin = c.args.layout.now.origin in
     let bytes : ℕ → List ℕ = λ index. piece_bytes (head_digest (numbered origin index)) c.args.stripe (shard_at origin.size c.args.shards.now index) in
     (before, held, appends_none bytes before)
 
 pub loop-index-preserved : goal.loop-index-preserved
 loop-index-preserved g c =
     λ before held.
-    let origin = c.args.origin.now in
+    let origin = c.args.layout.now.origin in
     let index = c.loop-index.index in
     let bytes : ℕ → List ℕ = λ n. piece_bytes (head_digest (numbered origin n)) c.args.stripe (shard_at origin.size c.args.shards.now n) in
     let old = c.loop-index.invariant before held in

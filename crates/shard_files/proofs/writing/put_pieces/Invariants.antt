@@ -9,4 +9,4 @@ abbrev pub invariant-loop-index : goal.invariant-loop-index
 invariant-loop-index g l =
     (before : ℕ → List ℕ) → g.F.ShardFiles.holds l.initial.files before
     → (now : ℕ → List ℕ) × g.F.ShardFiles.holds l.files now
-    × AppendsBelow l.index (λ index. piece_bytes (head_digest (numbered l.origin index)) l.stripe (shard_at l.origin.size l.shards index)) before now
+    × AppendsBelow l.index (λ index. piece_bytes (head_digest (numbered l.layout.origin index)) l.stripe (shard_at l.layout.origin.size l.shards index)) before now

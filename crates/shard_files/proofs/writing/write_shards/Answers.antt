@@ -12,7 +12,7 @@ use Rattle.shard_files.proofs.writing.write_shards.Goals as goal
 
 pub loop-stripe-init : goal.loop-stripe-init
 loop-stripe-init g c =
-    let origin = c.args.origin in (
+    let origin = c.args.layout.origin in (
       [],
       [],
       Consumes-nil (g.R.Read.remaining c.args.reader.now),
@@ -25,7 +25,7 @@ loop-stripe-init g c =
 
 pub loop-stripe-preserved : goal.loop-stripe-preserved
 loop-stripe-preserved g c =
-    let origin = c.args.origin in
+    let origin = c.args.layout.origin in
     let stripe = c.loop-stripe.stripe in
     let old = c.loop-stripe.invariant in
     let wrote = c.in_ok-write_stripe.ensures.written in
@@ -35,7 +35,7 @@ loop-stripe-preserved g c =
       Consumes-trans (g.R.Read.remaining c.args.reader.now) (g.R.Read.remaining c.loop-stripe.reader) (g.R.Read.remaining c.write_stripe.new.reader)
           old.0 wrote.0 old.2 wrote.5,
       wrote.6 old.0 old.3,
-      split_more (IsSplit origin) origin c.requires stripe within old.0 wrote.0 wrote.1 old.1 old.4 wrote.2 wrote.3 wrote.4,
+      split_more (IsSplit origin) origin c.args.layout.possible stripe within old.0 wrote.0 wrote.1 old.1 old.4 wrote.2 wrote.3 wrote.4,
       λ before held.
           let so_far = old.5 before held in
           let put = wrote.7 so_far.0 so_far.1 in (
@@ -46,18 +46,18 @@ loop-stripe-preserved g c =
                 ∙ ap (λ (l : List ℕ). l ++ piece_of (numbered origin index) stripe wrote.1) (so_far.2 index below)
                 ∙ append_assoc (before index) (shard_file origin old.1 index) (piece_of (numbered origin index) stripe wrote.1)
                 ∙ ap (λ (l : List ℕ). before index ++ l)
-                (sym (file_more (IsSplit origin) origin c.requires stripe within old.0 wrote.0 wrote.1 old.1 old.4 wrote.2 wrote.3 wrote.4 index)),
+                (sym (file_more (IsSplit origin) origin c.args.layout.possible stripe within old.0 wrote.0 wrote.1 old.1 old.4 wrote.2 wrote.3 wrote.4 index)),
           ),
     )
 
 pub returns-clause-written : goal.returns-clause-written
 returns-clause-written g c =
-    let origin = c.args.origin in
+    let origin = c.args.layout.origin in
     let done = c.loop-stripe.invariant in
     let same : c.finalize.result ≡ origin.identity = search rules in (
       done.0,
       done.1,
-      split_all (IsSplit origin) origin c.requires done.0 done.1 c.loop-stripe.stripe (omega (arith, c.loop-stripe-test.false, c.stripe_count-stripe-end.ensures))
+      split_all (IsSplit origin) origin c.args.layout.possible done.0 done.1 c.loop-stripe.stripe (omega (arith, c.loop-stripe-test.false, c.stripe_count-stripe-end.ensures))
           (omega (arith, c.loop-stripe.auto.stripe-end, c.stripe_count-stripe-end.ensures)) done.4 (sym (c.finalize.ensures done.0 done.3) ∙ same),
       done.2,
       done.5,
@@ -65,7 +65,7 @@ returns-clause-written g c =
 
 pub returns-then-ne-clause-refused : goal.returns-then-ne-clause-refused
 returns-then-ne-clause-refused g c =
-    let origin = c.args.origin in
+    let origin = c.args.layout.origin in
     let done = c.loop-stripe.invariant in
     inr (
       refl,
@@ -73,7 +73,7 @@ returns-then-ne-clause-refused g c =
         done.0,
         done.2,
         whole_length c.loop-stripe.stripe (stripe_width origin) origin.length (length done.0)
-            (ends_at origin c.requires c.loop-stripe.stripe (omega (arith, c.loop-stripe-test.false, c.stripe_count-stripe-end.ensures))) done.4.long,
+            (ends_at origin c.args.layout.possible c.loop-stripe.stripe (omega (arith, c.loop-stripe-test.false, c.stripe_count-stripe-end.ensures))) done.4.long,
         λ is.
             let same : c.finalize.result ≡ origin.identity = c.finalize.ensures done.0 done.3 ∙ is in
             let equal : c.ne.result ≡ false = search rules in

@@ -10,6 +10,6 @@ use Rattle.shard_files.proofs.writing.write_shards.Given as goal
 abbrev pub invariant-loop-stripe : goal.invariant-loop-stripe
 invariant-loop-stripe g l =
     (so_far : List ℕ) × (wholes : List (List ℕ)) × Consumes (g.R.Read.remaining l.fn.reader) (g.R.Read.remaining l.reader) so_far
-    × Holds256 l.hasher so_far × AreSoFar (IsSplit l.origin) l.origin l.stripe so_far wholes
+    × Holds256 l.hasher so_far × AreSoFar (IsSplit l.layout.origin) l.layout.origin l.stripe so_far wholes
     × ((before : ℕ → List ℕ) → g.F.ShardFiles.holds l.fn.files before → (now : ℕ → List ℕ) × g.F.ShardFiles.holds l.files now
-    × AppendsToEach (shard_total l.origin) (shard_file l.origin wholes) before now)
+    × AppendsToEach (shard_total l.layout.origin) (shard_file l.layout.origin wholes) before now)

@@ -8,7 +8,7 @@ use Rattle.shard_files.proofs.writing.write_stripe.Goals as goal
 
 pub returns-clause-written : goal.returns-clause-written
 returns-clause-written g c =
-    let origin = c.args.origin.now in
+    let origin = c.args.layout.now.origin in
     let content = c.in_ok-content.content.items in
     let shards = c.in_ok-shards.shards.items in (
       content,

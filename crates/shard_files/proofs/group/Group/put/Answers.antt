@@ -11,8 +11,8 @@ pub returns-then-not-index-clause-put : goal.returns-then-not-index-clause-put
 returns-then-not-index-clause-put c =
     let group = c.args.self.now in
     let index = c.args.index in
-    let size = group.origin.size in
-    let total = shard_total group.origin in
+    let size = group.layout.origin.size in
+    let total = shard_total group.layout.origin in
     let start = index * size in
     let gap = index * size + size - index * size in
     let count : length group.present.items ≡ total = group.flags in

@@ -15,10 +15,10 @@ returns-then-is_same-clause-taken c =
     let read = c.in-Some.read in
     let piece = c.args.piece.now in
     let only : (head : Head) → IsHead head → bytes ≡ head_file head → read ≡ head = λ head is same. same_some read head (c.in-Some.ensures.read head is same) in
-    takes_same group.origin (AreOfHead read c.args.stripe piece) (AreOf group.origin c.args.stripe bytes piece) group.shards.items now.shards.items
+    takes_same group.layout.origin (AreOfHead read c.args.stripe piece) (AreOf group.layout.origin c.args.stripe bytes piece) group.shards.items now.shards.items
     group.present.items now.present.items
-    (of_read group.origin bytes read c.args.stripe piece group.fits group.possible.few only (c.is_same.ensures.0 c.if-is_same.true) c.in-Some.ensures.written)
-    (read_of group.origin bytes read c.args.stripe piece group.fits group.possible.few only) c.take_piece.ensures.taken
+    (of_read group.layout.origin bytes read c.args.stripe piece group.layout.fits group.layout.possible.few only (c.is_same.ensures.0 c.if-is_same.true) c.in-Some.ensures.written)
+    (read_of group.layout.origin bytes read c.args.stripe piece group.layout.fits group.layout.possible.few only) c.take_piece.ensures.taken
 
 pub returns-else-is_same-clause-taken : goal.returns-else-is_same-clause-taken
 returns-else-is_same-clause-taken c =
@@ -26,18 +26,18 @@ returns-else-is_same-clause-taken c =
     let bytes = c.args.head.now in
     let read = c.in-Some.read in
     let piece = c.args.piece.now in
-    takes_nothing group.origin (AreOf group.origin c.args.stripe bytes piece) group.shards.items group.present.items
-    (other_origin group.origin bytes read c.args.stripe piece group.fits group.possible.few
+    takes_nothing group.layout.origin (AreOf group.layout.origin c.args.stripe bytes piece) group.shards.items group.present.items
+    (other_origin group.layout.origin bytes read c.args.stripe piece group.layout.fits group.layout.possible.few
     (λ head is same. same_some read head (c.in-Some.ensures.read head is same))
     (λ same. true≢false (sym (c.is_same.ensures.1 same) ∙ c.if-is_same.false)))
 
 pub returns-in-None-clause-taken : goal.returns-in-None-clause-taken
 returns-in-None-clause-taken c =
     let group = c.args.self.now in
-    takes_nothing group.origin (AreOf group.origin c.args.stripe c.args.head.now c.args.piece.now) group.shards.items group.present.items
+    takes_nothing group.layout.origin (AreOf group.layout.origin c.args.stripe c.args.head.now c.args.piece.now) group.shards.items group.present.items
     (λ index shard inside given.
-    no_head (numbered group.origin index) (c.in-None.ensures.read (numbered group.origin index)
-    (numbered_fits group.origin group.fits group.possible.few index inside) given.0))
+    no_head (numbered group.layout.origin index) (c.in-None.ensures.read (numbered group.layout.origin index)
+    (numbered_fits group.layout.origin group.layout.fits group.layout.possible.few index inside) given.0))
   where
     no_head : (head : Head) → None ≡ Some head → ⊥
     no_head head is = cc

@@ -16,8 +16,8 @@ returns-then-is_piece-clause-taken c =
     let piece = c.args.piece.now in
     let is : piece ≡ piece_bytes (head_digest head) c.args.stripe (drop 32 piece) =
     c.is_piece.ensures.0 c.if-is_piece.true ∙ ap (λ (d : List ℕ). piece_bytes d c.args.stripe (drop 32 piece)) c.digest.ensures in
-    takes_piece group.origin head c.args.stripe piece (drop 32 piece) group.shards.items now.shards.items group.present.items now.present.items is
-    (subst (λ (shard : List ℕ). Puts (shard_total group.origin) group.origin.size head.index shard group.shards.items group.present.items now.shards.items now.present.items)
+    takes_piece group.layout.origin head c.args.stripe piece (drop 32 piece) group.shards.items now.shards.items group.present.items now.present.items is
+    (subst (λ (shard : List ℕ). Puts (shard_total group.layout.origin) group.layout.origin.size head.index shard group.shards.items group.present.items now.shards.items now.present.items)
     c.rest_of.ensures c.put.ensures.put)
 
 pub returns-else-is_piece-clause-taken : goal.returns-else-is_piece-clause-taken
@@ -25,7 +25,7 @@ returns-else-is_piece-clause-taken c =
     let group = c.args.self.now in
     let head = c.args.head.now in
     let piece = c.args.piece.now in
-    takes_nothing group.origin (AreOfHead head c.args.stripe piece) group.shards.items group.present.items
+    takes_nothing group.layout.origin (AreOfHead head c.args.stripe piece) group.shards.items group.present.items
     (λ index shard inside given.
     let shard_is : shard ≡ drop 32 piece = sym (ap (drop 32) given.1 ∙ piece_rest (head_digest head) c.args.stripe shard) in
     let is : piece ≡ piece_bytes c.digest.result c.args.stripe (drop 32 piece) =
