@@ -199,10 +199,11 @@ fn split<'a>(alloc: Global) -> Result<Command<'a>, AllocError> {
         "FOLDER",
         "Writes the shards into this folder, and not beside the file",
     );
+    let by_data = named_count(valued(alloc, "data", "DATA"), "parity");
+    let by_parity = named_count(valued(alloc, "parity", "PARITY"), "data");
     let command = with(Ok(command), Ok(place(alloc, "FILE", "The file to split")));
     let command = with(with(command, data), parity);
-    let command = with(command, named_count(alloc, "data", "DATA", "parity"));
-    let command = with(command, named_count(alloc, "parity", "PARITY", "data"));
+    let command = with(with(command, by_data), by_parity);
     let command = with(with(command, code(alloc)), folder);
     let command = with(
         command,
@@ -326,18 +327,16 @@ fn placed_count<'a>(alloc: Global, name: &'a str, help: &'a str) -> Result<Arg<'
 }
 
 // A count that is given by an option, together with the other one.
-fn named_count<'a>(
-    alloc: Global,
-    name: &'a str,
-    value: &'a str,
-    other: &'a str,
-) -> Result<Arg<'a>, AllocError> {
-    Arg::new(alloc, name)
-        .long(name)
-        .value_name(value)
+fn named_count<'a>(count: Arg<'a>, other: &'a str) -> Result<Arg<'a>, AllocError> {
+    count
         .value_parser(value_parser!(u32).range(1..))
         .help("The same by name")
         .requires_arg(other)
+}
+
+// An option with a value.
+fn valued<'a>(alloc: Global, name: &'a str, value: &'a str) -> Arg<'a> {
+    Arg::new(alloc, name).long(name).value_name(value)
 }
 
 // An option with a value. Where it stands more than once, the last one counts.
@@ -347,9 +346,7 @@ fn option<'a>(
     value: &'a str,
     help: &'a str,
 ) -> Result<Arg<'a>, AllocError> {
-    Arg::new(alloc, name)
-        .long(name)
-        .value_name(value)
+    valued(alloc, name, value)
         .allow_hyphen_values(true)
         .help(help)
         .overrides_with(name)
