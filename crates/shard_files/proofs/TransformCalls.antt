@@ -74,31 +74,32 @@ module _ (own : TransformCode) (half : ℕ) (old middle new words parity now now
 
 -- ---- what is asked for, by the counts of the code
 
+module _ (code : StripeCode) (other : code.number ≢ 1) where
+  pub is_two : code.number ≡ 2
+  is_two = is_transform code.number code.data_shards code.parity_shards code.size code.has_code other
+
+  pub even : code.size ≡ 2 * (code.size / 2)
+  even = omega (arith, code.has_code.whole_words is_two)
+
+  pub some_half : 0 < code.size / 2
+  some_half = omega (arith, even, code.some_size)
+
+  pub words_room : (bytes : ℕ) → bytes ≡ (code.data_shards + code.parity_shards) * code.size
+      → bytes ≡ 2 * (code.data_shards * (code.size / 2) + code.parity_shards * (code.size / 2))
+  words_room bytes long =
+      parts bytes code.data_shards code.parity_shards (code.size / 2) (long ∙ ap (λ (n : ℕ). (code.data_shards + code.parity_shards) * n) even)
+
 module _ (code : StripeCode) (own : TransformCode)
     (made : (own.data_shards ≡ code.data_shards) × (own.parity_shards ≡ code.parity_shards) × (2 ^ own.all_levels ≤ 2 ^ 2 ^ 4))
     (other : code.number ≢ 1)
   where
-    is_two : code.number ≡ 2
-    is_two = is_transform code.number code.data_shards code.parity_shards code.size code.has_code other
-
-    pub even : code.size ≡ 2 * (code.size / 2)
-    even = omega (arith, code.has_code.whole_words is_two)
-
-    pub some_half : 0 < code.size / 2
-    some_half = omega (arith, even, code.some_size)
-
     pub total_is : own.data_shards + own.parity_shards ≡ code.data_shards + code.parity_shards
     total_is = ap₂ (λ (a b : ℕ). a + b) made.0 made.1
 
     -- all bytes are those of the words
     pub all_bytes : (bytes : ℕ) → bytes ≡ (code.data_shards + code.parity_shards) * code.size
         → bytes ≡ (own.data_shards + own.parity_shards) * (2 * (code.size / 2))
-    all_bytes bytes long = long ∙ ap₂ (λ (a b : ℕ). a * b) (sym total_is) even
-
-    pub words_room : (bytes : ℕ) → bytes ≡ (code.data_shards + code.parity_shards) * code.size
-        → bytes ≡ 2 * (code.data_shards * (code.size / 2) + code.parity_shards * (code.size / 2))
-    words_room bytes long =
-        parts bytes code.data_shards code.parity_shards (code.size / 2) (long ∙ ap (λ (n : ℕ). (code.data_shards + code.parity_shards) * n) even)
+    all_bytes bytes long = long ∙ ap₂ (λ (a b : ℕ). a * b) (sym total_is) (even code other)
 
     padded : IsPadded code.data_shards own.levels
     padded = subst (λ (n : ℕ). IsPadded n own.levels) made.0 own.padded
@@ -117,14 +118,14 @@ module _ (code : StripeCode) (own : TransformCode)
       where
         pub encoded_kept : (i : ℕ) → i < code.data_shards * code.size → get_or new i 0 ≡ get_or old i 0
         encoded_kept i below =
-            let bytes = data_bytes code.data_shards code.size (code.size / 2) first even (first_is ∙ long) in
+            let bytes = data_bytes code.data_shards code.size (code.size / 2) first (even code other) (first_is ∙ long) in
             kept i (inl (omega (arith, below, bytes)))
 
         pub encoded : AreWordsOf old 0 words → length parity ≡ own.parity_shards * (code.size / 2) → AreWordsOf new first parity
             → AreCodedColumns element 0 4 own.levels own.data_shards own.parity_shards (code.size / 2) words parity
             → AreTransformWords code.data_shards code.parity_shards code.size new
         encoded are parity_long written columns =
-            coded code.data_shards code.parity_shards (code.size / 2) own.levels padded code.size new words parity even
+            coded code.data_shards code.parity_shards (code.size / 2) own.levels padded code.size new words parity (even code other)
             (record {
               long = long;
               parity_long = parity_long ∙ ap (λ (n : ℕ). n * (code.size / 2)) made.1;
@@ -133,18 +134,7 @@ module _ (code : StripeCode) (own : TransformCode)
             })
             (columns_of words parity columns)
 
-    -- words that are read are those of the shards
-    pub read : (shards words parity : List ℕ) (first : ℕ) → first ≡ length words → length words ≡ code.data_shards * (code.size / 2)
-        → AreWordsOf shards 0 words → length parity ≡ code.parity_shards * (code.size / 2) → AreWordsOf shards first parity
-        → AreShardWords code.data_shards code.parity_shards (code.size / 2) shards words parity
-    read shards words parity first first_is long are parity_long parity_are =
-        record {
-          long = long;
-          parity_long = parity_long;
-          are = are;
-          parity_are = subst (λ (n : ℕ). AreWordsOf shards n parity) (first_is ∙ long) parity_are;
-        }
-
+    -- words of shards are those by the counts of the code
     pub read_own : (shards words parity : List ℕ) → AreShardWords code.data_shards code.parity_shards (code.size / 2) shards words parity
         → AreShardWords own.data_shards own.parity_shards (code.size / 2) shards words parity
     read_own shards words parity are =
@@ -168,7 +158,7 @@ module _ (code : StripeCode) (own : TransformCode)
             × AreCodedColumns element 0 4 own.levels own.data_shards own.parity_shards (length words / own.data_shards) words parity
             → AreTransformWords code.data_shards code.parity_shards code.size shards
         there both =
-            coded code.data_shards code.parity_shards (code.size / 2) own.levels padded code.size shards words parity even are
+            coded code.data_shards code.parity_shards (code.size / 2) own.levels padded code.size shards words parity (even code other) are
             (columns_of words parity
             (subst (λ (n : ℕ). AreCodedColumns element 0 4 own.levels own.data_shards own.parity_shards n words parity) size_is both.1))
 
@@ -176,8 +166,8 @@ module _ (code : StripeCode) (own : TransformCode)
             → HaveOneSize own.data_shards own.parity_shards (length words) (length parity)
             × AreCodedColumns element 0 4 own.levels own.data_shards own.parity_shards (length words / own.data_shards) words parity
         back word =
-            let columns = coded_again code.data_shards code.parity_shards (code.size / 2) own.levels padded code.size shards words parity even are word in (
-              one_size own.data_shards own.parity_shards (code.size / 2) (length words) (length parity) own.some_data own.some_parity some_half
+            let columns = coded_again code.data_shards code.parity_shards (code.size / 2) own.levels padded code.size shards words parity (even code other) are word in (
+              one_size own.data_shards own.parity_shards (code.size / 2) (length words) (length parity) own.some_data own.some_parity (some_half code other)
                   mine.long mine.parity_long,
               subst (λ (n : ℕ). AreCodedColumns element 0 4 own.levels own.data_shards own.parity_shards n words parity) (sym size_is)
                   (subst (λ (n : ℕ). AreCodedColumns element 0 4 own.levels own.data_shards n (code.size / 2) words parity) (sym made.1)

@@ -1,8 +1,8 @@
 -- The file of a shard: it grows by a piece with each stripe, and each piece stands at its place.
-use Rattle.std.proofs.Common.{◌≡◌, inl, inr, ℕ, zero, suc, ◌+◌, ◌*◌, ◌<◌, ◌≤◌, min, List, [], ◌∷◌, ◌++◌, length, get_or, take, drop, refl, sym, ◌∙◌, ap, ap₂, subst, arith}
+use Rattle.std.proofs.Common.{◌≡◌, ◌≢◌, inl, inr, ℕ, zero, suc, ◌+◌, ◌*◌, ◌<◌, ◌≤◌, min, Bool, true, false, List, [], ◌∷◌, ◌++◌, length, get_or, take, drop, refl, sym, ◌∙◌, ap, ap₂, subst, arith}
 use Rattle.std.proofs.Math.Nat.{mul-le-mul_right}
 use Rattle.std.proofs.Math.Seq.{get_or-append_seam}
-use Rattle.std.proofs.lemmas.Bool.{cases_lt}
+use Rattle.std.proofs.lemmas.Bool.{cases_lt, true≢false}
 use Rattle.std.proofs.lemmas.List.{append_assoc, drop-append-le, drop-drop, drop_at, get_or_append_left, length-append, length-drop, take-append-le, take_at}
 use Rattle.sha2.specs.Sha256.{sha256}
 use Rattle.shard_files.specs.Files.{AreStripes, pieces_from, shard_file}
@@ -15,7 +15,7 @@ use Rattle.shard_files.specs.declared.head.Origin.{Origin}
 use Rattle.shard_files.proofs.Groups.{shard_long}
 use Rattle.shard_files.proofs.Joined.{joined_length, none_long, take_all, whole_length}
 use Rattle.shard_files.proofs.Pieces.{piece_size}
-use Rattle.shard_files.proofs.Positions.{begins, ends}
+use Rattle.shard_files.proofs.Positions.{begins, ends, ends_at}
 
 -- the piece of a stripe, by all shards of it
 abbrev pub piece_of : Head → ℕ → List ℕ → List ℕ
@@ -191,3 +191,15 @@ split_all are origin possible content wholes stripe least most so_far named =
       split = done.split;
       long = done.whole_long;
     }
+
+-- what was moved, once there are no more stripes, and has another digest, is as long as the origin says, and no file of it
+pub moved_other : (are : List ℕ → List ℕ → Type 0) (origin : Origin) (possible : IsPossible origin) (moved : List ℕ → Type 0) (content : List ℕ)
+    (wholes : List (List ℕ)) (stripe : ℕ) → stripe_total origin ≤ stripe → AreSoFar are origin stripe content wholes → moved content
+    → (named : Bool) → (sha256 content ≡ origin.identity → named ≡ true) → named ≡ false
+    → (other : List ℕ) × moved other × (length other ≡ origin.length) × (sha256 other ≢ origin.identity)
+moved_other are origin possible moved content wholes stripe least so_far is named tells not = (
+  content,
+  is,
+  whole_length stripe (stripe_width origin) origin.length (length content) (ends_at origin possible stripe least) so_far.long,
+  λ same. true≢false (sym (tells same) ∙ not),
+)

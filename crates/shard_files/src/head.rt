@@ -5,6 +5,8 @@ ghost use Rattle.std.specs.Prelude.{◌≡◌, ◌≢◌, ◌⊎◌, ◌+◌, �
 ghost use Rattle.std.specs.Prelude.{length, slice_index, take, IfSome, IsNone, IsTrue, OnOk, Some};
 ghost use Rattle.std.specs.Int.{w32, w64, from_le_bytes, to_le_bytes};
 ghost use Rattle.std.specs.Io.KnownBytes.{Appends};
+ghost use Rattle.sha2.specs.Hashers.{Holds256};
+ghost use Rattle.sha2.specs.Sha256.{sha256};
 ghost use Rattle.shard_files.specs.Heads.{format_name, head_digest, head_fields, head_file, IsHead};
 ghost use Rattle.shard_files.specs.declared.head.Head.{Head};
 
@@ -50,6 +52,13 @@ impl Origin {
             && self.length == other.length
             && self.size == other.size
             && self.identity == other.identity
+    }
+
+    /// Whether the bytes that were hashed have the identity of the file.
+    pub fn names(&self, hasher: Sha256) -> bool
+        ensures { (bytes : List ℕ) → Holds256 hasher bytes → IsTrue result ↔ (sha256 bytes ≡ self.now.identity) }
+    {
+        hasher.finalize() == self.identity
     }
 
     // Whether another has the same code and the same counts.
@@ -102,18 +111,16 @@ impl Head {
         ensures size { result.origin.size ≡ from_le_bytes w64 (take 8 (drop 32 bytes.now)) }
         ensures identity { result.origin.identity ≡ take 32 (drop 40 bytes.now) }
     {
-        let mut identity = [0; 32];
-        identity.copy_from_slice(&bytes[40..72]);
         Head {
             origin: Origin {
-                code: number_at(bytes, 8),
-                data_shards: number_at(bytes, 12),
-                parity_shards: number_at(bytes, 16),
-                length: long_at(bytes, 24),
-                size: long_at(bytes, 32),
-                identity,
+                code: u32::from_le_bytes(bytes_at(bytes, 8)),
+                data_shards: u32::from_le_bytes(bytes_at(bytes, 12)),
+                parity_shards: u32::from_le_bytes(bytes_at(bytes, 16)),
+                length: u64::from_le_bytes(bytes_at(bytes, 24)),
+                size: u64::from_le_bytes(bytes_at(bytes, 32)),
+                identity: bytes_at(bytes, 40),
             },
-            index: number_at(bytes, 20),
+            index: u32::from_le_bytes(bytes_at(bytes, 20)),
         }
     }
 
@@ -182,24 +189,14 @@ impl Head {
     }
 }
 
-// Four bytes from a place on, as a number.
-fn number_at(bytes: &[u8], place: usize) -> u32
-    requires { place + 4 ≤ length bytes.now }
-    ensures { result ≡ from_le_bytes w32 (take 4 (drop place bytes.now)) }
+// So many bytes from a place on.
+fn bytes_at<const N: usize>(bytes: &[u8], place: usize) -> [u8; N]
+    requires { place + N ≤ length bytes.now }
+    ensures { result ≡ take N (drop place bytes.now) }
 {
-    let mut number = [0; 4];
-    number.copy_from_slice(&bytes[place..place + 4]);
-    u32::from_le_bytes(number)
-}
-
-// Eight bytes from a place on, as a number.
-fn long_at(bytes: &[u8], place: usize) -> u64
-    requires { place + 8 ≤ length bytes.now }
-    ensures { result ≡ from_le_bytes w64 (take 8 (drop place bytes.now)) }
-{
-    let mut number = [0; 8];
-    number.copy_from_slice(&bytes[place..place + 8]);
-    u64::from_le_bytes(number)
+    let mut part = [0; N];
+    part.copy_from_slice(&bytes[place..place + N]);
+    part
 }
 
 // Whether the eight bytes from a place on are those of a number.

@@ -14,6 +14,17 @@ pub(crate) fn has_matrix_code(data_shards: usize, parity_shards: usize) -> bool
     ReedSolomon::new(data_shards, parity_shards).is_ok()
 }
 
+// The code by matrices of a stripe's.
+fn matrix_of(code: &StripeCode) -> ReedSolomon
+    requires { code.now.number ≡ 1 }
+    ensures { (result.data_shards ≡ code.now.data_shards) × (result.parity_shards ≡ code.now.parity_shards) }
+{
+    match ReedSolomon::new(code.data_shards, code.parity_shards) {
+        Ok(matrix) => matrix,
+        Err(_) => unreachable!(),
+    }
+}
+
 /// Writes the shards of parity.
 pub(crate) fn encode_by_matrix(code: &StripeCode, shards: &mut [u8])
     requires matrix { code.now.number ≡ 1 }
@@ -22,12 +33,8 @@ pub(crate) fn encode_by_matrix(code: &StripeCode, shards: &mut [u8])
     ensures kept { (i : ℕ) → i < code.now.data_shards * code.now.size → slice_index shards.new i ≡ slice_index shards.old i }
     ensures long { length shards.new ≡ length shards.old }
 {
-    match ReedSolomon::new(code.data_shards, code.parity_shards) {
-        Ok(matrix) => {
-            let _encoded = matrix.encode(shards);
-        }
-        Err(_) => {}
-    }
+    let matrix = matrix_of(code);
+    let _encoded = matrix.encode(shards);
 }
 
 /// Restores the missing shards, of which as many are at hand as the data have, and leaves the others.
@@ -43,12 +50,8 @@ pub(crate) fn restore_by_matrix(code: &StripeCode, shards: &mut [u8], present: &
     ensures long { length shards.new ≡ length shards.old }
 {
     lost_shards_return();
-    match ReedSolomon::new(code.data_shards, code.parity_shards) {
-        Ok(matrix) => {
-            let _restored = matrix.reconstruct(shards, present);
-        }
-        Err(_) => {}
-    }
+    let matrix = matrix_of(code);
+    let _restored = matrix.reconstruct(shards, present);
 }
 
 /// Whether the shards of parity are those of the data.
@@ -57,10 +60,7 @@ pub(crate) fn verify_by_matrix(code: &StripeCode, shards: &[u8]) -> bool
     requires whole { length shards.now ≡ (code.now.data_shards + code.now.parity_shards) * code.now.size }
     ensures { IsTrue result ↔ AreCodewords code.now.data_shards (code.now.data_shards + code.now.parity_shards) code.now.size shards.now }
 {
-    match ReedSolomon::new(code.data_shards, code.parity_shards) {
-        Ok(matrix) => is_whole(&matrix, shards),
-        Err(_) => false,
-    }
+    is_whole(&matrix_of(code), shards)
 }
 
 // Whether shards have one size, and their parity is that of the data.

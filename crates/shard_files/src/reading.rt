@@ -124,7 +124,7 @@ pub fn write_content<S: ShardSource, W: Write>(
     for stripe in 0..layout.stripe_count() {
         write_stripe(alloc, source, layout, stripe, &mut hasher, writer)?;
     }
-    if hasher.finalize() != layout.origin.identity {
+    if !layout.origin.names(hasher) {
         return Err(JoinError::OtherBytes);
     }
     Ok(())

@@ -46,7 +46,7 @@ pub fn repair_shards<S: ShardSource, F: ShardFiles>(
         hasher.update(content_of(&group, stripe));
         put_lost_pieces(&group, stripe, lost, files)?;
     }
-    if hasher.finalize() != layout.origin.identity {
+    if !layout.origin.names(hasher) {
         return Err(RepairError::Join(JoinError::OtherBytes));
     }
     Ok(())

@@ -44,6 +44,18 @@ fn transform_code(data_shards: usize, parity_shards: usize) -> Option<TransformC
     }
 }
 
+// The code by transforms of a stripe's.
+fn transform_of(code: &StripeCode) -> TransformCode
+    requires { code.now.number ≢ 1 }
+    ensures { (result.data_shards ≡ code.now.data_shards) × (result.parity_shards ≡ code.now.parity_shards)
+        × (2 ^ result.all_levels ≤ 2 ^ 2 ^ 4) }
+{
+    match transform_code(code.data_shards, code.parity_shards) {
+        Some(transform) => transform,
+        None => unreachable!(),
+    }
+}
+
 /// Writes the shards of parity. It fails where memory is refused.
 pub(crate) fn encode_by_transform(
     alloc: Global,
@@ -56,10 +68,7 @@ pub(crate) fn encode_by_transform(
     ensures kept { (i : ℕ) → i < code.now.data_shards * code.now.size → slice_index shards.new i ≡ slice_index shards.old i }
     ensures long { length shards.new ≡ length shards.old }
 {
-    let transform = match transform_code(code.data_shards, code.parity_shards) {
-        Some(transform) => transform,
-        None => return Ok(()),
-    };
+    let transform = transform_of(code);
     let half = code.size / 2;
     let words = words_of(alloc, shards, 0, code.data_shards, half)?;
     let parity = coded_parity(alloc, &transform, words.as_slice(), half)?;
@@ -133,13 +142,8 @@ pub(crate) fn restore_by_transform(
     ensures same { OnErr result (shards.new ≡ shards.old) }
     ensures long { length shards.new ≡ length shards.old }
 {
-    let transform = match transform_code(code.data_shards, code.parity_shards) {
-        Some(transform) => transform,
-        None => return Ok(()),
-    };
-    let half = code.size / 2;
-    let mut words = words_of(alloc, shards, 0, code.data_shards, half)?;
-    let mut parity = words_of(alloc, shards, words.len(), code.parity_shards, half)?;
+    let transform = transform_of(code);
+    let (mut words, mut parity) = words_of_shards(alloc, code, shards)?;
     let mut space = zero_words(alloc, WORDS_A_POINT, transform.point_count())?;
     restore_words(
         &transform,
@@ -148,9 +152,26 @@ pub(crate) fn restore_by_transform(
         parity.as_mut_slice(),
         present,
         shards,
-        half,
+        code.size / 2,
     );
     Ok(())
+}
+
+// The words of the shards of data, and those of the shards of parity.
+fn words_of_shards(
+    alloc: Global,
+    code: &StripeCode,
+    shards: &[u8],
+) -> Result<(Vec<u16>, Vec<u16>), AllocError>
+    requires transform { code.now.number ≢ 1 }
+    requires whole { length shards.now ≡ (code.now.data_shards + code.now.parity_shards) * code.now.size }
+    ensures { IfOk result (λ words. AreShardWords code.now.data_shards code.now.parity_shards (code.now.size / 2) shards.now
+        words.0.items words.1.items) }
+{
+    let half = code.size / 2;
+    let words = words_of(alloc, shards, 0, code.data_shards, half)?;
+    let parity = words_of(alloc, shards, words.len(), code.parity_shards, half)?;
+    Ok((words, parity))
 }
 
 // Restores the missing shards of so many words each, and writes all to their bytes.
@@ -195,13 +216,8 @@ pub(crate) fn verify_by_transform(
     ensures { IfOk result (λ is_whole. IsTrue is_whole
         ↔ AreTransformWords code.now.data_shards code.now.parity_shards code.now.size shards.now) }
 {
-    let transform = match transform_code(code.data_shards, code.parity_shards) {
-        Some(transform) => transform,
-        None => return Ok(false),
-    };
-    let half = code.size / 2;
-    let words = words_of(alloc, shards, 0, code.data_shards, half)?;
-    let parity = words_of(alloc, shards, words.len(), code.parity_shards, half)?;
+    let transform = transform_of(code);
+    let (words, parity) = words_of_shards(alloc, code, shards)?;
     let mut space = zero_words(alloc, WORDS_A_POINT, transform.point_count())?;
     let is_whole = is_coded(
         &transform,

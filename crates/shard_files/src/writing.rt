@@ -55,7 +55,7 @@ pub fn write_shards<R: Read, F: ShardFiles>(
     for stripe in 0..layout.stripe_count() {
         write_stripe(alloc, &layout, stripe, reader, &mut hasher, files)?;
     }
-    if hasher.finalize() != layout.origin.identity {
+    if !layout.origin.names(hasher) {
         return Err(SplitError::Changed);
     }
     Ok(())

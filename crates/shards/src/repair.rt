@@ -60,7 +60,7 @@ fn faults_of(rt: &HostRuntime, found: &Found<'_>) -> Result<Faults> {
         }
     }
     clear(rt, found.is_quiet);
-    if faults.too_few.is_none() && hasher.finalize() != layout.origin.identity {
+    if faults.too_few.is_none() && !layout.origin.names(hasher) {
         faults.is_false = true;
     }
     Ok(faults)

@@ -1,4 +1,4 @@
-use Rattle.std.proofs.Common.{◌≡◌, ◌*◌, ◌<◌, false, [], ◌∷◌, ◌++◌, inr, length, refl, sym, ◌∙◌, ap, subst, arith, rules}
+use Rattle.std.proofs.Common.{◌≡◌, ◌*◌, ◌<◌, [], ◌∷◌, ◌++◌, inr, refl, sym, ◌∙◌, ap, subst, arith}
 use Rattle.std.specs.Io.KnownBytes.{Appends}
 use Rattle.std.proofs.lemmas.Bool.{true≢false}
 use Rattle.std.proofs.lemmas.Result.{err_from_is_err_and}
@@ -8,9 +8,9 @@ use Rattle.shard_files.specs.Groups.{GivesEnough}
 use Rattle.shard_files.specs.Splits.{BeginWith}
 use Rattle.shard_files.specs.Stripes.{stripe_content, stripe_total, stripe_width}
 use Rattle.shard_files.proofs.Faults.{not_few}
-use Rattle.shard_files.proofs.Joined.{joined_content, none_yet, take_all, whole_length}
+use Rattle.shard_files.proofs.Joined.{joined_content, none_yet, take_all}
 use Rattle.shard_files.proofs.Positions.{content_length, ends_at}
-use Rattle.shard_files.proofs.Written.{each_more, split_all, split_more, split_none}
+use Rattle.shard_files.proofs.Written.{each_more, moved_other, split_all, split_more, split_none}
 use Rattle.shard_files.proofs.reading.write_content.Goals as goal
 
 pub loop-stripe-init : goal.loop-stripe-init
@@ -52,13 +52,12 @@ loop-stripe-preserved g c =
 pub returns-clause-named : goal.returns-clause-named
 returns-clause-named g c =
     let origin = c.args.layout.origin in
-    let done = c.loop-stripe.invariant in
-    let same : c.finalize.result ≡ origin.identity = search rules in (
+    let done = c.loop-stripe.invariant in (
       done.0,
       done.1,
       split_all BeginWith origin c.args.layout.possible done.0 done.1 c.loop-stripe.stripe
           (omega (arith, c.loop-stripe-test.false, c.stripe_count-stripe-end.ensures))
-          (omega (arith, c.loop-stripe.auto.stripe-end, c.stripe_count-stripe-end.ensures)) done.4 (sym (c.finalize.ensures done.0 done.3) ∙ same),
+          (omega (arith, c.loop-stripe.auto.stripe-end, c.stripe_count-stripe-end.ensures)) done.4 ((c.names.ensures done.0 done.3).0 c.if-not-names.false),
       done.2,
       λ files held stripe within.
           (done.5 files held).1 stripe (omega (arith, within, c.loop-stripe-test.false, c.stripe_count-stripe-end.ensures)),
@@ -92,26 +91,18 @@ returns-in_err-write_stripe-clause-granted g c =
     rw (error.1, error.2) (c.in_err-write_stripe.ensures.granted files (wholes stripe) (c.loop-stripe.invariant.5 files held).0
     (gives.stripes stripe within).given)
 
-pub returns-then-ne-clause-refused : goal.returns-then-ne-clause-refused
-returns-then-ne-clause-refused g c =
-    let origin = c.args.layout.origin in
+pub returns-then-not-names-clause-refused : goal.returns-then-not-names-clause-refused
+returns-then-not-names-clause-refused g c =
     let done = c.loop-stripe.invariant in
     inr (inr (inr (
       refl,
-      (
-        done.0,
-        done.2,
-        whole_length c.loop-stripe.stripe (stripe_width origin) origin.length (length done.0)
-            (ends_at origin c.args.layout.possible c.loop-stripe.stripe (omega (arith, c.loop-stripe-test.false, c.stripe_count-stripe-end.ensures))) done.4.long,
-        λ is.
-            let same : c.finalize.result ≡ origin.identity = c.finalize.ensures done.0 done.3 ∙ is in
-            let equal : c.ne.result ≡ false = search rules in
-            true≢false (sym c.if-ne.true ∙ equal),
-      ),
+      moved_other BeginWith c.args.layout.origin c.args.layout.possible (Appends (g.W.Write.contents c.args.writer.now) (g.W.Write.contents c.loop-stripe.writer))
+          done.0 done.1 c.loop-stripe.stripe (omega (arith, c.loop-stripe-test.false, c.stripe_count-stripe-end.ensures)) done.4 done.2 c.names.result
+          (c.names.ensures done.0 done.3).1 c.if-not-names.true,
     )))
 
-pub returns-then-ne-clause-granted : goal.returns-then-ne-clause-granted
-returns-then-ne-clause-granted g c =
+pub returns-then-not-names-clause-granted : goal.returns-then-not-names-clause-granted
+returns-then-not-names-clause-granted g c =
     λ files content wholes held gives.
     let origin = c.args.layout.origin in
     let done = c.loop-stripe.invariant in
@@ -119,6 +110,4 @@ returns-then-ne-clause-granted g c =
     let is : done.0 ≡ content =
     (done.5 files held).2 content wholes gives
     ∙ take_all (c.loop-stripe.stripe * stripe_width origin) content (omega (arith, all, gives.length_is)) in
-    let same : c.finalize.result ≡ origin.identity = c.finalize.ensures done.0 done.3 ∙ ap sha256 is ∙ gives.identity_is in
-    let equal : c.ne.result ≡ false = search rules in
-    absurd (true≢false (sym c.if-ne.true ∙ equal))
+    absurd (true≢false (sym ((c.names.ensures done.0 done.3).1 (ap sha256 is ∙ gives.identity_is)) ∙ c.if-not-names.true))

@@ -1,4 +1,4 @@
-use Rattle.std.proofs.Common.{◌≡◌, ◌+◌, ◌*◌, ◌<◌, ◌∷◌, ◌++◌, ℕ, List, [], false, length, get_or, take, sym, ◌∙◌, ap, ap₂, subst, arith, rules}
+use Rattle.std.proofs.Common.{◌≡◌, ◌+◌, ◌*◌, ◌<◌, ◌∷◌, ◌++◌, ℕ, List, [], length, get_or, take, sym, ◌∙◌, ap, ap₂, subst, arith}
 use Rattle.std.proofs.lemmas.Bool.{true≢false}
 use Rattle.std.proofs.lemmas.Result.{err_from_is_err_and}
 use Rattle.sha2.specs.Sha256.{sha256}
@@ -115,13 +115,12 @@ loop-stripe-preserved g c =
 pub returns-clause-named : goal.returns-clause-named
 returns-clause-named g c =
     let origin = c.args.layout.origin in
-    let done = c.loop-stripe.invariant.0 in
-    let same : c.finalize.result ≡ origin.identity = search rules in (
+    let done = c.loop-stripe.invariant.0 in (
       done.0,
       done.1,
       split_all BeginWith origin c.args.layout.possible done.0 done.1 c.loop-stripe.stripe
           (omega (arith, c.loop-stripe-test.false, c.stripe_count-stripe-end.ensures))
-          (omega (arith, c.loop-stripe.auto.stripe-end, c.stripe_count-stripe-end.ensures)) done.3 (sym (c.finalize.ensures done.0 done.2) ∙ same),
+          (omega (arith, c.loop-stripe.auto.stripe-end, c.stripe_count-stripe-end.ensures)) done.3 ((c.names.ensures done.0 done.2).0 c.if-not-names.false),
       λ held source_held stripe within.
           (done.4 held source_held).1 stripe (omega (arith, within, c.loop-stripe-test.false, c.stripe_count-stripe-end.ensures)),
       done.5,
@@ -146,8 +145,8 @@ returns-in_err-group-clause-granted g c =
     rw (error.1, error.2) (c.in_err-group.ensures.granted held (wholes stripe) (c.loop-stripe.invariant.0.4 held source_held).0
     (gives.stripes stripe within).given)
 
-pub returns-then-ne-clause-granted : goal.returns-then-ne-clause-granted
-returns-then-ne-clause-granted g c =
+pub returns-then-not-names-clause-granted : goal.returns-then-not-names-clause-granted
+returns-then-not-names-clause-granted g c =
     λ held content wholes source_held gives.
     let origin = c.args.layout.origin in
     let done = c.loop-stripe.invariant.0 in
@@ -155,6 +154,4 @@ returns-then-ne-clause-granted g c =
     let is : done.0 ≡ content =
     (done.4 held source_held).2 content wholes gives
     ∙ take_all (c.loop-stripe.stripe * stripe_width origin) content (omega (arith, all, gives.length_is)) in
-    let same : c.finalize.result ≡ origin.identity = c.finalize.ensures done.0 done.2 ∙ ap sha256 is ∙ gives.identity_is in
-    let equal : c.ne.result ≡ false = search rules in
-    absurd (true≢false (sym c.if-ne.true ∙ equal))
+    absurd (true≢false (sym ((c.names.ensures done.0 done.2).1 (ap sha256 is ∙ gives.identity_is)) ∙ c.if-not-names.true))

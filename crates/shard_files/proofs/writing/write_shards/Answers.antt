@@ -1,13 +1,11 @@
-use Rattle.std.proofs.Common.{◌≡◌, ◌<◌, false, inr, List, ℕ, [], ◌∷◌, ◌++◌, length, refl, sym, ◌∙◌, ap, append_assoc, arith, rules}
-use Rattle.std.proofs.lemmas.Bool.{true≢false}
+use Rattle.std.proofs.Common.{◌<◌, inr, List, ℕ, [], ◌∷◌, ◌++◌, refl, sym, ◌∙◌, ap, append_assoc, arith}
+use Rattle.std.specs.Io.KnownBytes.{Consumes}
 use Rattle.std.proofs.KnownBytes.{Consumes-nil, Consumes-trans}
 use Rattle.shard_files.specs.Files.{shard_file}
 use Rattle.shard_files.specs.Groups.{numbered}
 use Rattle.shard_files.specs.Splits.{IsSplit}
-use Rattle.shard_files.specs.Stripes.{stripe_total, stripe_width}
-use Rattle.shard_files.proofs.Joined.{whole_length}
-use Rattle.shard_files.proofs.Positions.{ends_at}
-use Rattle.shard_files.proofs.Written.{file_more, file_none, piece_of, split_all, split_more, split_none}
+use Rattle.shard_files.specs.Stripes.{stripe_total}
+use Rattle.shard_files.proofs.Written.{file_more, file_none, moved_other, piece_of, split_all, split_more, split_none}
 use Rattle.shard_files.proofs.writing.write_shards.Goals as goal
 
 pub loop-stripe-init : goal.loop-stripe-init
@@ -53,30 +51,23 @@ loop-stripe-preserved g c =
 pub returns-clause-written : goal.returns-clause-written
 returns-clause-written g c =
     let origin = c.args.layout.origin in
-    let done = c.loop-stripe.invariant in
-    let same : c.finalize.result ≡ origin.identity = search rules in (
+    let done = c.loop-stripe.invariant in (
       done.0,
       done.1,
       split_all (IsSplit origin) origin c.args.layout.possible done.0 done.1 c.loop-stripe.stripe (omega (arith, c.loop-stripe-test.false, c.stripe_count-stripe-end.ensures))
-          (omega (arith, c.loop-stripe.auto.stripe-end, c.stripe_count-stripe-end.ensures)) done.4 (sym (c.finalize.ensures done.0 done.3) ∙ same),
+          (omega (arith, c.loop-stripe.auto.stripe-end, c.stripe_count-stripe-end.ensures)) done.4 ((c.names.ensures done.0 done.3).0 c.if-not-names.false),
       done.2,
       done.5,
     )
 
-pub returns-then-ne-clause-refused : goal.returns-then-ne-clause-refused
-returns-then-ne-clause-refused g c =
+pub returns-then-not-names-clause-refused : goal.returns-then-not-names-clause-refused
+returns-then-not-names-clause-refused g c =
     let origin = c.args.layout.origin in
     let done = c.loop-stripe.invariant in
     inr (
       refl,
-      (
-        done.0,
-        done.2,
-        whole_length c.loop-stripe.stripe (stripe_width origin) origin.length (length done.0)
-            (ends_at origin c.args.layout.possible c.loop-stripe.stripe (omega (arith, c.loop-stripe-test.false, c.stripe_count-stripe-end.ensures))) done.4.long,
-        λ is.
-            let same : c.finalize.result ≡ origin.identity = c.finalize.ensures done.0 done.3 ∙ is in
-            let equal : c.ne.result ≡ false = search rules in
-            true≢false (sym c.if-ne.true ∙ equal),
-      ),
+      moved_other (IsSplit origin) origin c.args.layout.possible
+          (Consumes (g.R.Read.remaining c.args.reader.now) (g.R.Read.remaining c.loop-stripe.reader)) done.0 done.1 c.loop-stripe.stripe
+          (omega (arith, c.loop-stripe-test.false, c.stripe_count-stripe-end.ensures)) done.4 done.2 c.names.result
+          (c.names.ensures done.0 done.3).1 c.if-not-names.true,
     )
