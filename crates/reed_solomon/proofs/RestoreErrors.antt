@@ -1,5 +1,5 @@
 -- Why shards are not restored: the first that applies.
-use Rattle.std.proofs.Common.{◌≡◌, ℕ, ◌<◌, ◌≤◌, List, length, refl, arith}
+use Rattle.std.proofs.Common.{◌≡◌, ℕ, ◌<◌, ◌≤◌, Bool, List, length, take, refl, sym, ◌∙◌, ap, subst, arith}
 use Rattle.std.specs.Prelude.{Option}
 use Rattle.std.specs.declared.vec.Vec.{Vec}
 use Rattle.reed_solomon.specs.Shards.{present_count}
@@ -76,3 +76,30 @@ module _ {Z : Type 0} (k total : ℕ) (shards : List (Option (Vec ℕ Z))) where
         empty = λ _ _ _ none. absurd (can.some none);
         memory = λ _. refl;
       }
+
+-- what was looked at: as many shards as the code has, of one size, and the flags of those that are there
+module _ {Z : Type 0} (k total : ℕ) (shards : List (Option (Vec ℕ Z))) (counted size : ℕ) (flags : List Bool) (counted_is : counted ≡ total)
+    (long : length shards ≡ total) (size_is : size ≡ first_size shards) (sized : HaveSize size shards)
+    (flags_are : take (length shards) flags ≡ shard_flags shards)
+  where
+    pub seen_flags : take counted flags ≡ shard_flags shards
+    seen_flags = ap (λ (n : ℕ). take n flags) (counted_is ∙ sym long) ∙ flags_are
+
+    seen_sized : HaveSize (first_size shards) shards
+    seen_sized = subst (λ (n : ℕ). HaveSize n shards) size_is sized
+
+    pub seen_lost : present_count (take counted flags) < k → RestoreError k total shards TooFewShardsPresent
+    seen_lost few = lost k total shards long seen_sized (subst (λ (l : List Bool). present_count l < k) seen_flags few)
+
+    pub seen_empty : k ≤ present_count (take counted flags) → size ≡ 0 → RestoreError k total shards EmptyShard
+    seen_empty enough none =
+        no_bytes k total shards long seen_sized (subst (λ (l : List Bool). k ≤ present_count l) seen_flags enough) (sym size_is ∙ none)
+
+    pub seen_whole : k ≤ present_count (take counted flags) → (size ≡ 0 → ⊥) → CanRestore k total shards
+    seen_whole enough some =
+        record {
+          count = long;
+          sizes = seen_sized;
+          enough = subst (λ (l : List Bool). k ≤ present_count l) seen_flags enough;
+          some = λ none. some (size_is ∙ none);
+        }
