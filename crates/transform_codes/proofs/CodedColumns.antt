@@ -11,6 +11,7 @@ use Rattle.ghash_slices.specs.Cantor.{point, polynomial_value}
 use Rattle.word_tables.specs.Cantor.{cantor_vector}
 use Rattle.transform_codes.specs.Codes.{AreCodedBefore, AreCodedColumns, AreOfData, IsCodedColumn, shard_symbol, value_at}
 use Rattle.transform_codes.specs.Columns.{AreParityBelow, AreScattered, HoldFirstValues, HoldStrip, HoldWordValues, OthersAreKept}
+use Rattle.transform_codes.specs.declared.strips.Strip.{Strip}
 use Rattle.additive_transforms.proofs.BlockPoints.{point-joined}
 use Rattle.transform_codes.proofs.ColumnPlaces.{columns_more}
 use lib.Arith.{digits_lt}
@@ -124,28 +125,29 @@ module _ {W : Type 0} (element : W → ℕ) (zero : W) (level n k m size start w
       columns_more start width (is_coded size new) (λ column below. kept_word fits kept column below (before column below)) strip
 
 -- one more strip, which begins behind the columns so far
-pub next_strip : {W : Type 0} (element : W → ℕ) (zero : W) (level n k m size start width at_size at_start : ℕ) (shards old new : List W)
-    → at_size ≡ size → at_start ≡ start → at_start + width ≤ at_size → OthersAreKept zero at_size at_start width old new
+pub next_strip : {W : Type 0} (element : W → ℕ) (zero : W) (level n k m size start : ℕ) (strip : Strip) (shards old new : List W)
+    → strip.size ≡ size → strip.start ≡ start → OthersAreKept zero strip.size strip.start strip.width old new
     → AreCodedBefore element zero level n k m size start shards old
-    → ((c : ℕ) → c < width → IsCodedColumn level n k m (shard_symbol element zero at_size shards (at_start + c))
-    (shard_symbol element zero at_size new (at_start + c)))
-    → (start + width ≤ size) × AreCodedBefore element zero level n k m size (start + width) shards new
-next_strip element zero level n k m size start width at_size at_start shards old new size_is start_is fits kept before strip =
-    subst (λ (s : ℕ). (start + width ≤ s) × AreCodedBefore element zero level n k m s (start + width) shards new) size_is
-    (subst (λ (b : ℕ). (b + width ≤ at_size) × AreCodedBefore element zero level n k m at_size (b + width) shards new) start_is (
-      fits,
-      more_columns element zero level n k m at_size at_start width shards old new fits kept
-          (subst (λ (s : ℕ). AreCodedBefore element zero level n k m s at_start shards old) (sym size_is)
-          (subst (λ (b : ℕ). AreCodedBefore element zero level n k m size b shards old) (sym start_is) before)) strip,
+    → ((c : ℕ) → c < strip.width → IsCodedColumn level n k m (shard_symbol element zero strip.size shards (strip.start + c))
+    (shard_symbol element zero strip.size new (strip.start + c)))
+    → (start + strip.width ≤ size) × AreCodedBefore element zero level n k m size (start + strip.width) shards new
+next_strip element zero level n k m size start strip shards old new size_is start_is kept before coded =
+    subst (λ (s : ℕ). (start + strip.width ≤ s) × AreCodedBefore element zero level n k m s (start + strip.width) shards new) size_is
+    (subst (λ (b : ℕ). (b + strip.width ≤ strip.size) × AreCodedBefore element zero level n k m strip.size (b + strip.width) shards new) start_is (
+      strip.inside,
+      more_columns element zero level n k m strip.size strip.start strip.width shards old new strip.inside kept
+          (subst (λ (s : ℕ). AreCodedBefore element zero level n k m s strip.start shards old) (sym size_is)
+          (subst (λ (b : ℕ). AreCodedBefore element zero level n k m size b shards old) (sym start_is) before)) coded,
     ))
 
 -- where each column is a code word, those of a strip are
-pub strip_of_coded : {W : Type 0} (element : W → ℕ) (zero : W) (level n k m size width at_size at_start : ℕ) (shards parity : List W)
-    → at_size ≡ size → at_start + width ≤ at_size → AreCodedColumns element zero level n k m size shards parity
-    → (c : ℕ) → c < width → IsCodedColumn level n k m (shard_symbol element zero at_size shards (at_start + c))
-    (shard_symbol element zero at_size parity (at_start + c))
-strip_of_coded element zero level n k m size width at_size at_start shards parity size_is fits words c inside =
-    subst (λ (s : ℕ). AreCodedColumns element zero level n k m s shards parity) (sym size_is) words (at_start + c) (omega (arith, inside, fits))
+pub strip_of_coded : {W : Type 0} (element : W → ℕ) (zero : W) (level n k m size : ℕ) (strip : Strip) (shards parity : List W)
+    → strip.size ≡ size → AreCodedColumns element zero level n k m size shards parity
+    → (c : ℕ) → c < strip.width → IsCodedColumn level n k m (shard_symbol element zero strip.size shards (strip.start + c))
+    (shard_symbol element zero strip.size parity (strip.start + c))
+strip_of_coded element zero level n k m size strip shards parity size_is words c below =
+    subst (λ (s : ℕ). AreCodedColumns element zero level n k m s shards parity) (sym size_is) words (strip.start + c)
+    (omega (arith, below, strip.inside))
 
 -- so many blocks have all places
 pub all_blocks : (m long len : ℕ) → long ≡ len → 0 < len → m ≤ ((m - 1) / long + 1) * len
