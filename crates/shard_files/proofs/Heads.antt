@@ -81,7 +81,7 @@ module _ (bytes : List ℕ) where
       ∙ sym (parts head)
 
   -- and bytes of a head have those parts
-  module _ (head : Head) (is : IsHead head) (same : bytes ≡ head_file head) where
+  module _ (head : Head) (same : bytes ≡ head_file head) (sized : length head.origin.identity ≡ 32) where
     in_parts : bytes ≡ head_fields head.origin head.index
         ++ (to_le_bytes w64 head.origin.length ++ (to_le_bytes w64 head.origin.size ++ (head.origin.identity ++ head_digest head)))
     in_parts = same ∙ parts head
@@ -98,7 +98,7 @@ module _ (bytes : List ℕ) where
     pub bytes_digest : drop 72 bytes ≡ head_digest head
     bytes_digest =
         sym (drop-drop 32 40 bytes) ∙ ap (drop 32) from_40
-        ∙ drop_at head.origin.identity (head_digest head) 32 is.origin_fits.identity_size
+        ∙ drop_at head.origin.identity (head_digest head) 32 sized
 
     pub bytes_fields : take 24 bytes ≡ head_fields head.origin head.index
     bytes_fields = ap (take 24) in_parts
@@ -113,15 +113,15 @@ module _ (bytes : List ℕ) where
     bytes_count =
         let named = length-append head.origin.identity (head_digest head) in
         let whole = ap length in_parts in
-        omega (arith, named, whole, digest_size head, is.origin_fits.identity_size)
+        omega (arith, named, whole, digest_size head, sized)
 
     -- what is read from the bytes of a head is the head
-    pub parsed_is : (parsed : Head) → parsed.origin.code ≡ from_le_bytes w32 (take 4 (drop 8 bytes))
+    pub parsed_is : IsHead head → (parsed : Head) → parsed.origin.code ≡ from_le_bytes w32 (take 4 (drop 8 bytes))
         → parsed.origin.data_shards ≡ from_le_bytes w32 (take 4 (drop 12 bytes))
         → parsed.origin.parity_shards ≡ from_le_bytes w32 (take 4 (drop 16 bytes)) → parsed.index ≡ from_le_bytes w32 (take 4 (drop 20 bytes))
         → parsed.origin.length ≡ from_le_bytes w64 (take 8 (drop 24 bytes)) → parsed.origin.size ≡ from_le_bytes w64 (take 8 (drop 32 bytes))
         → parsed.origin.identity ≡ take 32 (drop 40 bytes) → parsed ≡ head
-    parsed_is parsed code counts parity index long size named =
+    parsed_is is parsed code counts parity index long size named =
         head_is parsed head
         (origin_is parsed.origin head.origin
         (code ∙ ap (λ (l : List ℕ). from_le_bytes w32 (take 4 (drop 8 l))) in_parts ∙ from_le_bytes-to_le_bytes_4 head.origin.code is.origin_fits.code_fits)

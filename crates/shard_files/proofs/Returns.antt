@@ -10,7 +10,6 @@ use Rattle.shard_files.specs.Heads.{head_file, IsOrigin}
 use Rattle.shard_files.specs.RoundTrip.{DamageIsSeen, EnoughAreLeft, ShardsReturn}
 use Rattle.shard_files.specs.Stripes.{IsPossible, piece_start, shard_total, stripe_content, stripe_total}
 use Rattle.shard_files.specs.declared.head.Origin.{Origin}
-use Rattle.shard_files.proofs.Groups.{numbered_fits}
 use Rattle.shard_files.proofs.Heads.{bytes_count}
 use Rattle.shard_files.proofs.Written.{piece_of, piece_there}
 
@@ -21,7 +20,7 @@ module _ (origin : Origin) (content : List ℕ) (wholes : List (List ℕ)) (file
     unfolding shard_file
     head_there index inside =
         take_at (head_file (numbered origin index)) (pieces_from (numbered origin index) 0 wholes) 104
-        (bytes_count (head_file (numbered origin index)) (numbered origin index) (numbered_fits origin fits possible.few index inside) refl)
+        (bytes_count (head_file (numbered origin index)) (numbered origin index) refl fits.identity_size)
 
     piece_at : (index stripe : ℕ) → index < shard_total origin → stripe < stripe_total origin
         → take (32 + origin.size) (drop (piece_start origin stripe) (shard_file origin wholes index))
@@ -31,7 +30,7 @@ module _ (origin : Origin) (content : List ℕ) (wholes : List (List ℕ)) (file
         let head = numbered origin index in
         let pieces = pieces_from head 0 wholes in
         let m = 32 + origin.size in
-        let count = bytes_count (head_file head) head (numbered_fits origin fits possible.few index inside) refl in
+        let count = bytes_count (head_file head) head refl fits.identity_size in
         ap (λ (n : ℕ). take m (drop n (head_file head ++ pieces))) (turned (stripe * m))
         ∙ ap (take m) (sym (drop-drop (stripe * m) 104 (head_file head ++ pieces)))
         ∙ ap (λ (l : List ℕ). take m (drop (stripe * m) l)) (drop_at (head_file head) pieces 104 count)

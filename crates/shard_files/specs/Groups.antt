@@ -1,5 +1,5 @@
 -- The shards of a file in one stripe: which of them files give, and when they are enough.
-use Rattle.std.specs.Prelude.{◌≡◌, ◌⊎◌, ℕ, ◌+◌, ◌*◌, ◌<◌, ◌≤◌, Bool, List, length, take, drop, Option, Some}
+use Rattle.std.specs.Prelude.{◌≡◌, ◌⊎◌, ℕ, ◌+◌, ◌*◌, ◌<◌, ◌≤◌, Bool, List, [], length, slice_index_or, take, drop, Option, Some}
 use Rattle.sha2.specs.Sha256.{sha256}
 use Rattle.reed_solomon.specs.Shards.{IsPresent, present_count}
 use Rattle.shard_files.specs.Heads.{head_digest, head_file}
@@ -12,6 +12,11 @@ use Rattle.shard_files.specs.declared.head.Origin.{Origin}
 -- the head of shard `index` of a file
 abbrev pub numbered : Origin → ℕ → Head
 numbered origin index = record { origin = origin; index = index }
+
+-- the digests of the heads of the first `count` shards of a file, in order
+pub record AreHeadDigests (origin : Origin) (count : ℕ) (digests : List (List ℕ)) : Type 0 where
+  pub long : length digests ≡ count
+  pub are : (index : ℕ) → index < count → slice_index_or digests index [] ≡ head_digest (numbered origin index)
 
 -- the bytes of shard `index`, where shards of one size stand one after the other
 unfoldable pub shard_at : ℕ → List ℕ → ℕ → List ℕ

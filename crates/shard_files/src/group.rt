@@ -10,7 +10,7 @@ ghost use Rattle.shard_files.specs.Codes.{IsStripeWord};
 ghost use Rattle.shard_files.specs.Stripes.{shard_total};
 
 use crate::error::JoinError;
-use crate::head::{Head, Origin};
+use crate::head::{HEAD, Head, Origin};
 use crate::layout::Layout;
 use crate::piece::{DIGEST, is_piece};
 use std::alloc::{AllocError, Global};
@@ -57,23 +57,24 @@ impl Group {
         match Head::of_bytes(head) {
             Some(read) => {
                 if read.origin.is_same(&self.layout.origin) {
-                    self.take_piece(&read, stripe, piece);
+                    self.take_piece(&read, rest_of(head, HEAD - DIGEST), stripe, piece);
                 }
             }
             None => {}
         }
     }
 
-    // Takes a shard by its head, which is of these, and its piece, if that is one and none of its number is at hand.
-    fn take_piece(&mut self, head: &Head, stripe: u64, piece: &[u8])
-        requires { head.now.origin ≡ self.old.layout.origin }
+    // Takes a shard by its head, which is of these and has this digest, and its piece, if that is one and none of its number is at hand.
+    fn take_piece(&mut self, head: &Head, digest: &[u8], stripe: u64, piece: &[u8])
+        requires own { head.now.origin ≡ self.old.layout.origin }
+        requires digest { digest.now ≡ head_digest head.now }
         ensures kept { self.new.layout.origin ≡ self.old.layout.origin }
         ensures taken { Takes self.old.layout.origin
             (λ index shard. (head.now.index ≡ index) × (piece.now ≡ piece_bytes (head_digest head.now) stripe shard))
             self.old.shards.items self.old.present.items self.new.shards.items self.new.present.items }
     {
-        if is_piece(&head.digest(), stripe, piece) {
-            self.put(head.index as usize, rest_of(piece));
+        if is_piece(digest, stripe, piece) {
+            self.put(head.index as usize, rest_of(piece, DIGEST));
         }
     }
 
@@ -187,14 +188,14 @@ impl Group {
     }
 }
 
-// What stands behind the digest of a piece.
-fn rest_of(piece: &[u8]) -> &[u8]
-    ensures { result.now ≡ drop 32 piece.now }
+// What stands behind so many bytes.
+fn rest_of(bytes: &[u8], count: usize) -> &[u8]
+    ensures { result.now ≡ drop count bytes.now }
 {
-    if piece.len() < DIGEST {
+    if bytes.len() < count {
         &[]
     } else {
-        &piece[DIGEST..]
+        &bytes[count..]
     }
 }
 

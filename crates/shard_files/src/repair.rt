@@ -2,7 +2,7 @@
 ghost use Rattle.std.specs.Prelude.{◌≡◌, ℕ, List, [], ◌+◌, ◌^◌, ◌<◌, ◌≤◌, length, slice_index_or, take, IfErr, OnOk};
 ghost use Rattle.shard_files.specs.Faults.{IsRepairFault, IsWriteFault};
 ghost use Rattle.shard_files.specs.Files.{AppendsToLost, HoldFile, shard_file};
-ghost use Rattle.shard_files.specs.Groups.{GivesEnough, GivesFile, Holdings, numbered, shard_at};
+ghost use Rattle.shard_files.specs.Groups.{AreHeadDigests, GivesEnough, GivesFile, Holdings, numbered, shard_at};
 ghost use Rattle.shard_files.specs.Heads.{head_digest, head_file};
 ghost use Rattle.shard_files.specs.Pieces.{piece_bytes};
 ghost use Rattle.shard_files.specs.Stripes.{shard_total, stripe_length, stripe_total};
@@ -12,7 +12,7 @@ use crate::group::Group;
 use crate::head::Origin;
 use crate::layout::Layout;
 use crate::reading::{ShardSource, restored};
-use crate::writing::{ShardFiles, put_head, put_piece};
+use crate::writing::{ShardFiles, head_digests, head_of, put_head, put_piece};
 use sha2::{Digest, Sha256};
 use std::alloc::Global;
 
@@ -40,11 +40,15 @@ pub fn repair_shards<S: ShardSource, F: ShardFiles>(
         → GivesFile layout.origin held content wholes → IfErr result IsRepairFault }
 {
     put_lost_heads(alloc, &layout.origin, lost, files)?;
+    let heads = match head_digests(alloc, &layout) {
+        Ok(heads) => heads,
+        Err(_) => return Err(RepairError::Split(SplitError::Memory)),
+    };
     let mut hasher = Sha256::new();
     for stripe in 0..layout.stripe_count() {
         let group = restored(alloc, source, layout, stripe)?;
         hasher.update(content_of(&group, stripe));
-        put_lost_pieces(&group, stripe, lost, files)?;
+        put_lost_pieces(&group, heads.as_slice(), stripe, lost, files)?;
     }
     if !layout.origin.names(hasher) {
         return Err(RepairError::Join(JoinError::OtherBytes));
@@ -83,11 +87,13 @@ fn put_lost_heads<F: ShardFiles>(
 // Writes the pieces of a stripe of the shards that are lost.
 fn put_lost_pieces<F: ShardFiles>(
     group: &Group,
+    heads: &[[u8; 32]],
     stripe: u64,
     lost: &[bool],
     files: &mut F,
 ) -> Result<(), SplitError>
-    requires { length lost.now ≡ shard_total group.now.layout.origin }
+    requires heads { AreHeadDigests group.now.layout.origin (shard_total group.now.layout.origin) heads.now }
+    requires flags { length lost.now ≡ shard_total group.now.layout.origin }
     ensures put { (before : ℕ → List ℕ) → F.holds files.old before → OnOk result ((now : ℕ → List ℕ) × F.holds files.new now
         × AppendsToLost (length lost.now) lost.now (λ index. piece_bytes (head_digest (numbered group.now.layout.origin index)) stripe
         (shard_at group.now.layout.origin.size group.now.shards.items index)) before now) }
@@ -95,13 +101,8 @@ fn put_lost_pieces<F: ShardFiles>(
 {
     for index in 0..lost.len() {
         if lost[index] {
-            put_piece(
-                &group.layout.origin,
-                stripe,
-                index,
-                group.shard(index),
-                files,
-            )?;
+            let head = head_of(&group.layout.origin, heads, index);
+            put_piece(&head, stripe, index, group.shard(index), files)?;
         }
     }
     Ok(())

@@ -6,7 +6,7 @@ ghost use Rattle.sha2.specs.Sha256.{sha256};
 ghost use Rattle.shard_files.specs.declared.error.SplitError.TheVariants.{Changed, Memory};
 ghost use Rattle.shard_files.specs.Faults.{IsSplitFault, IsWriteFault};
 ghost use Rattle.shard_files.specs.Files.{AppendsToEach, AreShards, IsAppended, shard_file};
-ghost use Rattle.shard_files.specs.Groups.{numbered, shard_at};
+ghost use Rattle.shard_files.specs.Groups.{AreHeadDigests, numbered, shard_at};
 ghost use Rattle.shard_files.specs.Heads.{head_digest, head_file};
 ghost use Rattle.shard_files.specs.Pieces.{piece_bytes};
 ghost use Rattle.shard_files.specs.Splits.{IsSplit};
@@ -19,7 +19,7 @@ use crate::layout::Layout;
 use crate::piece::digest_of;
 use crate::split::split_into;
 use sha2::{Digest, Sha256};
-use std::alloc::Global;
+use std::alloc::{AllocError, Global};
 use std::io;
 use std::io::{Read, Write};
 
@@ -51,14 +51,50 @@ pub fn write_shards<R: Read, F: ShardFiles>(
         × (sha256 content ≢ layout.origin.identity)))) }
 {
     put_heads(alloc, &layout, files)?;
+    let heads = match head_digests(alloc, &layout) {
+        Ok(heads) => heads,
+        Err(_) => return Err(SplitError::Memory),
+    };
     let mut hasher = Sha256::new();
     for stripe in 0..layout.stripe_count() {
-        write_stripe(alloc, &layout, stripe, reader, &mut hasher, files)?;
+        write_stripe(
+            alloc,
+            &layout,
+            heads.as_slice(),
+            stripe,
+            reader,
+            &mut hasher,
+            files,
+        )?;
     }
     if !layout.origin.names(hasher) {
         return Err(SplitError::Changed);
     }
     Ok(())
+}
+
+/// The digests of the heads of all shards, each of which is hashed with each piece of its shard.
+pub(crate) fn head_digests(alloc: Global, layout: &Layout) -> Result<Vec<[u8; 32]>, AllocError>
+    ensures { IfOk result (λ digests. AreHeadDigests layout.now.origin (shard_total layout.now.origin) digests.items) }
+{
+    let mut digests = Vec::new(alloc);
+    for index in 0..layout.total() {
+        let head = Head {
+            origin: layout.origin,
+            index: index as u32,
+        };
+        digests.push(head.digest())?;
+    }
+    Ok(digests)
+}
+
+/// The digest of the head of a shard, among those of all. There is a shard of that number.
+pub(crate) fn head_of(origin: &Origin, heads: &[[u8; 32]], index: usize) -> [u8; 32]
+    requires heads { AreHeadDigests origin.now (shard_total origin.now) heads.now }
+    requires within { index < shard_total origin.now }
+    ensures { result ≡ head_digest (numbered origin.now index) }
+{
+    heads[index]
 }
 
 // Writes the head of each shard.
@@ -122,12 +158,14 @@ fn append<F: ShardFiles>(files: &mut F, index: usize, bytes: &[u8]) -> Result<()
 fn write_stripe<R: Read, F: ShardFiles>(
     alloc: Global,
     layout: &Layout,
+    heads: &[[u8; 32]],
     stripe: u64,
     reader: &mut R,
     hasher: &mut Sha256,
     files: &mut F,
 ) -> Result<(), SplitError>
-    requires { stripe < stripe_total layout.now.origin }
+    requires within { stripe < stripe_total layout.now.origin }
+    requires heads { AreHeadDigests layout.now.origin (shard_total layout.now.origin) heads.now }
     ensures written { OnOk result ((bytes : List ℕ) × (whole : List ℕ) × IsSplit layout.now.origin bytes whole
         × (length whole ≡ shard_total layout.now.origin * layout.now.origin.size)
         × (length bytes ≡ stripe_length layout.now.origin stripe)
@@ -142,7 +180,7 @@ fn write_stripe<R: Read, F: ShardFiles>(
     let content = read_stripe(alloc, layout.stripe_length(stripe), reader)?;
     hasher.update(content.as_slice());
     let shards = split_stripe(alloc, layout, content.as_slice())?;
-    put_pieces(layout, stripe, shards.as_slice(), files)?;
+    put_pieces(layout, heads, stripe, shards.as_slice(), files)?;
     Ok(())
 }
 
@@ -180,11 +218,13 @@ fn split_stripe(alloc: Global, layout: &Layout, content: &[u8]) -> Result<Vec<u8
 // Writes a piece of each shard.
 fn put_pieces<F: ShardFiles>(
     layout: &Layout,
+    heads: &[[u8; 32]],
     stripe: u64,
     shards: &[u8],
     files: &mut F,
 ) -> Result<(), SplitError>
-    requires { length shards.now ≡ shard_total layout.now.origin * layout.now.origin.size }
+    requires heads { AreHeadDigests layout.now.origin (shard_total layout.now.origin) heads.now }
+    requires whole { length shards.now ≡ shard_total layout.now.origin * layout.now.origin.size }
     ensures put { (before : ℕ → List ℕ) → F.holds files.old before → OnOk result ((now : ℕ → List ℕ) × F.holds files.new now
         × AppendsToEach (shard_total layout.now.origin)
         (λ index. piece_bytes (head_digest (numbered layout.now.origin index)) stripe
@@ -193,7 +233,7 @@ fn put_pieces<F: ShardFiles>(
 {
     for index in 0..layout.total() {
         put_piece(
-            &layout.origin,
+            &head_of(&layout.origin, heads, index),
             stripe,
             index,
             shard_of(&layout.origin, shards, index),
@@ -214,24 +254,19 @@ fn shard_of<'a>(origin: &Origin, shards: &'a [u8], index: usize) -> &'a [u8]
     &shards[begin..begin + size]
 }
 
-/// Writes the piece of a stripe with these bytes of a shard at the end of its file. The number is one of 32 bits.
+/// Writes the piece of a stripe with these bytes of a shard at the end of its file, by the digest of the shard's head.
 pub fn put_piece<F: ShardFiles>(
-    origin: &Origin,
+    digest: &[u8],
     stripe: u64,
     index: usize,
     shard: &[u8],
     files: &mut F,
 ) -> Result<(), SplitError>
-    requires { index < 2 ^ 32 }
     ensures put { (before : ℕ → List ℕ) → F.holds files.old before → OnOk result ((now : ℕ → List ℕ) × F.holds files.new now
-        × IsAppended index (piece_bytes (head_digest (numbered origin.now index)) stripe shard.now) before now) }
+        × IsAppended index (piece_bytes digest.now stripe shard.now) before now) }
     ensures refused { IfErr result IsWriteFault }
 {
-    let head = Head {
-        origin: *origin,
-        index: index as u32,
-    };
-    append(files, index, &digest_of(&head.digest(), stripe, shard))?;
+    append(files, index, &digest_of(digest, stripe, shard))?;
     append(files, index, shard)?;
     Ok(())
 }

@@ -3,11 +3,11 @@ use Rattle.std.proofs.lemmas.Bool.{true≢false}
 use Rattle.std.proofs.lemmas.Result.{err_from_is_err_and}
 use Rattle.sha2.specs.Sha256.{sha256}
 use Rattle.shard_files.specs.Files.{AppendsToLost, shard_file}
-use Rattle.shard_files.specs.Groups.{GivesEnough, numbered, shard_at}
+use Rattle.shard_files.specs.Groups.{AreHeadDigests, GivesEnough, numbered, shard_at}
 use Rattle.shard_files.specs.Heads.{head_digest, head_file}
 use Rattle.shard_files.specs.Pieces.{piece_bytes}
 use Rattle.shard_files.specs.Splits.{BeginWith}
-use Rattle.shard_files.specs.Stripes.{stripe_content, stripe_total, stripe_width}
+use Rattle.shard_files.specs.Stripes.{shard_total, stripe_content, stripe_total, stripe_width}
 use Rattle.shard_files.specs.declared.head.Origin.{Origin}
 use Rattle.shard_files.proofs.Joined.{joined_content, none_yet, take_all}
 use Rattle.shard_files.proofs.Lost.{file_taken, lost_same, lost_twice}
@@ -45,6 +45,12 @@ loop-stripe-init g c =
             ),
           ),
     )
+
+pub put_lost_pieces-requires-clause-heads : goal.put_lost_pieces-requires-clause-heads
+put_lost_pieces-requires-clause-heads g c =
+    let origin = c.args.layout.origin in
+    subst (λ (o : Origin). AreHeadDigests o (shard_total o) c.as_slice.result.now) (sym c.in_ok-group.ensures.of)
+    (subst (AreHeadDigests origin (shard_total origin)) (sym c.as_slice.ensures.value) c.in-Ok.ensures)
 
 pub loop-stripe-preserved : goal.loop-stripe-preserved
 loop-stripe-preserved g c =

@@ -46,8 +46,5 @@ returns-clause-restored c =
 pub returns-clause-kept : goal.returns-clause-kept
 returns-clause-kept c =
     λ ok.
-    let code = c.args.code.now in
-    let own = c.transform_of-transform.result in
-    let made = c.transform_of-transform.ensures in
-    agree_theirs code own made c.requires.transform c.args.present.now c.restore_words.new.shards c.args.shards.now
-    (c.restore_words.ensures.kept code.size (even code c.requires.transform))
+    agree_theirs c.args.code.now c.transform_of-transform.result c.transform_of-transform.ensures c.requires.transform c.args.present.now
+    c.restore_words.new.shards c.args.shards.now (c.restore_words.ensures.kept c.args.code.now.size (even c.args.code.now c.requires.transform))

@@ -22,7 +22,8 @@ loop-index-preserved g c =
     let old = c.loop-index.invariant before held in
     let put = c.in_ok-put_piece.ensures.put old.0 old.1 in
     let added =
-    subst (λ (shard : List ℕ). IsAppended index (piece_bytes (head_digest (numbered origin index)) c.args.stripe shard) old.0 put.0) c.shard_of.ensures put.2 in
+    subst (λ (head : List ℕ). IsAppended index (piece_bytes head c.args.stripe (shard_at origin.size c.args.shards.now index)) old.0 put.0) c.head_of.ensures
+    (subst (λ (shard : List ℕ). IsAppended index (piece_bytes c.head_of.result c.args.stripe shard) old.0 put.0) c.shard_of.ensures put.2) in
     (put.0, put.1, appends_more index bytes before old.0 put.0 old.2 added)
 
 pub returns-clause-put : goal.returns-clause-put

@@ -1,10 +1,10 @@
-use Rattle.std.proofs.Common.{◌<◌, inr, List, ℕ, [], ◌∷◌, ◌++◌, refl, sym, ◌∙◌, ap, append_assoc, arith}
+use Rattle.std.proofs.Common.{◌<◌, inr, List, ℕ, [], ◌∷◌, ◌++◌, refl, sym, ◌∙◌, ap, append_assoc, subst, arith}
 use Rattle.std.specs.Io.KnownBytes.{Consumes}
 use Rattle.std.proofs.KnownBytes.{Consumes-nil, Consumes-trans}
 use Rattle.shard_files.specs.Files.{shard_file}
-use Rattle.shard_files.specs.Groups.{numbered}
+use Rattle.shard_files.specs.Groups.{AreHeadDigests, numbered}
 use Rattle.shard_files.specs.Splits.{IsSplit}
-use Rattle.shard_files.specs.Stripes.{stripe_total}
+use Rattle.shard_files.specs.Stripes.{shard_total, stripe_total}
 use Rattle.shard_files.proofs.Written.{file_more, file_none, moved_other, piece_of, split_all, split_more, split_none}
 use Rattle.shard_files.proofs.writing.write_shards.Goals as goal
 
@@ -20,6 +20,11 @@ loop-stripe-init g c =
           let put = c.in_ok-put_heads.ensures.put before held in
           (put.0, put.1, λ index below. put.2 index below ∙ ap (λ (l : List ℕ). before index ++ l) (sym (file_none origin index))),
     )
+
+pub write_stripe-requires-clause-heads : goal.write_stripe-requires-clause-heads
+write_stripe-requires-clause-heads g c =
+    let origin = c.args.layout.origin in
+    subst (AreHeadDigests origin (shard_total origin)) (sym c.as_slice.ensures.value) c.in-Ok.ensures
 
 pub loop-stripe-preserved : goal.loop-stripe-preserved
 loop-stripe-preserved g c =

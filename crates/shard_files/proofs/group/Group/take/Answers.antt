@@ -1,11 +1,19 @@
-use Rattle.std.proofs.Common.{◌≡◌, None, Some, sym, ◌∙◌}
+use Rattle.std.proofs.Common.{◌≡◌, None, Some, length, sym, ◌∙◌, subst}
 use Rattle.std.proofs.lemmas.Bool.{true≢false}
 use Rattle.shard_files.specs.Groups.{AreOf, numbered}
 use Rattle.shard_files.specs.Heads.{head_file, IsHead}
 use Rattle.shard_files.specs.declared.head.Head.{Head}
+use Rattle.shard_files.specs.declared.head.Origin.{Origin}
 use Rattle.shard_files.proofs.Groups.{AreOfHead, numbered_fits, of_read, other_origin, read_of, takes_nothing, takes_same}
-use Rattle.shard_files.proofs.Heads.{same_some}
+use Rattle.shard_files.proofs.Heads.{bytes_digest, same_some}
 use Rattle.shard_files.proofs.group.Group.take.Goals as goal
+
+pub take_piece-requires-clause-digest : goal.take_piece-requires-clause-digest
+take_piece-requires-clause-digest c =
+    let fits = c.args.self.now.layout.fits in
+    c.rest_of.ensures
+    ∙ bytes_digest c.args.head.now c.in-Some.read c.in-Some.ensures.written
+    (subst (λ (o : Origin). length o.identity ≡ 32) (sym (c.is_same.ensures.0 c.if-is_same.true)) fits.identity_size)
 
 pub returns-then-is_same-clause-taken : goal.returns-then-is_same-clause-taken
 returns-then-is_same-clause-taken c =

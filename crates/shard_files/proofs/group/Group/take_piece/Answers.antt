@@ -15,7 +15,7 @@ returns-then-is_piece-clause-taken c =
     let head = c.args.head.now in
     let piece = c.args.piece.now in
     let is : piece ≡ piece_bytes (head_digest head) c.args.stripe (drop 32 piece) =
-    c.is_piece.ensures.0 c.if-is_piece.true ∙ ap (λ (d : List ℕ). piece_bytes d c.args.stripe (drop 32 piece)) c.digest.ensures in
+    c.is_piece.ensures.0 c.if-is_piece.true ∙ ap (λ (d : List ℕ). piece_bytes d c.args.stripe (drop 32 piece)) c.requires.digest in
     takes_piece group.layout.origin head c.args.stripe piece (drop 32 piece) group.shards.items now.shards.items group.present.items now.present.items is
     (subst (λ (shard : List ℕ). Puts (shard_total group.layout.origin) group.layout.origin.size head.index shard group.shards.items group.present.items now.shards.items now.present.items)
     c.rest_of.ensures c.put.ensures.put)
@@ -28,7 +28,7 @@ returns-else-is_piece-clause-taken c =
     takes_nothing group.layout.origin (AreOfHead head c.args.stripe piece) group.shards.items group.present.items
     (λ index shard inside given.
     let shard_is : shard ≡ drop 32 piece = sym (ap (drop 32) given.1 ∙ piece_rest (head_digest head) c.args.stripe shard) in
-    let is : piece ≡ piece_bytes c.digest.result c.args.stripe (drop 32 piece) =
+    let is : piece ≡ piece_bytes c.args.digest.now c.args.stripe (drop 32 piece) =
     given.1 ∙ ap (piece_bytes (head_digest head) c.args.stripe) shard_is
-    ∙ ap (λ (d : List ℕ). piece_bytes d c.args.stripe (drop 32 piece)) (sym c.digest.ensures) in
+    ∙ ap (λ (d : List ℕ). piece_bytes d c.args.stripe (drop 32 piece)) (sym c.requires.digest) in
     true≢false (sym (c.is_piece.ensures.1 is) ∙ c.if-is_piece.false))

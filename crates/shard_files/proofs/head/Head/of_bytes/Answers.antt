@@ -8,7 +8,7 @@ use Rattle.shard_files.proofs.head.Head.of_bytes.Goals as goal
 
 pub returns-then-bytes-ne-HEAD-clause-read : goal.returns-then-bytes-ne-HEAD-clause-read
 returns-then-bytes-ne-HEAD-clause-read c =
-    λ head is same. absurd (omega (arith, bytes_count c.args.bytes.now head is same, c.if-bytes-ne-HEAD.true))
+    λ head is same. absurd (omega (arith, bytes_count c.args.bytes.now head same is.origin_fits.identity_size, c.if-bytes-ne-HEAD.true))
 
 pub returns-then-not-is_of-clause-read : goal.returns-then-not-is_of-clause-read
 returns-then-not-is_of-clause-read c =
@@ -16,14 +16,15 @@ returns-then-not-is_of-clause-read c =
     let bytes = c.args.bytes.now in
     let parsed = c.parsed-head.result in
     let said = c.parsed-head.ensures in
+    let sized = is.origin_fits.identity_size in
     let head_is : head ≡ parsed =
-    sym (parsed_is bytes head is same parsed said.code said.data said.parity said.index said.length said.size said.identity) in
+    sym (parsed_is bytes head same sized is parsed said.code said.data said.parity said.index said.length said.size said.identity) in
     absurd (true≢false
     (sym (c.is_of.ensures.1 (
-      bytes_fields bytes head is same ∙ ap (λ (h : Head). head_fields h.origin h.index) head_is,
-      bytes_long bytes head is same ∙ ap (λ (h : Head). to_le_bytes w64 h.origin.length) head_is,
-      bytes_size bytes head is same ∙ ap (λ (h : Head). to_le_bytes w64 h.origin.size) head_is,
-      bytes_digest bytes head is same ∙ ap head_digest head_is,
+      bytes_fields bytes head same sized ∙ ap (λ (h : Head). head_fields h.origin h.index) head_is,
+      bytes_long bytes head same sized ∙ ap (λ (h : Head). to_le_bytes w64 h.origin.length) head_is,
+      bytes_size bytes head same sized ∙ ap (λ (h : Head). to_le_bytes w64 h.origin.size) head_is,
+      bytes_digest bytes head same sized ∙ ap head_digest head_is,
     ))
     ∙ c.if-not-is_of.true))
 
@@ -37,4 +38,4 @@ returns-clause-read c =
     λ head is same.
     let said = c.parsed-head.ensures in
     ap (λ (h : Head). Some h)
-    (parsed_is c.args.bytes.now head is same c.parsed-head.result said.code said.data said.parity said.index said.length said.size said.identity)
+    (parsed_is c.args.bytes.now head same is.origin_fits.identity_size is c.parsed-head.result said.code said.data said.parity said.index said.length said.size said.identity)
