@@ -92,34 +92,12 @@ fn coded_parity(
 {
     let mut parity = zero_words(alloc, transform.parity_shard_count(), half)?;
     let mut space = zero_words(alloc, WORDS_A_POINT, transform.point_count())?;
-    encode_words(
-        transform,
+    let _encoded = transform.encode::<u16, Bits16>(
         space.as_mut_slice(),
         words,
         parity.as_mut_slice(),
-        half,
     );
     Ok(parity)
-}
-
-// Writes the words of the shards of parity, of so many words each.
-fn encode_words(
-    transform: &TransformCode,
-    space: &mut [u16],
-    words: &[u16],
-    parity: &mut [u16],
-    half: usize,
-)
-    requires some { 0 < half }
-    requires points { 2 ^ transform.now.all_levels ≤ 2 ^ 2 ^ 4 }
-    requires whole { length words.now ≡ transform.now.data_shards * half }
-    requires parity_whole { length parity.old ≡ transform.now.parity_shards * half }
-    requires room { length space.old ≡ 40 * 2 ^ transform.now.all_levels }
-    ensures encoded { AreCodedColumns (level_element (λ word. word) 4) 0 4 transform.now.levels transform.now.data_shards
-        transform.now.parity_shards half words.now parity.new }
-    ensures long { length parity.new ≡ length parity.old }
-{
-    let _encoded = transform.encode::<u16, Bits16>(space, words, parity);
 }
 
 /// Restores the missing shards, of which as many are at hand as the data have, and leaves the others. It fails where memory is refused, and
