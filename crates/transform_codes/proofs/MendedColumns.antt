@@ -5,6 +5,7 @@ use Rattle.transform_codes.specs.Columns.{ArePutWords, IsOutside}
 use Rattle.transform_codes.specs.Restoring.{AreMended, AreRestoredColumns, IsAtHand, RestoresSymbols, is_lost}
 use Rattle.transform_codes.specs.Codes.{IsCodedColumn, shard_symbol, value_at}
 use Rattle.transform_codes.specs.Determined.{LostSymbolsReturn}
+use Rattle.transform_codes.specs.declared.strips.Strip.{Strip}
 use Rattle.transform_codes.proofs.ColumnPlaces.{apart, columns_more}
 use Rattle.transform_codes.proofs.LostCounts.{lost-data, lost-parity}
 use lib.Arith.{digits_lt}
@@ -61,22 +62,27 @@ module _ {W : Type 0} (zero : W) (size start width i from first : ℕ) (present 
 
 -- ---- all columns
 
+-- a strip is mended: what stands beside it or is at hand is kept, and each of its columns is restored
+pub record IsMendedStrip {W : Type 0} (element : W → ℕ) (zero : W) (level n k m size : ℕ) (present : List Bool) (start width : ℕ)
+    (mid mid_parity now now_parity : List W) : Type 0 where
+  pub keeps : (i c : ℕ) → c < size → (IsOutside start width c) ⊎ (IsAtHand present i)
+      → get_or now (i * size + c) zero ≡ get_or mid (i * size + c) zero
+  pub parity_keeps : (t c : ℕ) → c < size → (IsOutside start width c) ⊎ (IsAtHand present (k + t))
+      → get_or now_parity (t * size + c) zero ≡ get_or mid_parity (t * size + c) zero
+  pub restores : (c : ℕ) → c < width → RestoresSymbols element zero level n k m size present (start + c) mid mid_parity now now_parity
+
 module _ {W : Type 0} (element : W → ℕ) (zero : W) (level n k m size : ℕ) (present : List Bool) where
   -- one more strip is restored
   restored_more : (start width : ℕ) (shards parity mid mid_parity now now_parity : List W) → start + width ≤ size
       → AreRestoredColumns element zero level n k m size present start shards parity mid mid_parity
-      → ((i c : ℕ) → c < size → (IsOutside start width c) ⊎ (IsAtHand present i)
-      → get_or now (i * size + c) zero ≡ get_or mid (i * size + c) zero)
-      → ((t c : ℕ) → c < size → (IsOutside start width c) ⊎ (IsAtHand present (k + t))
-      → get_or now_parity (t * size + c) zero ≡ get_or mid_parity (t * size + c) zero)
-      → ((c : ℕ) → c < width → RestoresSymbols element zero level n k m size present (start + c) mid mid_parity now now_parity)
+      → IsMendedStrip element zero level n k m size present start width mid mid_parity now now_parity
       → AreRestoredColumns element zero level n k m size present (start + width) shards parity now now_parity
-  restored_more start width shards parity mid mid_parity now now_parity fits before keeps parity_keeps restores =
+  restored_more start width shards parity mid mid_parity now now_parity fits before mended =
       record {
         restored = columns_more start width (λ c. RestoresSymbols element zero level n k m size present c shards parity now now_parity) earlier own;
-        kept = λ i c c_below side. keeps i c c_below (weaken i c side) ∙ before.kept i c c_below (earlier_side i c side);
+        kept = λ i c c_below side. mended.keeps i c c_below (weaken i c side) ∙ before.kept i c c_below (earlier_side i c side);
         parity_kept = λ t c c_below side.
-            parity_keeps t c c_below (weaken (k + t) c side) ∙ before.parity_kept t c c_below (earlier_side (k + t) c side);
+            mended.parity_keeps t c c_below (weaken (k + t) c side) ∙ before.parity_kept t c c_below (earlier_side (k + t) c side);
       }
     where
       weaken : (i c : ℕ) → (start + width ≤ c) ⊎ (IsAtHand present i) → (IsOutside start width c) ⊎ (IsAtHand present i)
@@ -91,38 +97,34 @@ module _ {W : Type 0} (element : W → ℕ) (zero : W) (level n k m size : ℕ) 
       earlier c early symbol word_parity word data_known parity_known =
           let c_below : c < size = omega (arith, early, fits) in
           let done = before.restored c early symbol word_parity word data_known parity_known in (
-            (λ i below. ap element (keeps i c c_below (inl (inl early))) ∙ done.0 i below),
-            λ t below. ap element (parity_keeps t c c_below (inl (inl early))) ∙ done.1 t below,
+            (λ i below. ap element (mended.keeps i c c_below (inl (inl early))) ∙ done.0 i below),
+            λ t below. ap element (mended.parity_keeps t c c_below (inl (inl early))) ∙ done.1 t below,
           )
 
       own : (c : ℕ) → c < width → RestoresSymbols element zero level n k m size present (start + c) shards parity now now_parity
       own c inside symbol word_parity word data_known parity_known =
           let now_on : start ≤ start + c = omega arith in
           let c_below : start + c < size = omega (arith, inside, fits) in
-          restores c inside symbol word_parity word
+          mended.restores c inside symbol word_parity word
           (λ i below here. ap element (before.kept i (start + c) c_below (inl now_on)) ∙ data_known i below here)
           (λ t below here. ap element (before.parity_kept t (start + c) c_below (inl now_on)) ∙ parity_known t below here)
 
 -- one more strip, which begins behind the columns so far
-pub next_restored : {W : Type 0} (element : W → ℕ) (zero : W) (level n k m size start width at_size at_start : ℕ) (present : List Bool)
-    (shards parity mid mid_parity now now_parity : List W) → at_size ≡ size → at_start ≡ start → at_start + width ≤ at_size
+pub next_restored : {W : Type 0} (element : W → ℕ) (zero : W) (level n k m size start : ℕ) (strip : Strip) (present : List Bool)
+    (shards parity mid mid_parity now now_parity : List W) → strip.size ≡ size → strip.start ≡ start
     → AreRestoredColumns element zero level n k m size present start shards parity mid mid_parity
-    → ((i c : ℕ) → c < at_size → (IsOutside at_start width c) ⊎ (IsAtHand present i)
-    → get_or now (i * at_size + c) zero ≡ get_or mid (i * at_size + c) zero)
-    → ((t c : ℕ) → c < at_size → (IsOutside at_start width c) ⊎ (IsAtHand present (k + t))
-    → get_or now_parity (t * at_size + c) zero ≡ get_or mid_parity (t * at_size + c) zero)
-    → ((c : ℕ) → c < width → RestoresSymbols element zero level n k m at_size present (at_start + c) mid mid_parity now now_parity)
-    → (start + width ≤ size) × AreRestoredColumns element zero level n k m size present (start + width) shards parity now now_parity
-next_restored element zero level n k m size start width at_size at_start present shards parity mid mid_parity now now_parity size_is start_is fits
-    before keeps parity_keeps restores =
-    subst (λ (s : ℕ). (start + width ≤ s) × AreRestoredColumns element zero level n k m s present (start + width) shards parity now now_parity) size_is
-    (subst (λ (b : ℕ). (b + width ≤ at_size) × AreRestoredColumns element zero level n k m at_size present (b + width) shards parity now now_parity)
-    start_is (
-      fits,
-      restored_more element zero level n k m at_size present at_start width shards parity mid mid_parity now now_parity fits
-          (subst (λ (s : ℕ). AreRestoredColumns element zero level n k m s present at_start shards parity mid mid_parity) (sym size_is)
+    → IsMendedStrip element zero level n k m strip.size present strip.start strip.width mid mid_parity now now_parity
+    → (start + strip.width ≤ size) × AreRestoredColumns element zero level n k m size present (start + strip.width) shards parity now now_parity
+next_restored element zero level n k m size start strip present shards parity mid mid_parity now now_parity size_is start_is before mended =
+    subst (λ (s : ℕ). (start + strip.width ≤ s)
+    × AreRestoredColumns element zero level n k m s present (start + strip.width) shards parity now now_parity) size_is
+    (subst (λ (b : ℕ). (b + strip.width ≤ strip.size)
+    × AreRestoredColumns element zero level n k m strip.size present (b + strip.width) shards parity now now_parity) start_is (
+      strip.inside,
+      restored_more element zero level n k m strip.size present strip.start strip.width shards parity mid mid_parity now now_parity strip.inside
+          (subst (λ (s : ℕ). AreRestoredColumns element zero level n k m s present strip.start shards parity mid mid_parity) (sym size_is)
           (subst (λ (b : ℕ). AreRestoredColumns element zero level n k m size present b shards parity mid mid_parity) (sym start_is) before))
-          keeps parity_keeps restores,
+          mended,
     ))
 
 -- ---- what a column becomes

@@ -30,9 +30,13 @@ loop-start-preserved g c =
     let code = c.args.self.now in
     let strip = c.strip_at-strip in
     next_restored (level_element g.R.Stored.number g.L.Level.LEVEL) g.R.Stored.ZERO g.L.Level.LEVEL code.levels code.data_shards code.parity_shards
-    c.args.size c.loop-start.start strip.result.width strip.result.size strip.result.start c.args.present.now c.args.shards.now c.args.parity.now
-    c.loop-start.shards c.loop-start.parity c.restore_strip.new.shards c.restore_strip.new.parity strip.ensures.size strip.ensures.start
-    strip.result.inside c.loop-start.invariant.1 c.restore_strip.ensures.kept c.restore_strip.ensures.parity_kept c.restore_strip.ensures.restored
+    c.args.size c.loop-start.start strip.result c.args.present.now c.args.shards.now c.args.parity.now c.loop-start.shards c.loop-start.parity
+    c.restore_strip.new.shards c.restore_strip.new.parity strip.ensures.size strip.ensures.start c.loop-start.invariant.1
+    (record {
+      keeps = c.restore_strip.ensures.kept;
+      parity_keeps = c.restore_strip.ensures.parity_kept;
+      restores = c.restore_strip.ensures.restored;
+    })
 
 pub returns-clause-restored : goal.returns-clause-restored
 returns-clause-restored g c =
