@@ -65,8 +65,8 @@ def in_planes():
 
 SLICES_HEAD = """\
 // The levels of 16 to 128 bits by slices of their bits.
-use super::{FieldInSlices, invert_words, multiply_words};
-use bit_slices::Vector;
+use super::FieldInSlices;
+use bit_slices::{Slices16, Slices32, Slices64, Slices128, Vector, invert_each, multiply_each};
 use field_base::Holds;
 use word_tower::{Bits16, Bits32, Bits64, Bits128, Tower};
 """
@@ -74,11 +74,11 @@ use word_tower::{Bits16, Bits32, Bits64, Bits128, Tower};
 IN_SLICES = Template("""\
 impl FieldInSlices<u$bits> for Tower<Bits$bits> {
     fn multiply_in_slices<V: Vector, W: Holds<u$bits>>(products: &mut [W], words: &[W]) {
-        multiply_words::<u$bits, W, Tower<Bits$bits>, V>(products, words);
+        multiply_each::<u$bits, W, Slices$bits<V>>(products, words);
     }
 
     fn invert_in_slices<V: Vector, W: Holds<u$bits>>(words: &mut [W]) {
-        invert_words::<u$bits, W, Tower<Bits$bits>, V>(words);
+        invert_each::<u$bits, W, Slices$bits<V>>(words);
     }
 }
 """)

@@ -651,7 +651,7 @@ impl<V: Vector> Sliced for Slices$bits<V> {
 
     ghost lane = { λ x. lanes_$bits $quoted.lane x.inner };
 
-    ghost fits_law = { λ x. lanes_$bits-lt $quoted.lane (2 ^ 2 ^ $level) $quoted.fits_law x.inner };
+    ghost fits_law = { λ x l. unfold lanes_$bits in $quoted.fits_law x.inner l };
 
     #[inline(always)]
     #[tactic(auto, unfolding(crate::specs::Called::lanes_$bits))]
@@ -761,10 +761,8 @@ impl<V: Vector> SlicedPolynomials<V> for Slices$bits<V> {
 }
 """)
 
-SLICED_WORD = Template("""\
-impl<V: Vector> SlicedWord<V> for u$bits {
-    type Block = Slices$bits<V>;
-
+SLICES_OF = Template("""\
+impl<V: Vector> SlicesOf<u$bits> for Slices$bits<V> {
     ghost level_law = { refl };
 }
 """)
@@ -775,14 +773,12 @@ def slices():
 // The levels of 8 to 128 bits by slices of bits. Each is a type of its own whose products, squares, inverses and transpositions are
 // called and not put in line: so LLVM compiles, and the checker names, each level once.
 ghost use Rattle.bit_slices.specs.Called.{lanes_8, lanes_16, lanes_32, lanes_64, lanes_128};
-ghost use Rattle.bit_slices.specs.Called.{lanes_8-lt, lanes_16-lt, lanes_32-lt, lanes_64-lt, lanes_128-lt};
 ghost use Rattle.std.specs.Prelude.{◌≡◌, ◌<◌, ◌^◌, ℕ, refl};
 
 use crate::bit::Bit;
 use crate::pair::Pair;
 use crate::polynomials::SlicedPolynomials;
-use crate::sliced::Sliced;
-use crate::slices::SlicedWord;
+use crate::sliced::{Sliced, SlicesOf};
 use crate::tails::Tail;
 use crate::vector::Vector;
 use crate::word::TowerWord;
@@ -798,7 +794,7 @@ use field_base::Holds;
             quoted=f"⟦<{inner} as Sliced>⟧",
             tail_inline="never" if bits == 8 else "always",
         )
-        yield SLICED_WORD.substitute(bits=bits)
+        yield SLICES_OF.substitute(bits=bits)
 
 
 

@@ -65,12 +65,12 @@ middle_quarters : (w a b c d m n : ℕ)
 middle_quarters w a b c d m n = simp (shl_xor, xor_assoc, xor_comm, xor_left_comm)
 
 -- the product of two pairs, from the products of the low halves, of the high halves, and of their sums
-pub polynomial_of_pairs : (k : ℕ) {x0 y0 a b c m x_sum y_sum : ℕ} (x1 y1 d n : ℕ) → x0 < 2 ^ 2 ^ k → y0 < 2 ^ 2 ^ k → a < 2 ^ 2 ^ k → b < 2 ^ 2 ^ k
+pub polynomial_of_pairs : (k : ℕ) {x0 y0 a b c d m n x_sum y_sum : ℕ} (x1 y1 : ℕ) → x0 < 2 ^ 2 ^ k → y0 < 2 ^ 2 ^ k → a < 2 ^ 2 ^ k → b < 2 ^ 2 ^ k
     → c < 2 ^ 2 ^ k → m < 2 ^ 2 ^ k → n < 2 ^ 2 ^ k → d < 2 ^ 2 ^ k → pair (2 ^ k) a b ≡ carryless x0 y0 → pair (2 ^ k) c d ≡ carryless x1 y1
     → x_sum ≡ bit_xor x0 x1 → y_sum ≡ bit_xor y0 y1 → pair (2 ^ k) m n ≡ carryless x_sum y_sum
     → pair (2 ^ suc k) (pair (2 ^ k) a (bit_xor (bit_xor b c) (bit_xor m a))) (pair (2 ^ k) (bit_xor (bit_xor b c) (bit_xor n d)) d)
     ≡ carryless (pair (2 ^ k) x0 x1) (pair (2 ^ k) y0 y1)
-polynomial_of_pairs k {x0} {y0} {a} {b} {c} {m} x1 y1 d n x_fits y_fits a_fits b_fits c_fits m_fits n_fits d_fits low high x_is y_is both =
+polynomial_of_pairs k {x0} {y0} {a} {b} {c} {d} {m} {n} x1 y1 x_fits y_fits a_fits b_fits c_fits m_fits n_fits d_fits low high x_is y_is both =
     let w = 2 ^ k in
     quarters_xor k a (bit_xor (bit_xor b c) (bit_xor m a)) (bit_xor (bit_xor b c) (bit_xor n d)) d a_fits
     (xor_lt w (bit_xor b c) (bit_xor m a) (xor_lt w b c b_fits c_fits) (xor_lt w m a m_fits a_fits))

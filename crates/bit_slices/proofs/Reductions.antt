@@ -79,10 +79,10 @@ spill_of_highest w tail high small wide =
     rest_fits = carryless_lt m 8 h0 tail h0_fits small
 
 -- the low half and the product by the tail of the high half, to which the spill was added
-pub reduced : (w modulus tail low high : ℕ) → IsTail w modulus tail → low < 2 ^ w → high < 2 ^ w
+pub reduced : {w modulus tail low high : ℕ} → IsTail w modulus tail → low < 2 ^ w → high < 2 ^ w
     → bit_xor low (tail_product tail (bit_xor high (tail_product tail (high / 2 ^ (w - 8)) 0 / 2 ^ 8)) 0 % 2 ^ w)
     ≡ rem w modulus (pair w low high)
-reduced w modulus tail low high is low_fits high_fits =
+reduced {w} {modulus} {tail} {low} {high} is low_fits high_fits =
     ap (λ (z : ℕ). bit_xor low (tail_product tail (bit_xor high z) 0 % 2 ^ w)) (spill_of_highest w tail high is.small is.wide)
     ∙ ap (bit_xor low)
     (ap (λ (z : ℕ). z % 2 ^ w) (xor_zero_r (carryless (bit_xor high spill) tail) ∙ sum_carryless high spill tail)
@@ -95,9 +95,9 @@ reduced w modulus tail low high is low_fits high_fits =
     spill = carryless high tail / 2 ^ w
 
 -- the remainder of a product is the product modulo the polynomial
-pub remainder_of_product : (w modulus x y low high r : ℕ) → HasDegree w modulus → x < 2 ^ w → y < 2 ^ w → pair w low high ≡ carryless x y
+pub remainder_of_product : (w modulus low high : ℕ) {x y r : ℕ} → HasDegree w modulus → x < 2 ^ w → y < 2 ^ w → pair w low high ≡ carryless x y
     → r ≡ rem w modulus (pair w low high) → r ≡ mul_mod w modulus x y
-remainder_of_product w modulus x y low high r degree x_fits y_fits product is =
+remainder_of_product w modulus low high {x} {y} degree x_fits y_fits product is =
     is ∙ ap (rem w modulus) product ∙ sym (mul_mod-rem w modulus degree x y x_fits y_fits)
 
 -- the product reads the low bits of wider numbers
@@ -110,9 +110,9 @@ low_bits_multiplied w modulus x y x0 x1 y0 y1 x_is y_is =
     low n n0 n1 is = sym (ap (λ (z : ℕ). z % 2 ^ w) is ∙ mul-add-mod_self_right n1 (2 ^ w) n0)
 
 -- the product of two numbers, cut to the bits of the word, is that of the words
-pub product_of_numbers : (t w modulus x y a b r : ℕ) → t ≡ w → HasDegree (2 ^ t) modulus → r ≡ mul_mod (2 ^ t) modulus a b → a ≡ x → b ≡ y
+pub product_of_numbers : {t w : ℕ} (modulus : ℕ) {x y a b r : ℕ} → t ≡ w → HasDegree (2 ^ t) modulus → r ≡ mul_mod (2 ^ t) modulus a b → a ≡ x → b ≡ y
     → r % 2 ^ 2 ^ w ≡ mul_mod (2 ^ w) modulus x y
-product_of_numbers t w modulus x y a b r level degree is x_is y_is =
+product_of_numbers {t} {w} modulus {x} {y} {a} {b} {r} level degree is x_is y_is =
     ap (λ (z : ℕ). r % 2 ^ 2 ^ z) (sym level) ∙ ap (λ (z : ℕ). z % 2 ^ 2 ^ t) is
     ∙ mod-eq_of_lt (mul_mod_is_remainder (2 ^ t) modulus a b degree).below ∙ ap₂ (mul_mod (2 ^ t) modulus) x_is y_is
     ∙ ap (λ (z : ℕ). mul_mod (2 ^ z) modulus x y) level

@@ -1,8 +1,8 @@
 -- The product by a tail bit by bit: what is carried has eight bits, the lowest of which is given out at each step.
-use Rattle.std.proofs.Common.{◌≡◌, ℕ, ◌+◌, ◌*◌, ◌/◌, ◌%◌, ◌^◌, ◌<◌, sym, ◌∙◌, ap, ap₂, arith}
+use Rattle.std.proofs.Common.{◌≡◌, ℕ, zero, suc, ◌+◌, ◌*◌, ◌/◌, ◌%◌, ◌^◌, ◌<◌, sym, ◌∙◌, ap, ap₂, arith, lit<}
 use Rattle.std.specs.Prelude.{bit_xor}
 use Rattle.std.proofs.lemmas.Nat.{mod_low, shr_high, xor_block, xor_comm, xor_lt}
-use native.Mathlib.Nat.{mod-eq_of_lt}
+use native.Mathlib.Nat.{mod-eq_of_lt, mod-lt}
 use lib.Bits.{xor_zero_r}
 use Rattle.field_base.specs.Carryless.{carryless}
 use Rattle.field_base.specs.Quadratic.{pair}
@@ -35,46 +35,61 @@ four_xor a b c d p q r s fa fb fc fp fq fr =
 
 -- ---- a step
 
--- the tail 2 half + 1 times a bit, added to what is carried: its lowest bit, and the others
-module _ (tail half bit lowest others : ℕ) (is : tail ≡ half * 2 + 1) (bit_fits : bit < 2) (lowest_fits : lowest < 2) where
-  sum_of_step : tail_product tail bit (pair 1 lowest others) ≡ bit_xor (bit * half) others * 2 ^ 1 + bit_xor bit lowest
+-- a bit times half 2 + 1
+parts : (bit half : ℕ) → bit * (half * 2 + 1) ≡ bit * half * 2 ^ 1 + bit
+parts bit half = grind arith
+
+-- the tail times a bit, added to what is carried: its lowest bit, and the others
+module _ (tail bit lowest others : ℕ) (odd : tail % 2 ≡ 1) (bit_fits : bit < 2) (lowest_fits : lowest < 2) where
+  sum_of_step : tail_product tail bit (pair 1 lowest others) ≡ bit_xor (bit * (tail / 2)) others * 2 ^ 1 + bit_xor bit lowest
   sum_of_step =
       ap (λ (z : ℕ). bit_xor z (pair 1 lowest others))
       (ap (λ (z : ℕ). carryless z tail) (sym (mod-eq_of_lt bit_fits)) ∙ bit_carryless bit tail
-      ∙ ap₂ (λ (x y : ℕ). x * y) (mod-eq_of_lt bit_fits) is ∙ grind arith)
-      ∙ xor_block 1 (bit * half) others bit lowest bit_fits lowest_fits
+      ∙ ap₂ (λ (x y : ℕ). x * y) (mod-eq_of_lt bit_fits) (omega (arith, odd)) ∙ parts bit (tail / 2))
+      ∙ xor_block 1 (bit * (tail / 2)) others bit lowest bit_fits lowest_fits
 
+  -- the lowest bit
   pub step_lowest : bit_xor lowest bit ≡ tail_product tail bit (pair 1 lowest others) % 2
   step_lowest =
       xor_comm lowest bit
       ∙ sym (ap (λ (z : ℕ). z % 2) sum_of_step
-      ∙ mod_low (bit_xor (bit * half) others) 1 (bit_xor bit lowest) (xor_lt 1 bit lowest bit_fits lowest_fits))
+      ∙ mod_low (bit_xor (bit * (tail / 2)) others) 1 (bit_xor bit lowest) (xor_lt 1 bit lowest bit_fits lowest_fits))
 
-  pub step_carried : bit_xor others (bit * half) ≡ tail_product tail bit (pair 1 lowest others) / 2
+  -- and the others
+  pub step_carried : bit_xor others (bit * (tail / 2)) ≡ tail_product tail bit (pair 1 lowest others) / 2
   step_carried =
-      xor_comm others (bit * half)
+      xor_comm others (bit * (tail / 2))
       ∙ sym (ap (λ (z : ℕ). z / 2) sum_of_step
-      ∙ shr_high (bit_xor (bit * half) others) 1 (bit_xor bit lowest) (xor_lt 1 bit lowest bit_fits lowest_fits))
+      ∙ shr_high (bit_xor (bit * (tail / 2)) others) 1 (bit_xor bit lowest) (xor_lt 1 bit lowest bit_fits lowest_fits))
 
--- (x^4 + x^3 + x + 1) / x
-pub poly64_added : (a b c d high bit : ℕ) → a < 2 → b < 2 → c < 2 → d < 2 → bit < 2
-    → pair 4 (four (bit_xor a bit) b (bit_xor c bit) (bit_xor d bit)) high ≡ bit_xor (pair 4 (four a b c d) high) (bit * 13)
-poly64_added a b c d high bit fa fb fc fd fits =
-    ap₂ (λ (x y : ℕ). pair 4 (four (bit_xor a bit) x (bit_xor c bit) (bit_xor d bit)) y) (sym (xor_zero_r b)) (sym (xor_zero_r high))
-    ∙ ap (λ (x : ℕ). pair 4 x (bit_xor high 0)) (four_xor a b c d bit 0 bit bit fa fb fc fits (omega arith) fits)
-    ∙ sum_of_pairs 2 high 0 (four_lt a b c d fa fb fc fd) (four_lt bit 0 bit bit fits (omega arith) fits fits)
-    ∙ ap (bit_xor (pair 4 (four a b c d) high)) (omega arith)
+-- a product of bits is a bit
+bit_times : (a b : ℕ) → a < 2 → b < 2 → a * b < 2
+bit_times zero b fa fb = omega arith
+bit_times (suc zero) b fa fb = omega (arith, fb)
+bit_times (suc (suc a)) b fa fb = omega (arith, fa)
 
--- (x^7 + x^2 + x + 1) / x
-pub ghash_added : (a b c d e f g h bit : ℕ) → a < 2 → b < 2 → c < 2 → d < 2 → e < 2 → f < 2 → g < 2 → bit < 2
-    → eight (bit_xor a bit) (bit_xor b bit) c d e f (bit_xor g bit) h ≡ bit_xor (eight a b c d e f g h) (bit * 67)
-ghash_added a b c d e f g h bit fa fb fc fd fe ff fg fits =
-    let none : 0 < 2 = omega arith in
-    ap₂ (λ (x y : ℕ). pair 4 x y)
-    (ap₂ (λ (x y : ℕ). four (bit_xor a bit) (bit_xor b bit) x y) (sym (xor_zero_r c)) (sym (xor_zero_r d))
-    ∙ four_xor a b c d bit bit 0 0 fa fb fc fits fits none)
-    (ap₂ (λ (x y : ℕ). four x y (bit_xor g bit) h) (sym (xor_zero_r e)) (sym (xor_zero_r f))
-    ∙ ap (four (bit_xor e 0) (bit_xor f 0) (bit_xor g bit)) (sym (xor_zero_r h))
-    ∙ four_xor e f g h 0 0 bit 0 fe ff fg none none fits)
-    ∙ sum_of_pairs 2 (four e f g h) (four 0 0 bit 0) (four_lt a b c d fa fb fc fd) (four_lt bit bit 0 0 fits fits none none)
-    ∙ ap (bit_xor (eight a b c d e f g h)) (omega arith)
+-- the terms of the tail above 1, divided by x, times a bit: each is added to a slice of what is carried
+pub terms_added : (a b c d e f g h bit tail : ℕ) → tail < 2 ^ 8 → a < 2 → b < 2 → c < 2 → d < 2 → e < 2 → f < 2 → g < 2 → bit < 2
+    → eight (bit_xor a (bit * (tail / 2 ^ 1 % 2))) (bit_xor b (bit * (tail / 2 ^ 2 % 2))) (bit_xor c (bit * (tail / 2 ^ 3 % 2)))
+    (bit_xor d (bit * (tail / 2 ^ 4 % 2))) (bit_xor e (bit * (tail / 2 ^ 5 % 2))) (bit_xor f (bit * (tail / 2 ^ 6 % 2)))
+    (bit_xor g (bit * (tail / 2 ^ 7 % 2))) h
+    ≡ bit_xor (eight a b c d e f g h) (bit * (tail / 2))
+terms_added a b c d e f g h bit tail small fa fb fc fd fe ff fg fits =
+    ap (λ (z : ℕ). pair 4 (four (bit_xor a (t 1)) (bit_xor b (t 2)) (bit_xor c (t 3)) (bit_xor d (t 4))) (four (bit_xor e (t 5)) (bit_xor f (t 6)) (bit_xor g (t 7)) z)) (sym (xor_zero_r h))
+    ∙ ap₂ (pair 4) (four_xor a b c d (t 1) (t 2) (t 3) (t 4) fa fb fc (t_fits 1) (t_fits 2) (t_fits 3))
+    (four_xor e f g h (t 5) (t 6) (t 7) 0 fe ff fg (t_fits 5) (t_fits 6) (t_fits 7))
+    ∙ sum_of_pairs 2 (four e f g h) (four (t 5) (t 6) (t 7) 0) (four_lt a b c d fa fb fc fd)
+    (four_lt (t 1) (t 2) (t 3) (t 4) (t_fits 1) (t_fits 2) (t_fits 3) (t_fits 4))
+    ∙ ap (bit_xor (eight a b c d e f g h)) (whole bit fits)
+  where
+    t : ℕ → ℕ
+    t i = bit * (tail / 2 ^ i % 2)
+
+    t_fits : (i : ℕ) → t i < 2
+    t_fits i = bit_times bit (tail / 2 ^ i % 2) fits (mod-lt (tail / 2 ^ i) (lit< tt))
+
+    whole : (z : ℕ) → z < 2 → eight (z * (tail / 2 ^ 1 % 2)) (z * (tail / 2 ^ 2 % 2)) (z * (tail / 2 ^ 3 % 2)) (z * (tail / 2 ^ 4 % 2))
+        (z * (tail / 2 ^ 5 % 2)) (z * (tail / 2 ^ 6 % 2)) (z * (tail / 2 ^ 7 % 2)) 0 ≡ z * (tail / 2)
+    whole zero less = omega arith
+    whole (suc zero) less = omega (arith, small)
+    whole (suc (suc z)) less = omega (arith, less)

@@ -8,7 +8,7 @@ ghost use Rattle.bit_slices.specs.LaneLemmas.{bit_lane-lt};
 use crate::levels::Slices8;
 use crate::polynomials::SlicedPolynomials;
 use crate::sliced::Sliced;
-use crate::tails::Tail;
+use crate::tails::{Tail, step};
 use crate::vector::Vector;
 use crate::word::TowerWord;
 use bits_rows::even_word;
@@ -150,7 +150,7 @@ impl<V: Vector> SlicedPolynomials<V> for Bit<V> {
 
     #[inline(always)]
     fn add_by_tail<M: Tail>(&mut self, x: &Bit<V>, carry: &mut Slices8<V>) {
-        let lowest = M::step(carry, x);
+        let lowest = step::<M, V>(carry, x);
         self.add(&lowest);
     }
 }

@@ -3,15 +3,18 @@ ghost use Rattle.std.specs.Prelude.{◌≡◌, ◌<◌, ◌≤◌, ◌+◌, ◌*
 ghost use Rattle.bit_slices.specs.Layout.{AreInLanes, AreKept, IsDoneFrom, IsDoneUpTo};
 
 use crate::operations::Operation;
-use crate::sliced::Sliced;
+use crate::sliced::SlicesOf;
 use crate::word::TowerWord;
 use field_base::Holds;
 
 /// Sets the lanes to the words of the block that begins at `start`.
 #[inline(always)]
-pub(crate) fn load<R: TowerWord, W: Holds<R>, T: Sliced>(block: &mut T, words: &[W], start: usize)
-    requires level { T.LEVEL ≡ R.LEVEL }
-    requires fits { start + 128 * T.units ≤ length words.now }
+pub(crate) fn load<R: TowerWord, W: Holds<R>, T: SlicesOf<R>>(
+    block: &mut T,
+    words: &[W],
+    start: usize,
+)
+    requires { start + 128 * T.units ≤ length words.now }
     ensures { (d : W) → AreInLanes (2 ^ R.LEVEL) (T.units * R.COUNT) (T.lane block.new) (λ n. W.number (get_or words.now (start + n) d)) }
 {
     block.read::<R, W>(words, start);
@@ -20,9 +23,8 @@ pub(crate) fn load<R: TowerWord, W: Holds<R>, T: Sliced>(block: &mut T, words: &
 
 // Sets the words of the block that begins at `start` to the lanes.
 #[inline(always)]
-fn store<R: TowerWord, W: Holds<R>, T: Sliced>(block: &mut T, words: &mut [W], start: usize)
-    requires level { T.LEVEL ≡ R.LEVEL }
-    requires fits { start + 128 * T.units ≤ length words.old }
+fn store<R: TowerWord, W: Holds<R>, T: SlicesOf<R>>(block: &mut T, words: &mut [W], start: usize)
+    requires { start + 128 * T.units ≤ length words.old }
     ensures stored { (d : W) → AreInLanes (2 ^ R.LEVEL) (T.units * R.COUNT) (T.lane block.old)
         (λ n. W.number (get_or words.new (start + n) d)) }
     ensures kept { AreKept start (128 * T.units) words.old words.new }
@@ -33,13 +35,12 @@ fn store<R: TowerWord, W: Holds<R>, T: Sliced>(block: &mut T, words: &mut [W], s
 
 // Changes each word of the block that begins at `start`. What `block` holds before is of no matter.
 #[inline(always)]
-fn change_block<R: TowerWord, W: Holds<R>, T: Sliced, O: Operation<R, W, T>>(
+fn change_block<R: TowerWord, W: Holds<R>, T: SlicesOf<R>, O: Operation<R, W, T>>(
     block: &mut T,
     words: &mut [W],
     others: &[W],
     start: usize,
 )
-    requires level { T.LEVEL ≡ R.LEVEL }
     requires fits { start + 128 * T.units ≤ length words.old }
     requires reaches { (n : ℕ) → n < 128 * T.units → O.reaches others.now (start + n) }
     ensures changed { (n : ℕ) → n < 128 * T.units → (d : W) → O.gives others.now (start + n) (W.number (get_or words.old (start + n) d))
@@ -53,12 +54,11 @@ fn change_block<R: TowerWord, W: Holds<R>, T: Sliced, O: Operation<R, W, T>>(
 
 // Changes each word of the whole blocks. It is apart and never inlined, since a function clears its locals when it is called.
 #[inline(never)]
-fn change_blocks<R: TowerWord, W: Holds<R>, T: Sliced, O: Operation<R, W, T>>(
+fn change_blocks<R: TowerWord, W: Holds<R>, T: SlicesOf<R>, O: Operation<R, W, T>>(
     words: &mut [W],
     others: &[W],
     blocks: usize,
 )
-    requires level { T.LEVEL ≡ R.LEVEL }
     requires fits { blocks * (128 * T.units) ≤ length words.old }
     requires reaches { (k : ℕ) → k < length words.old → O.reaches others.now k }
     ensures { IsDoneUpTo (blocks * (128 * T.units)) (O.gives others.now) W.number words.old words.new }
@@ -71,12 +71,11 @@ fn change_blocks<R: TowerWord, W: Holds<R>, T: Sliced, O: Operation<R, W, T>>(
 
 /// Changes each word: whole blocks by slices of their bits, and the rest in a block of their own where that is faster than word by word.
 #[inline(always)]
-pub(crate) fn change_each<R: TowerWord, W: Holds<R>, T: Sliced, O: Operation<R, W, T>>(
+pub(crate) fn change_each<R: TowerWord, W: Holds<R>, T: SlicesOf<R>, O: Operation<R, W, T>>(
     words: &mut [W],
     others: &[W],
 )
-    requires level { T.LEVEL ≡ R.LEVEL }
-    requires reaches { (k : ℕ) → k < length words.old → O.reaches others.now k }
+    requires { (k : ℕ) → k < length words.old → O.reaches others.now k }
     ensures long { length words.new ≡ length words.old }
     ensures changed { (k : ℕ) → k < length words.new → (d : W) → O.gives others.now k (W.number (get_or words.old k d))
         (W.number (get_or words.new k d)) }
@@ -98,12 +97,11 @@ pub(crate) fn change_each<R: TowerWord, W: Holds<R>, T: Sliced, O: Operation<R, 
 
 // Changes each word from `start` on in a block of their own, whose other words are of no matter.
 #[inline(never)]
-fn change_padded<R: TowerWord, W: Holds<R>, T: Sliced, O: Operation<R, W, T>>(
+fn change_padded<R: TowerWord, W: Holds<R>, T: SlicesOf<R>, O: Operation<R, W, T>>(
     words: &mut [W],
     others: &[W],
     start: usize,
 )
-    requires level { T.LEVEL ≡ R.LEVEL }
     requires one { 128 * T.units ≡ 128 }
     requires inside { start < length words.old }
     requires few { length words.old ≤ start + 128 }

@@ -2,14 +2,12 @@
 // The levels of 8 to 128 bits by slices of bits. Each is a type of its own whose products, squares, inverses and transpositions are
 // called and not put in line: so LLVM compiles, and the checker names, each level once.
 ghost use Rattle.bit_slices.specs.Called.{lanes_8, lanes_16, lanes_32, lanes_64, lanes_128};
-ghost use Rattle.bit_slices.specs.Called.{lanes_8-lt, lanes_16-lt, lanes_32-lt, lanes_64-lt, lanes_128-lt};
 ghost use Rattle.std.specs.Prelude.{◌≡◌, ◌<◌, ◌^◌, ℕ, refl};
 
 use crate::bit::Bit;
 use crate::pair::Pair;
 use crate::polynomials::SlicedPolynomials;
-use crate::sliced::Sliced;
-use crate::slices::SlicedWord;
+use crate::sliced::{Sliced, SlicesOf};
 use crate::tails::Tail;
 use crate::vector::Vector;
 use crate::word::TowerWord;
@@ -28,7 +26,7 @@ impl<V: Vector> Sliced for Slices8<V> {
 
     ghost lane = { λ x. lanes_8 ⟦<Pair<Pair<Pair<Bit<V>>>> as Sliced>⟧.lane x.inner };
 
-    ghost fits_law = { λ x. lanes_8-lt ⟦<Pair<Pair<Pair<Bit<V>>>> as Sliced>⟧.lane (2 ^ 2 ^ 3) ⟦<Pair<Pair<Pair<Bit<V>>>> as Sliced>⟧.fits_law x.inner };
+    ghost fits_law = { λ x l. unfold lanes_8 in ⟦<Pair<Pair<Pair<Bit<V>>>> as Sliced>⟧.fits_law x.inner l };
 
     #[inline(always)]
     #[tactic(auto, unfolding(crate::specs::Called::lanes_8))]
@@ -137,9 +135,7 @@ impl<V: Vector> SlicedPolynomials<V> for Slices8<V> {
     }
 }
 
-impl<V: Vector> SlicedWord<V> for u8 {
-    type Block = Slices8<V>;
-
+impl<V: Vector> SlicesOf<u8> for Slices8<V> {
     ghost level_law = { refl };
 }
 
@@ -156,7 +152,7 @@ impl<V: Vector> Sliced for Slices16<V> {
 
     ghost lane = { λ x. lanes_16 ⟦<Pair<Slices8<V>> as Sliced>⟧.lane x.inner };
 
-    ghost fits_law = { λ x. lanes_16-lt ⟦<Pair<Slices8<V>> as Sliced>⟧.lane (2 ^ 2 ^ 4) ⟦<Pair<Slices8<V>> as Sliced>⟧.fits_law x.inner };
+    ghost fits_law = { λ x l. unfold lanes_16 in ⟦<Pair<Slices8<V>> as Sliced>⟧.fits_law x.inner l };
 
     #[inline(always)]
     #[tactic(auto, unfolding(crate::specs::Called::lanes_16))]
@@ -265,9 +261,7 @@ impl<V: Vector> SlicedPolynomials<V> for Slices16<V> {
     }
 }
 
-impl<V: Vector> SlicedWord<V> for u16 {
-    type Block = Slices16<V>;
-
+impl<V: Vector> SlicesOf<u16> for Slices16<V> {
     ghost level_law = { refl };
 }
 
@@ -284,7 +278,7 @@ impl<V: Vector> Sliced for Slices32<V> {
 
     ghost lane = { λ x. lanes_32 ⟦<Pair<Slices16<V>> as Sliced>⟧.lane x.inner };
 
-    ghost fits_law = { λ x. lanes_32-lt ⟦<Pair<Slices16<V>> as Sliced>⟧.lane (2 ^ 2 ^ 5) ⟦<Pair<Slices16<V>> as Sliced>⟧.fits_law x.inner };
+    ghost fits_law = { λ x l. unfold lanes_32 in ⟦<Pair<Slices16<V>> as Sliced>⟧.fits_law x.inner l };
 
     #[inline(always)]
     #[tactic(auto, unfolding(crate::specs::Called::lanes_32))]
@@ -393,9 +387,7 @@ impl<V: Vector> SlicedPolynomials<V> for Slices32<V> {
     }
 }
 
-impl<V: Vector> SlicedWord<V> for u32 {
-    type Block = Slices32<V>;
-
+impl<V: Vector> SlicesOf<u32> for Slices32<V> {
     ghost level_law = { refl };
 }
 
@@ -412,7 +404,7 @@ impl<V: Vector> Sliced for Slices64<V> {
 
     ghost lane = { λ x. lanes_64 ⟦<Pair<Slices32<V>> as Sliced>⟧.lane x.inner };
 
-    ghost fits_law = { λ x. lanes_64-lt ⟦<Pair<Slices32<V>> as Sliced>⟧.lane (2 ^ 2 ^ 6) ⟦<Pair<Slices32<V>> as Sliced>⟧.fits_law x.inner };
+    ghost fits_law = { λ x l. unfold lanes_64 in ⟦<Pair<Slices32<V>> as Sliced>⟧.fits_law x.inner l };
 
     #[inline(always)]
     #[tactic(auto, unfolding(crate::specs::Called::lanes_64))]
@@ -521,9 +513,7 @@ impl<V: Vector> SlicedPolynomials<V> for Slices64<V> {
     }
 }
 
-impl<V: Vector> SlicedWord<V> for u64 {
-    type Block = Slices64<V>;
-
+impl<V: Vector> SlicesOf<u64> for Slices64<V> {
     ghost level_law = { refl };
 }
 
@@ -540,7 +530,7 @@ impl<V: Vector> Sliced for Slices128<V> {
 
     ghost lane = { λ x. lanes_128 ⟦<Pair<Slices64<V>> as Sliced>⟧.lane x.inner };
 
-    ghost fits_law = { λ x. lanes_128-lt ⟦<Pair<Slices64<V>> as Sliced>⟧.lane (2 ^ 2 ^ 7) ⟦<Pair<Slices64<V>> as Sliced>⟧.fits_law x.inner };
+    ghost fits_law = { λ x l. unfold lanes_128 in ⟦<Pair<Slices64<V>> as Sliced>⟧.fits_law x.inner l };
 
     #[inline(always)]
     #[tactic(auto, unfolding(crate::specs::Called::lanes_128))]
@@ -649,8 +639,6 @@ impl<V: Vector> SlicedPolynomials<V> for Slices128<V> {
     }
 }
 
-impl<V: Vector> SlicedWord<V> for u128 {
-    type Block = Slices128<V>;
-
+impl<V: Vector> SlicesOf<u128> for Slices128<V> {
     ghost level_law = { refl };
 }

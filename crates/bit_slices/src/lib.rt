@@ -21,10 +21,8 @@ pub use crate::levels::{Slices8, Slices16, Slices32, Slices64, Slices128};
 pub use crate::moduli::PolynomialBlock;
 pub use crate::pair::Pair;
 pub use crate::polynomials::SlicedPolynomials;
-pub use crate::sliced::Sliced;
-pub use crate::slices::{
-    PolynomialWord, SlicedWord, invert_each, multiply_each, multiply_polynomials_each,
-};
+pub use crate::sliced::{Sliced, SlicesOf};
+pub use crate::slices::{invert_each, multiply_each, multiply_polynomials_each};
 pub use crate::tails::Tail;
 pub use crate::vector::Vector;
 pub use crate::word::TowerWord;

@@ -33,7 +33,7 @@ pub trait PolynomialBlock<V: Vector>: SlicedPolynomials<V> {
     fn multiply_numbers(x: u128, y: u128) -> u128
         ensures { result ≡ mul_mod (2 ^ Self.LEVEL) modulus x y };
 
-    ghost tail_law: { IsTail (2 ^ Self.LEVEL) modulus Self.Tail.number };
+    ghost tail_law: { IsTail (2 ^ Self.LEVEL) modulus Self.Tail.NUMBER };
 }
 
 impl<V: Vector> PolynomialBlock<V> for Slices64<V> {

@@ -7,14 +7,14 @@ ghost use Rattle.field_base.specs.Tower.{tower_mul};
 
 use crate::blocks::load;
 use crate::moduli::{PolynomialBlock, multiply_block};
-use crate::sliced::Sliced;
+use crate::sliced::SlicesOf;
 use crate::vector::Vector;
 use crate::word::TowerWord;
 use field_base::Holds;
 use std::marker::PhantomData;
 
 /// An operation on elements of the level of words.
-pub trait Operation<R: TowerWord, W: Holds<R>, T: Sliced> {
+pub trait Operation<R: TowerWord, W: Holds<R>, T: SlicesOf<R>> {
     // Whether it can be done at a place, which the other words may have to have.
     ghost reaches: { List W → ℕ → Type 0 };
 
@@ -23,15 +23,13 @@ pub trait Operation<R: TowerWord, W: Holds<R>, T: Sliced> {
 
     /// Changes each lane of the block whose words begin at `start`.
     fn change_block(block: &mut T, others: &[W], start: usize)
-        requires level { T.LEVEL ≡ R.LEVEL }
-        requires reaches { (n : ℕ) → n < 128 * T.units → reaches others.now (start + n) }
+        requires { (n : ℕ) → n < 128 * T.units → reaches others.now (start + n) }
         ensures { (q r : ℕ) → q < T.units * R.COUNT → r < 2 ^ R.LEVEL → gives others.now (start + (r * (T.units * R.COUNT) + q))
             (T.lane block.old (q * 2 ^ R.LEVEL + r)) (T.lane block.new (q * 2 ^ R.LEVEL + r)) };
 
     /// What becomes of the word at a place.
     fn result_at(word: W, others: &[W], place: usize) -> W
-        requires level { T.LEVEL ≡ R.LEVEL }
-        requires reaches { reaches others.now place }
+        requires { reaches others.now place }
         ensures { gives others.now place (W.number word) (W.number result) };
 
     /// Whether a block of 128 words takes less than so many words one by one.
@@ -45,10 +43,19 @@ pub trait Operation<R: TowerWord, W: Holds<R>, T: Sliced> {
         → (x y : ℕ) → gives beside n x y → gives others k x y };
 }
 
+// The other word at a place.
+#[inline(always)]
+fn other_at<R: TowerWord, W: Holds<R>>(others: &[W], place: usize) -> R
+    requires { place < length others.now }
+    ensures { (d : W) → R.number result ≡ W.number (get_or others.now place d) }
+{
+    others[place].stored()
+}
+
 /// The product by the other word.
 pub struct Product;
 
-impl<R: TowerWord, W: Holds<R>, T: Sliced> Operation<R, W, T> for Product {
+impl<R: TowerWord, W: Holds<R>, T: SlicesOf<R>> Operation<R, W, T> for Product {
     ghost reaches = { λ others k. k < length others };
 
     ghost gives = { λ others k x y. (d : W) → y ≡ tower_mul R.LEVEL x (W.number (get_or others k d)) };
@@ -63,7 +70,7 @@ impl<R: TowerWord, W: Holds<R>, T: Sliced> Operation<R, W, T> for Product {
 
     #[inline(always)]
     fn result_at(word: W, others: &[W], place: usize) -> W {
-        W::of_stored(word.stored().multiply(others[place].stored()))
+        W::of_stored(word.stored().multiply(other_at::<R, W>(others, place)))
     }
 
     #[inline(always)]
@@ -80,7 +87,7 @@ impl<R: TowerWord, W: Holds<R>, T: Sliced> Operation<R, W, T> for Product {
 /// The inverse, and 0 for 0.
 pub struct Inverse;
 
-impl<R: TowerWord, W: Holds<R>, T: Sliced> Operation<R, W, T> for Inverse {
+impl<R: TowerWord, W: Holds<R>, T: SlicesOf<R>> Operation<R, W, T> for Inverse {
     ghost reaches = { λ others k. Unit {0} };
 
     ghost gives = { λ others k x y. (y < 2 ^ 2 ^ R.LEVEL) × IsInverseOrZero (tower_mul R.LEVEL) x y };
@@ -109,7 +116,7 @@ impl<R: TowerWord, W: Holds<R>, T: Sliced> Operation<R, W, T> for Inverse {
 /// The product of polynomials by the other word, modulo that of the block.
 pub struct PolynomialProduct<V>(PhantomData<V>);
 
-impl<V: Vector, R: TowerWord, W: Holds<R>, T: PolynomialBlock<V>> Operation<R, W, T>
+impl<V: Vector, R: TowerWord, W: Holds<R>, T: SlicesOf<R> + PolynomialBlock<V>> Operation<R, W, T>
     for PolynomialProduct<V> {
     ghost reaches = { λ others k. k < length others };
 
@@ -125,7 +132,7 @@ impl<V: Vector, R: TowerWord, W: Holds<R>, T: PolynomialBlock<V>> Operation<R, W
     #[inline(always)]
     fn result_at(word: W, others: &[W], place: usize) -> W {
         let left = word.stored().to_number();
-        let right = others[place].stored().to_number();
+        let right = other_at::<R, W>(others, place).to_number();
         W::of_stored(R::of_number(T::multiply_numbers(left, right)))
     }
 

@@ -20,9 +20,9 @@ pub trait SlicedPolynomials<V: Vector>: Sliced {
     /// carried on.
     fn add_by_tail<M: Tail>(&mut self, x: &Self, carry: &mut Slices8<V>)
         ensures added { (l : ℕ) → Self.lane self.new l ≡ bit_xor (Self.lane self.old l)
-            (tail_product M.number (Self.lane x.now l) (⟦<Slices8<V> as Sliced>⟧.lane carry.old l) % 2 ^ 2 ^ Self.LEVEL) }
+            (tail_product M.NUMBER (Self.lane x.now l) (⟦<Slices8<V> as Sliced>⟧.lane carry.old l) % 2 ^ 2 ^ Self.LEVEL) }
         ensures carried { (l : ℕ) → ⟦<Slices8<V> as Sliced>⟧.lane carry.new l
-            ≡ tail_product M.number (Self.lane x.now l) (⟦<Slices8<V> as Sliced>⟧.lane carry.old l) / 2 ^ 2 ^ Self.LEVEL };
+            ≡ tail_product M.NUMBER (Self.lane x.now l) (⟦<Slices8<V> as Sliced>⟧.lane carry.old l) / 2 ^ 2 ^ Self.LEVEL };
 }
 
 /// States that each lane has an element of the level.

@@ -84,3 +84,8 @@ pub trait Sliced: Copy {
 
     ghost some_law: { 0 < units };
 }
+
+/// Slices of the level of the words `R`.
+pub trait SlicesOf<R: TowerWord>: Sliced {
+    ghost level_law: { Self.LEVEL ≡ R.LEVEL };
+}

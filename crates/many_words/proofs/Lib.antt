@@ -10,7 +10,6 @@ mod NumberParts
 mod PlacesPut
 mod ScalarImages
 mod ScaledBytes
-mod SlicedWords
 mod TableLanes
 pub mod WordDots
 pub mod WordNumbers

@@ -1,4 +1,4 @@
--- Slices of words whose first words are changed, and fields whose words are changed in planes and in slices of bits.
+-- Slices of words whose first words are changed, and fields whose words are changed in planes.
 use Rattle.std.specs.Prelude.{◌≡◌, ℕ, ◌^◌, ◌<◌, ◌≤◌, List, length, get_or, refl}
 use Rattle.field_base.specs.Tower.{tower_mul}
 use Rattle.additive_transforms.specs.Rows.{level_of}
@@ -13,11 +13,6 @@ pub record IsInPlanes (d size width : ℕ) (product : ℕ → ℕ → ℕ) : Typ
 -- so it is where the field is that level
 pub level_in_planes : (d : ℕ) → 2 ^ level_of d ≤ 128 → IsInPlanes d d (2 ^ level_of d) (tower_mul (level_of d))
 level_in_planes d few = record { size_is = refl; width_is = refl; few = few; product_is = λ x y. refl }
-
--- a field of so many bits and such a product is that of slices of 2 ^ k bits, by their product `times`
-pub record IsInSlices (k width : ℕ) (product times : ℕ → ℕ → ℕ) : Type 0 where
-  pub width_is : width ≡ 2 ^ k
-  pub product_is : (x y : ℕ) → product x y ≡ times x y
 
 -- the first n words stand for these values, and the others for what they stood for
 pub record FirstHold {W : Type 0} (number : W → ℕ) (n : ℕ) (value : ℕ → W → ℕ) (old new : List W) : Type 0 where

@@ -1,20 +1,16 @@
-// Products and inverses of words of a level of the tower, and products of polynomials of 64 bits, by slices of their bits: as many words at
-// once as a vector has bits. Polynomials of 64 and 128 bits are inverted by the level of the tower that is their field.
+// Products and inverses of words of a level of the tower by slices of their bits: as many words at once as a vector has bits. Polynomials of
+// 64 and 128 bits are inverted by the level of the tower that is their field.
 ghost use Rattle.std.specs.Prelude.{◌≡◌, ◌<◌, ◌^◌, ℕ, get_or, length};
 ghost use Rattle.field_base.specs.Basis.{basis_image};
 ghost use Rattle.field_base.specs.Remainder.{mul_mod};
-ghost use Rattle.field_base.specs.Tower.{tower_mul};
 ghost use Rattle.field_base.specs.TowerBasis.{tower_generator};
 ghost use Rattle.many_words.specs.Words.{EachOfTwo, HoldInverses};
 ghost use Rattle.many_words.specs.Fields.{field_of};
-ghost use Rattle.many_words.specs.Places.{IsInSlices};
 
 mod impls;
 
 use crate::bases::{ChangeOfBasis, FromTower, ToTower};
-use bit_slices::{
-    PolynomialWord, SlicedWord, Vector, invert_each, multiply_each, multiply_polynomials_each,
-};
+use bit_slices::{SlicesOf, TowerWord, Vector, invert_each};
 use field_base::{FieldKernel, Holds, Stored, Unsigned};
 use word_polynomial::{Modulus, Polynomials};
 use word_tower::Level;
@@ -38,52 +34,13 @@ pub trait FieldInSlices<R: Stored>: FieldKernel<R> {
         ensures inverses { HoldInverses (field_of W.number Self.width Self.product Self.generator) words.old words.new };
 }
 
-/// Multiplies each product by the word at its place.
-pub(crate) fn multiply_words<R: SlicedWord<V>, W: Holds<R>, K: FieldKernel<R>, V: Vector>(
-    products: &mut [W],
-    words: &[W],
-)
-    requires level { IsInSlices R.TowerWord.LEVEL K.width K.product (tower_mul R.TowerWord.LEVEL) }
-    requires same { length words.now ≡ length products.old }
-    ensures long { length products.new ≡ length products.old }
-    ensures products { EachOfTwo (field_of W.number K.width K.product K.generator) (λ x y z. z ≡ K.product x y) products.old words.now
-        products.new }
-{
-    multiply_each::<V, R, W>(products, words);
-}
-
-/// Multiplies each polynomial by the word at its place.
-pub(crate) fn multiply_polynomials<R: PolynomialWord<V>, W: Holds<R>, K: FieldKernel<R>, V: Vector>(
-    products: &mut [W],
-    words: &[W],
-)
-    requires level { IsInSlices R.TowerWord.LEVEL K.width K.product (mul_mod (2 ^ R.TowerWord.LEVEL) R.Polynomials.modulus) }
-    requires same { length words.now ≡ length products.old }
-    ensures long { length products.new ≡ length products.old }
-    ensures products { EachOfTwo (field_of W.number K.width K.product K.generator) (λ x y z. z ≡ K.product x y) products.old words.now
-        products.new }
-{
-    multiply_polynomials_each::<V, R, W>(products, words);
-}
-
-/// Leaves the inverse of each word, and 0 of 0.
-pub(crate) fn invert_words<R: SlicedWord<V>, W: Holds<R>, K: FieldKernel<R>, V: Vector>(
-    words: &mut [W],
-)
-    requires { IsInSlices R.TowerWord.LEVEL K.width K.product (tower_mul R.TowerWord.LEVEL) }
-    ensures long { length words.new ≡ length words.old }
-    ensures inverses { HoldInverses (field_of W.number K.width K.product K.generator) words.old words.new }
-{
-    invert_each::<V, R, W>(words);
-}
-
 /// Leaves the inverse of each polynomial, and 0 of 0: the image of the inverse in the tower.
 pub(crate) fn invert_images<
-    R: Unsigned + SlicedWord<V>,
+    R: Unsigned + TowerWord,
     W: Holds<R>,
     L: Level<R>,
     M: Modulus<R, L>,
-    V: Vector,
+    T: SlicesOf<R>,
 >(words: &mut [W])
     requires { R.TowerWord.LEVEL ≡ M.LEVEL }
     ensures long { length words.new ≡ length words.old }
@@ -91,7 +48,7 @@ pub(crate) fn invert_images<
         (basis_image M.width M.modulus M.images (tower_generator M.LEVEL))) words.old words.new }
 {
     change_all::<R, W, ToTower<Polynomials<M, L>>>(words);
-    invert_each::<V, R, W>(words);
+    invert_each::<R, W, T>(words);
     change_all::<R, W, FromTower<Polynomials<M, L>>>(words);
 }
 

@@ -3,11 +3,11 @@
 
 use super::{Many, Sizes};
 use crate::bytes::LEAST_IN_VECTORS;
-use crate::in_slices::{LEAST_IN_SLICES, invert_images, multiply_polynomials};
+use crate::in_slices::{LEAST_IN_SLICES, invert_images};
 use crate::mapped_words::polynomial_images;
 use crate::scaled_bytes::LEAST_MAPPED;
 use crate::{bytes, mapped_words, products, scalars, scaled_bytes};
-use bit_slices::Vector;
+use bit_slices::{Slices64, Slices128, Vector, multiply_polynomials_each};
 use field_base::{Holds, Reads};
 use ghash_slices::Width;
 use word_polynomial::{
@@ -65,7 +65,7 @@ impl Many<u64, u64> for Poly64Kernel {
     }
 
     fn multiply_all<V: Width + Vector>(products: &mut [u64], words: &[u64]) {
-        multiply_polynomials::<u64, u64, Poly64Kernel, V>(products, words);
+        multiply_polynomials_each::<V, u64, u64, Slices64<V>>(products, words);
     }
 
     fn multiply_all_by<V: Width>(words: &mut [u64], scalar: u64) {
@@ -79,7 +79,7 @@ impl Many<u64, u64> for Poly64Kernel {
     }
 
     fn invert_all<V: Vector>(words: &mut [u64]) {
-        invert_images::<u64, u64, Bits64, Poly64Modulus, V>(words);
+        invert_images::<u64, u64, Bits64, Poly64Modulus, Slices64<V>>(words);
     }
 }
 
@@ -118,7 +118,7 @@ impl<W: Holds<u128>> Many<u128, W> for GhashKernel {
     }
 
     fn invert_all<V: Vector>(words: &mut [W]) {
-        invert_images::<u128, W, Bits128, GhashModulus, V>(words);
+        invert_images::<u128, W, Bits128, GhashModulus, Slices128<V>>(words);
     }
 
     #[inline]

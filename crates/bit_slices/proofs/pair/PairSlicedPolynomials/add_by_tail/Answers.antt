@@ -9,7 +9,7 @@ returns-clause-added g c l =
     let sum = c.args.self.now in
     let x = c.args.x.now in
     let all =
-    tail_of_pairs g.T.Sliced.LEVEL g.M.Tail.number _ _ (lane x.high l) (lane sum.high l) (fits x.low l) (fits sum.low l)
+    tail_of_pairs g.T.Sliced.LEVEL g.M.Tail.NUMBER _ _ (lane x.high l) (lane sum.high l) (fits x.low l) (fits sum.low l)
     (c.add_by_tail.ensures.carried l) in
     cc (all, c.add_by_tail.ensures.added l, c.add_by_tail-2.ensures.added l)
 
@@ -17,5 +17,5 @@ pub returns-clause-carried : goal.returns-clause-carried
 returns-clause-carried g c l =
     let x = c.args.x.now in
     c.add_by_tail-2.ensures.carried l
-    ∙ carried_by_pairs g.T.Sliced.LEVEL g.M.Tail.number _ _ (g.T.Sliced.lane x.high l) (g.T.Sliced.fits_law x.low l)
+    ∙ carried_by_pairs g.T.Sliced.LEVEL g.M.Tail.NUMBER _ _ (g.T.Sliced.lane x.high l) (g.T.Sliced.fits_law x.low l)
     (c.add_by_tail.ensures.carried l)
