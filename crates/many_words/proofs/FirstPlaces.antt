@@ -1,9 +1,8 @@
--- Slices of words whose first words are changed, many at once and then one after another.
-use Rattle.std.proofs.Common.{◌≡◌, ◌⊎◌, inl, inr, ℕ, ◌+◌, ◌<◌, ◌≤◌, List, [], ◌∷◌, length, get_or, map, refl, sym, ◌∙◌, ap, ap₂, subst, arith}
+-- Slices of words whose first words are changed many at once, and those behind them one after another.
+use Rattle.std.proofs.Common.{◌≡◌, ◌⊎◌, inl, inr, ℕ, ◌+◌, ◌-◌, ◌<◌, ◌≤◌, List, ◌++◌, length, get_or, map, sym, ◌∙◌, ap, ap₂, arith}
 use Rattle.std.specs.Prelude.{bit_xor, slice_index}
-use Rattle.std.proofs.Math.ListN.{set}
 use Rattle.std.proofs.lemmas.Bool.{cases_lt}
-use Rattle.std.proofs.lemmas.List.{get_or-map, get_or_default, get_or-set_other, get_or-set_same, get_or_past, length-map, length-set}
+use Rattle.std.proofs.lemmas.List.{get_or-append_right, get_or-map, get_or_append_left, length-append}
 use Rattle.field_base.specs.Tower.{tower_mul}
 use Rattle.field_base.proofs.TowerRing.{tower_ring}
 use Rattle.additive_transforms.specs.Units.{FirstAre}
@@ -25,52 +24,47 @@ module _ {W : Type 0} (number : W → ℕ) (value : ℕ → W → ℕ) where
             sym (get_or-map number new k d 0 (omega (arith, long, inside))) ∙ kept k past ∙ get_or-map number old k d 0 inside;
       }
 
-  -- one more word
-  pub one_more : (n : ℕ) (old mid new : List W) (word : W) → FirstHold number n value old mid → n < length old → new ≡ set mid n word
-      → ((d : W) → number word ≡ value n d) → FirstHold number (n + 1) value old new
-  one_more n old mid new word are inside is holds =
-      let long = are.long in
-      record {
-        long = ap length is ∙ length-set mid n word ∙ long;
-        few = omega (arith, inside);
-        done = λ k below d. ap (λ (l : List W). number (get_or l k d)) is ∙ changed k d below (cases_lt k n);
-        kept =
-            λ k past within d.
-            ap (λ (l : List W). number (get_or l k d)) is
-            ∙ ap number (get_or-set_other mid n k word d (λ same. absurd (omega (arith, past, same))))
-            ∙ are.kept k (omega (arith, past)) within d;
-      }
+-- those behind the first n words, which are the front of a slice, are changed by themselves: `step` says what becomes of a word at its place
+module _ {W : Type 0} (number : W → ℕ) (step : ℕ → W → ℕ → ℕ) {n : ℕ} {old mid : List W} (front back behind : List W)
+    (first : FirstHold number n (λ k d. step k d (number (get_or old k d))) old mid) (parts : mid ≡ front ++ back) (front_long : length front ≡ n)
+    (back_long : length behind ≡ length back) where
+  -- the slice is as long as it was
+  both_long : length (front ++ behind) ≡ length old
+  both_long =
+      let whole = length-append front behind in
+      let before = length-append front back in
+      let same : length mid ≡ length (front ++ back) = ap length parts in
+      let long = first.long in
+      omega (arith, whole, before, same, long, back_long)
+
+  -- and each word is changed
+  pub both_changed : ((j : ℕ) → j < length behind → (d : W) → number (get_or behind j d) ≡ step (n + j) d (number (get_or back j d)))
+      → (k : ℕ) → k < length (front ++ behind) → (d : W) → number (get_or (front ++ behind) k d) ≡ step k d (number (get_or old k d))
+  both_changed done k inside d = at (cases_lt k n)
     where
-      changed : (k : ℕ) (d : W) → k < n + 1 → (k < n) ⊎ (n ≤ k) → number (get_or (set mid n word) k d) ≡ value k d
-      changed k d below (inl before) =
-          ap number (get_or-set_other mid n k word d (λ same. absurd (omega (arith, before, same)))) ∙ are.done k before d
-      changed k d below (inr past) =
-          let same : n ≡ k = omega (arith, below, past) in
-          let long = are.long in
-          subst (λ (p : ℕ). number (get_or (set mid n word) p d) ≡ value p d) same
-          (ap number (get_or-set_same mid n word d (omega (arith, inside, long))) ∙ holds d)
+      at : (k < n) ⊎ (n ≤ k) → number (get_or (front ++ behind) k d) ≡ step k d (number (get_or old k d))
+      at (inl below) =
+          ap number
+          (get_or_append_left front behind d k (omega (arith, below, front_long))
+          ∙ sym (get_or_append_left front back d k (omega (arith, below, front_long))) ∙ ap (λ (l : List W). get_or l k d) (sym parts))
+          ∙ first.done k below d
+      at (inr past) =
+          let whole = length-append front behind in
+          let all = both_long in
+          let place : n + (k - n) ≡ k = omega (arith, past) in
+          ap number (get_or-append_right front behind n k d front_long past)
+          ∙ done (k - n) (omega (arith, inside, whole, front_long, past)) d
+          ∙ ap₂ (λ (p x : ℕ). step p d x) place
+          (ap number (sym (get_or-append_right front back n k d front_long past) ∙ ap (λ (l : List W). get_or l k d) (sym parts))
+          ∙ first.kept k past (omega (arith, inside, all)) d)
 
-  -- where no place is left, each word is so
-  pub all_hold : (n : ℕ) (old new : List W) → FirstHold number n value old new → length old ≤ n
-      → (k : ℕ) → k < length new → (d : W) → number (get_or new k d) ≡ value k d
-  all_hold n old new are over k inside d =
-      let long = are.long in
-      are.done k (omega (arith, inside, long, over)) d
-
--- numbers of elements fit
-pub all_fit : {W : Type 0} (number : W → ℕ) (words : List W) (bound : ℕ) → 0 < bound
-    → ((k : ℕ) → k < length words → (d : W) → number (get_or words k d) < bound)
-    → (k : ℕ) → slice_index (map number words) k < bound
-all_fit number words bound some fit k = pick words k (fit k) (cases_lt k (length words))
-  where
-    pick : (list : List _) (i : ℕ) → (i < length list → (d : _) → number (get_or list i d) < bound)
-        → (i < length list) ⊎ (length list ≤ i) → slice_index (map number list) i < bound
-    pick [] i each side = some
-    pick (w ∷ list) i each (inl inside) =
-        subst (λ (x : ℕ). x < bound) (sym (get_or-map number (w ∷ list) i w 0 inside)) (each inside w)
-    pick (w ∷ list) i each (inr past) =
-        let long = length-map (w ∷ list) number in
-        subst (λ (x : ℕ). x < bound) (sym (get_or_past (map number (w ∷ list)) i 0 (omega (arith, past, long)))) some
+-- the words behind the first n, at their places
+pub word_behind : {W : Type 0} (n : ℕ) {words : List W} (front back : List W) → words ≡ front ++ back → length front ≡ n → (j : ℕ) (d : W)
+    → get_or back j d ≡ get_or words (n + j) d
+word_behind n {words} front back parts long j d =
+    let place : n + j - n ≡ j = omega arith in
+    sym (ap (λ (l : List _). get_or l (n + j) d) parts ∙ get_or-append_right front back n (n + j) d long (omega arith)
+    ∙ ap (λ (i : ℕ). get_or back i d) place)
 
 -- ---- products by a scalar
 
@@ -106,26 +100,14 @@ module _ {W : Type 0} (number : W → ℕ) (product : ℕ → ℕ → ℕ) (s : 
         (ap (tower_mul k s) (get_or-map number words i d 0 (omega (arith, below, few, same)))
         ∙ sym (is s (number (get_or words i d)))))
 
-  -- one word more
-  module _ (n : ℕ) (old mid : List W) (x word : W) (inside : n < length mid) (read : x ≡ get_or mid n x) where
-    was : (value : ℕ → W → ℕ) → FirstHold number n value old mid → (d : W) → number x ≡ number (get_or old n d)
-    was value are d =
-        let long = are.long in
-        ap number (read ∙ get_or_default mid n x d inside) ∙ are.kept n (omega arith) (omega (arith, inside, long)) d
-
-    pub more_multiplied : FirstHold number n (multiplied old) old mid → number word ≡ product (number x) s
-        → FirstHold number (n + 1) (multiplied old) old (set mid n word)
-    more_multiplied are is =
-        let long = are.long in
-        one_more number (multiplied old) n old mid (set mid n word) word are (omega (arith, inside, long)) refl
-        (λ d. is ∙ ap (λ (v : ℕ). product v s) (was (multiplied old) are d))
-
-    pub more_added : (words : List W) (y : W) → n < length words → y ≡ get_or words n y → FirstHold number n (summed old words) old mid
-        → number word ≡ bit_xor (number x) (product s (number y)) → FirstHold number (n + 1) (summed old words) old (set mid n word)
-    more_added words y within also are is =
-        let long = are.long in
-        one_more number (summed old words) n old mid (set mid n word) word are (omega (arith, inside, long)) refl
-        (λ d.
-        is
-        ∙ ap₂ bit_xor (was (summed old words) are d)
-        (ap (λ (v : W). product s (number v)) (also ∙ get_or_default words n y d within)))
+  -- and the words behind them by themselves, as are the sums of products
+  pub sums_behind : {n : ℕ} {words old mid : List W} (front_words back_words front back behind : List W) → FirstHold number n (summed old words) old mid
+      → mid ≡ front ++ back → length front ≡ n → words ≡ front_words ++ back_words → length front_words ≡ n → length behind ≡ length back
+      → ((j : ℕ) → j < length behind → (d : W)
+      → number (get_or behind j d) ≡ bit_xor (number (get_or back j d)) (product s (number (get_or back_words j d))))
+      → (k : ℕ) → k < length (front ++ behind) → (d : W) → number (get_or (front ++ behind) k d) ≡ summed old words k d
+  sums_behind {n} {words} front_words back_words front back behind first parts long others others_long back_long done =
+      both_changed number (λ k d x. bit_xor x (product s (number (get_or words k d)))) front back behind first parts long back_long
+      (λ j inside d.
+      done j inside d
+      ∙ ap (λ (w : W). bit_xor (number (get_or back j d)) (product s (number w))) (word_behind n front_words back_words others others_long j d))

@@ -1,7 +1,6 @@
 -- Words that are replaced by their images under a linear map, or to which images are added, block by block, and the tables of the map.
-use Rattle.std.proofs.Common.{◌≡◌, ◌⊎◌, inl, inr, ℕ, ◌+◌, ◌*◌, ◌%◌, ◌^◌, ◌<◌, ◌≤◌, List, [], ◌∷◌, length, get_or, set, map, refl, sym, ◌∙◌, ap, ap₂, subst, arith}
+use Rattle.std.proofs.Common.{below_more, ◌≡◌, ℕ, ◌+◌, ◌*◌, ◌%◌, ◌^◌, ◌<◌, ◌≤◌, List, [], ◌∷◌, length, get_or, set, map, refl, sym, ◌∙◌, ap, ap₂, arith}
 use Rattle.std.specs.Prelude.{bit_xor, slice_index}
-use Rattle.std.proofs.lemmas.Bool.{cases_lt}
 use Rattle.std.proofs.lemmas.List.{get_or-set_other, get_or-set_same, map-id}
 use native.Mathlib.Nat.{mod-eq_of_lt, mul-one}
 use lib.Bits.{xor_comm, xor_zero_r}
@@ -72,12 +71,8 @@ pub table_set : {S : Type 0} (entry : S → ℕ → ℕ) (value : ℕ → ℕ �
     → ((v : ℕ) → v < 16 → entry table v ≡ value digit v)
     → ((n v : ℕ) → n < digit → v < 16 → (s : S) → entry (get_or tables n s) v ≡ value n v)
     → (n v : ℕ) → n < digit + 1 → v < 16 → (s : S) → entry (get_or (set tables digit table) n s) v ≡ value n v
-table_set {S} entry value tables digit table inside is before n v below few s = pick (cases_lt n digit)
-  where
-    pick : (n < digit) ⊎ (digit ≤ n) → entry (get_or (set tables digit table) n s) v ≡ value n v
-    pick (inl early) =
-        ap (λ (t : S). entry t v) (get_or-set_other tables digit n table s (λ e. absurd (omega (arith, early, e)))) ∙ before n v early few s
-    pick (inr late) =
-        let here : digit ≡ n = omega (arith, below, late) in
-        subst (λ (p : ℕ). entry (get_or (set tables digit table) p s) v ≡ value p v) here
-        (ap (λ (t : S). entry t v) (get_or-set_same tables digit table s inside) ∙ is v few)
+table_set entry value tables digit table inside is before n v below few s =
+    below_more (λ (i : ℕ). entry (get_or (set tables digit table) i s) v ≡ value i v) digit
+    (λ i early.
+    ap (λ (t : _). entry t v) (get_or-set_other tables digit i table s (λ e. absurd (omega (arith, early, e)))) ∙ before i v early few s)
+    (ap (λ (t : _). entry t v) (get_or-set_same tables digit table s inside) ∙ is v few) n below

@@ -1,7 +1,6 @@
 -- The products of a scalar modulo x^64 + x^4 + x^3 + x + 1 as the values of a linear map.
-use Rattle.std.proofs.Common.{◌≡◌, ◌⊎◌, inl, inr, ℕ, ◌+◌, ◌*◌, ◌%◌, ◌^◌, ◌<◌, ◌≤◌, List, length, set, get_or-set_other, get_or-set_same, refl, sym, ◌∙◌, ap, subst, arith}
+use Rattle.std.proofs.Common.{below_more, ◌≡◌, ℕ, ◌+◌, ◌*◌, ◌%◌, ◌^◌, ◌<◌, List, length, set, get_or-set_other, get_or-set_same, refl, sym, ◌∙◌, ap, subst, arith}
 use Rattle.std.specs.Prelude.{slice_index}
-use Rattle.std.proofs.lemmas.Bool.{cases_lt}
 use Rattle.std.proofs.Math.Nat.{mul-lt-mul_of_pos_right}
 use Rattle.std.proofs.Math.Pow.{pow-lt}
 use Rattle.std.proofs.lemmas.Nat.{pow_pos}
@@ -40,10 +39,7 @@ products_of_images s images long fits are x small =
 -- one image more
 pub image_set : (value : ℕ → ℕ) (images : List ℕ) (bit image : ℕ) → bit < length images → image ≡ value bit
     → ((j : ℕ) → j < bit → slice_index images j ≡ value j) → (j : ℕ) → j < bit + 1 → slice_index (set images bit image) j ≡ value j
-image_set value images bit image inside is before j below = pick (cases_lt j bit)
-  where
-    pick : (j < bit) ⊎ (bit ≤ j) → slice_index (set images bit image) j ≡ value j
-    pick (inl early) = get_or-set_other images bit j image 0 (λ e. absurd (omega (arith, early, e))) ∙ before j early
-    pick (inr late) =
-        let here : bit ≡ j = omega (arith, below, late) in
-        subst (λ (p : ℕ). slice_index (set images bit image) p ≡ value p) here (get_or-set_same images bit image 0 inside ∙ is)
+image_set value images bit image inside is before =
+    below_more (λ (j : ℕ). slice_index (set images bit image) j ≡ value j) bit
+    (λ j early. get_or-set_other images bit j image 0 (λ e. absurd (omega (arith, early, e))) ∙ before j early)
+    (get_or-set_same images bit image 0 inside ∙ is)

@@ -4,9 +4,10 @@ ghost use Rattle.field_base.specs.Remainder.{aes_modulus, mul_mod};
 ghost use Rattle.many_words.specs.Words.{EachOfTwo};
 ghost use Rattle.many_words.specs.Fields.{rijndael_field};
 
+use crate::one_by_one::change_all_by;
+use crate::operations::Product;
 use std::simd::prelude::*;
-use word_polynomial::multiply_32_bytes;
-use word_tables::rijndael;
+use word_polynomial::{RijndaelKernel, multiply_32_bytes};
 
 /// The least number of bytes that fill a vector.
 pub(crate) const LEAST_IN_VECTORS: usize = 32;
@@ -25,7 +26,8 @@ pub(crate) fn multiply_all(products: &mut [u8], bytes: &[u8])
         let others = u8x32::from_slice(&bytes[start..]);
         multiply_32_bytes(factors, others).copy_to_slice(&mut products[start..]);
     }
-    for place in 32 * blocks..products.len() {
-        products[place] = rijndael::multiply(products[place], bytes[place]);
-    }
+    let done = 32 * blocks;
+    let (_, rest) = products.split_at_mut(done);
+    let (_, others) = bytes.split_at(done);
+    change_all_by::<u8, u8, RijndaelKernel, Product>(rest, others, &Product);
 }

@@ -7,7 +7,8 @@ ghost use Rattle.many_words.specs.Places.{IsInPlanes};
 
 mod impls;
 
-use crate::fields;
+use crate::one_by_one::{change_all_by, multiply_each_by};
+use crate::operations::ScaledSum;
 use additive_transforms::{PlaneScalars, WordBytes, WordPlanes, add_multiples, multiply_words};
 use field_base::{FieldKernel, Holds, Unsigned};
 
@@ -38,9 +39,8 @@ pub(crate) fn multiply_all<R: Unsigned, W: WordBytes<R>, K: FieldInPlanes<R, W>>
 {
     let multiples = multiples_of::<R, W, K>(scalar);
     let done = multiply_words::<R, W, K::Multiples, K::Vectors>(words, &multiples);
-    for place in done..words.len() {
-        words[place] = fields::multiply::<R, W, K>(words[place], scalar);
-    }
+    let (_, rest) = words.split_at_mut(done);
+    multiply_each_by::<R, W, K>(rest, scalar);
 }
 
 /// Adds to each sum the product of the scalar, an element, and the word at its place. The slices are of one length.
@@ -57,10 +57,9 @@ pub(crate) fn add_all<R: Unsigned, W: WordBytes<R>, K: FieldInPlanes<R, W>>(
     let multiples = multiples_of::<R, W, K>(scalar);
     W::numbers_fit(sums);
     let done = add_multiples::<R, W, K::Multiples, K::Vectors>(sums, words, &multiples);
-    for place in done..sums.len() {
-        let product = fields::multiply::<R, W, K>(scalar, words[place]);
-        sums[place] = fields::add::<R, W>(sums[place], product);
-    }
+    let (_, rest) = sums.split_at_mut(done);
+    let (_, others) = words.split_at(done);
+    change_all_by::<R, W, K, ScaledSum<W>>(rest, others, &ScaledSum { scalar });
 }
 
 // The multiples of a scalar, an element.

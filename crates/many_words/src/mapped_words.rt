@@ -7,7 +7,8 @@ ghost use Rattle.many_words.specs.Words.{Each, EachOfTwo};
 ghost use Rattle.many_words.specs.Fields.{field_of};
 
 use crate::entries::Entries;
-use crate::fields;
+use crate::one_by_one::{change_all_by, multiply_each_by};
+use crate::operations::ScaledSum;
 use crate::word_maps::{add_images, map_words, set_tables};
 use additive_transforms::{ByteMultiples, HalfMultiples, Pair, WordBytes};
 use field_base::FieldKernel;
@@ -38,9 +39,8 @@ pub(crate) fn multiply_all<K: FieldKernel<u64>, W: WordBytes<u64>>(
     let mut tables = [<Planes as Entries<Multiples>>::zeros(); 16];
     set_tables::<Multiples, Planes>(&mut tables, images);
     let done = map_words::<u64, W, Multiples, Planes>(words, &tables);
-    for place in done..words.len() {
-        words[place] = fields::multiply::<u64, W, K>(words[place], scalar);
-    }
+    let (_, rest) = words.split_at_mut(done);
+    multiply_each_by::<u64, W, K>(rest, scalar);
 }
 
 /// Adds to each sum the product of the scalar, whose products with the bits are the images, and the word at its place. The
@@ -62,10 +62,9 @@ pub(crate) fn add_all<K: FieldKernel<u64>, W: WordBytes<u64>>(
     set_tables::<Multiples, Planes>(&mut tables, images);
     W::numbers_fit(sums);
     let done = add_images::<u64, W, Multiples, Planes>(sums, words, &tables);
-    for place in done..sums.len() {
-        let product = fields::multiply::<u64, W, K>(scalar, words[place]);
-        sums[place] = fields::add::<u64, W>(sums[place], product);
-    }
+    let (_, rest) = sums.split_at_mut(done);
+    let (_, others) = words.split_at(done);
+    change_all_by::<u64, W, K, ScaledSum<W>>(rest, others, &ScaledSum { scalar });
 }
 
 /// The products of a scalar and each bit, as polynomials modulo x^64 + x^4 + x^3 + x + 1.

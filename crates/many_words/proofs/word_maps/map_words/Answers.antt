@@ -4,16 +4,15 @@ use Rattle.many_words.proofs.MapSteps.{block_mapped}
 use Rattle.many_words.proofs.word_maps.map_words.Goals as goal
 
 pub loop-block-preserved : goal.loop-block-preserved
-loop-block-preserved g c =
-    let within = c.loop-block-test.true in (
-      c.scatter.ensures.length ∙ c.loop-block.invariant.0,
-      λ f are.
-          block_mapped g.S.Planes.depth g.W.WordBytes.size g.S.Planes.lanes c.loop-block.block f c.requires.size g.met.S.Entries.sixteen_law
-          (g.S.Planes.lane c.gather.result) _ _ (map g.W.Reads.number c.args.words.now)
-          (map g.W.Reads.number c.loop-block.words) (map g.W.Reads.number c.scatter.new.words) (c.loop-block.invariant.1 f are)
-          c.gather.ensures c.zeros-images.ensures (c.add_images.ensures f 0 are) c.scatter.ensures.words,
-      omega (arith, within),
-    )
+loop-block-preserved g c = (
+  c.scatter.ensures.length ∙ c.loop-block.invariant.0,
+  λ f are.
+      block_mapped g.S.Planes.depth g.W.WordBytes.size g.S.Planes.lanes c.loop-block.block f c.requires.size g.met.S.Entries.sixteen_law
+      (g.S.Planes.lane c.gather.result) _ _ (map g.W.Reads.number c.args.words.now)
+      (map g.W.Reads.number c.loop-block.words) (map g.W.Reads.number c.scatter.new.words) (c.loop-block.invariant.1 f are)
+      c.gather.ensures c.zeros-images.ensures (c.add_images.ensures f 0 are) c.scatter.ensures.words,
+  omega (arith, c.loop-block-test.true),
+)
 
 pub returns-clause-images : goal.returns-clause-images
 returns-clause-images g c f are =
