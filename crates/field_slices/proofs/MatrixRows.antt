@@ -146,9 +146,9 @@ module _ {V : Type 0} {number : V → ℕ} {columns : ℕ} {wanted : ℕ → ℕ
 -- ---- parts of a matrix
 
 -- the rows from one on are those of a matrix
-pub rows_behind : (rows columns row start len rest : ℕ) → HasMatrixRow rows columns row len → start ≡ row * columns → rest + start ≡ len
+pub rows_behind : {rows columns row start len rest : ℕ} → HasMatrixRow rows columns row len → start ≡ row * columns → rest + start ≡ len
     → HasMatrixRow (rows - row) columns 0 rest
-rows_behind rows columns row start len rest has at parts =
+rows_behind {rows} {columns} {row} {start} {len} {rest} has at parts =
     let within = has.row_within in
     let long = has.shape in
     let all : rows ≡ row + (rows - row) = omega (arith, within) in
@@ -306,12 +306,12 @@ module _ {V : Type 0} (number : V → ℕ) where
         added_row matrix j = bit_xor (entry_of number columns matrix to j) (times s (entry_of number columns matrix from j))
 
         -- of an earlier row, to the first one behind a place where the matrix was split
-        pub earlier_added : (matrix front back back' values : List V) → matrix ≡ front ++ back → length front ≡ to * columns → from < to
+        pub earlier_added : (front values : List V) {matrix back back' : List V} → matrix ≡ front ++ back → length front ≡ to * columns → from < to
             → ((j : ℕ) → j < columns → slice_index (map number values) j ≡ entry_of number columns front from j)
             → IsRowWritten number columns 0
             (λ j. bit_xor (entry_of number columns back 0 j) (times s (slice_index (map number values) j))) back back'
             → IsRowWritten number columns to (added_row matrix) matrix (front ++ back')
-        earlier_added matrix front back back' values parts long earlier are write =
+        earlier_added front values {matrix} {back} {back'} parts long earlier are write =
             subst (λ (l : List V). IsRowWritten number columns to (added_row l) l (front ++ back')) (sym parts)
             (back_written to _ (added_row (front ++ back)) front back back' long
             (λ j inside.
@@ -319,12 +319,12 @@ module _ {V : Type 0} (number : V → ℕ) where
             (are j inside ∙ sym (entry_front to from j front back long earlier inside))) write)
 
         -- of the first row behind that place, to an earlier one
-        pub later_added : (matrix front front' back values : List V) → matrix ≡ front ++ back → length front ≡ from * columns → to < from
+        pub later_added : (back values : List V) {matrix front front' : List V} → matrix ≡ front ++ back → length front ≡ from * columns → to < from
             → ((j : ℕ) → j < columns → slice_index (map number values) j ≡ entry_of number columns back 0 j)
             → IsRowWritten number columns to
             (λ j. bit_xor (entry_of number columns front to j) (times s (slice_index (map number values) j))) front front'
             → IsRowWritten number columns to (added_row matrix) matrix (front' ++ back)
-        later_added matrix front front' back values parts long later are write =
+        later_added back values {matrix} {front} {front'} parts long later are write =
             subst (λ (l : List V). IsRowWritten number columns to (added_row l) l (front' ++ back)) (sym parts)
             (front_written from to _ (added_row (front ++ back)) front front' back long later
             (λ j inside.

@@ -104,62 +104,24 @@ pub(crate) fn add_scaled_row<S: Scalars>(
     ensures { IsRowWritten S.number shape.columns to (λ j. bit_xor (entry_of S.number shape.columns matrix.old to j)
         (S.product (S.number scalar) (entry_of S.number shape.columns matrix.old from j))) matrix.old matrix.new }
 {
-    if from < to {
-        add_earlier_row::<S>(matrix, shape, to, from, scalar);
-    } else {
-        add_later_row::<S>(matrix, shape, to, from, scalar);
-    }
-}
-
-// The same where row `from` is an earlier one: the matrix is split in front of row `to`.
-fn add_earlier_row<S: Scalars>(
-    matrix: &mut [S::Value],
-    shape: Shape,
-    to: usize,
-    from: usize,
-    scalar: S::Value,
-)
-    requires to { HasMatrixRow shape.rows shape.columns to (length matrix.old) }
-    requires earlier { from < to }
-    ensures { IsRowWritten S.number shape.columns to (λ j. bit_xor (entry_of S.number shape.columns matrix.old to j)
-        (S.product (S.number scalar) (entry_of S.number shape.columns matrix.old from j))) matrix.old matrix.new }
-{
-    let start = row_start(matrix.len(), shape, to);
+    // The matrix is split in front of the later one of the two rows.
     let Shape { rows, columns } = shape;
-    let earlier = Shape { rows: to, columns };
-    let later = Shape {
-        rows: rows - to,
-        columns,
-    };
+    let split = to.max(from);
+    let start = row_start(matrix.len(), shape, split);
     let (front, back) = matrix.split_at_mut(start);
-    add_to_row::<S>(back, later, 0, scalar, row_of::<S>(front, earlier, from));
-}
-
-// The same where row `from` is a later one: the matrix is split in front of it.
-fn add_later_row<S: Scalars>(
-    matrix: &mut [S::Value],
-    shape: Shape,
-    to: usize,
-    from: usize,
-    scalar: S::Value,
-)
-    requires from { HasMatrixRow shape.rows shape.columns from (length matrix.old) }
-    requires later { to < from }
-    ensures { IsRowWritten S.number shape.columns to (λ j. bit_xor (entry_of S.number shape.columns matrix.old to j)
-        (S.product (S.number scalar) (entry_of S.number shape.columns matrix.old from j))) matrix.old matrix.new }
-{
-    let start = row_start(matrix.len(), shape, from);
-    let Shape { rows, columns } = shape;
     let earlier = Shape {
-        rows: from,
+        rows: split,
         columns,
     };
     let later = Shape {
-        rows: rows - from,
+        rows: rows - split,
         columns,
     };
-    let (front, back) = matrix.split_at_mut(start);
-    add_to_row::<S>(front, earlier, to, scalar, row_of::<S>(back, later, 0));
+    if from < to {
+        add_to_row::<S>(back, later, 0, scalar, row_of::<S>(front, earlier, from));
+    } else {
+        add_to_row::<S>(front, earlier, to, scalar, row_of::<S>(back, later, 0));
+    }
 }
 
 // Multiplies a row by `scalar`.
