@@ -22,7 +22,7 @@ product-same : (times : ℕ → ℕ → ℕ) (n : ℕ) (A B C D : ℕ → ℕ �
 product-same times n A B C D i j left right =
     sum_below-same (λ k. times (A i k) (B k j)) (λ k. times (C i k) (D k j)) n (λ k within. ap₂ times (left k within) (right k within))
 
-module _ (width : ℕ) (times : ℕ → ℕ → ℕ) (ring : IsRing width 1 times) (wide : 0 < width) (n : ℕ) (A : ℕ → ℕ → ℕ) where
+module _ {width : ℕ} {times : ℕ → ℕ → ℕ} (ring : IsRing width 1 times) (wide : 0 < width) (n : ℕ) (A : ℕ → ℕ → ℕ) where
   identity-lt : (i j : ℕ) → identity_entry i j < 2 ^ width
   identity-lt i j =
       elim (cases_eq i j) [
@@ -53,7 +53,7 @@ module _ (width : ℕ) (times : ℕ → ℕ → ℕ) (ring : IsRing width 1 time
       ∙ ap (λ (m : ℕ). power_entry times n A m i j) more
 
   -- what stands for the power of half an exponent, squared, and times A once more
-  module _ (exponent : ℕ) (half square : ℕ → ℕ → ℕ)
+  module _ (exponent : ℕ) {half square : ℕ → ℕ → ℕ}
       (is_half : (i j : ℕ) → i < n → j < n → half i j ≡ power_entry times n A (exponent / 2) i j)
       (is_square : (i j : ℕ) → i < n → j < n → square i j ≡ product_entry times n half half i j) where
     squared : (i j : ℕ) → i < n → j < n → square i j ≡ power_entry times n A (exponent / 2 + exponent / 2) i j

@@ -13,22 +13,16 @@ returns-then-exponent-eq0-clause-power g t c =
 
 pub returns-then-exponent-eq0-2-clause-power : goal.returns-then-exponent-eq0-2-clause-power
 returns-then-exponent-eq0-2-clause-power g t c =
-    let scalars = g.S.Scalars in
-    let law = g.met.S.Scalars in
-    let entries = entry_of scalars.number c.args.size in
+    let entries = entry_of g.S.Scalars.number c.args.size in
     λ i j inside within.
     ap (λ (xs : List _). entries xs i j) c.copy_from_slice.ensures.after
-    ∙ power-even scalars.width scalars.product law.field_law.ring law.wide_law c.args.size (entries c.args.base.now) c.args.exponent
-    (entries c.power_into.new.target) (entries c.multiply_into.new.target) c.power_into.ensures.power c.multiply_into.ensures.product
-    (omega arith) i j inside within
+    ∙ power-even g.met.S.Scalars.field_law.ring g.met.S.Scalars.wide_law c.args.size (entries c.args.base.now) c.args.exponent
+    c.power_into.ensures.power c.multiply_into.ensures.product (omega arith) i j inside within
 
 pub returns-else-exponent-eq0-2-clause-power : goal.returns-else-exponent-eq0-2-clause-power
 returns-else-exponent-eq0-2-clause-power g t c =
-    let scalars = g.S.Scalars in
-    let law = g.met.S.Scalars in
-    let entries = entry_of scalars.number c.args.size in
+    let entries = entry_of g.S.Scalars.number c.args.size in
     λ i j inside within.
     c.multiply_into-else-exponent-eq0-2.ensures.product i j inside within
-    ∙ power-odd scalars.width scalars.product law.field_law.ring law.wide_law c.args.size (entries c.args.base.now) c.args.exponent
-    (entries c.power_into.new.target) (entries c.multiply_into.new.target) c.power_into.ensures.power c.multiply_into.ensures.product
-    (omega arith) i j inside within
+    ∙ power-odd g.met.S.Scalars.field_law.ring g.met.S.Scalars.wide_law c.args.size (entries c.args.base.now) c.args.exponent
+    c.power_into.ensures.power c.multiply_into.ensures.product (omega arith) i j inside within
