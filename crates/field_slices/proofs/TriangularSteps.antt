@@ -89,20 +89,6 @@ module _ (width : ℕ) (times : ℕ → ℕ → ℕ) (ring : IsRing width 1 time
 
   module _ {column : ℕ} {A : ℕ → ℕ → ℕ} {place : ℕ → ℕ} {L U : ℕ → ℕ → ℕ}
       (so_far : IsDecomposition times rows columns column A place L U) where
-    -- a column that is 0 from its row on is done
-    pub decomposition-skips : ((i : ℕ) → column ≤ i → i < rows → U i column ≡ 0) → IsDecomposition times rows columns (column + 1) A place L U
-    decomposition-skips none =
-        record {
-          lower = so_far.lower;
-          rest = λ i j inside past below. so_far.rest i j inside (omega (arith, past)) below;
-          upper = λ i j order inside before.
-              elim (cases_eq j column) [
-                | inl same ↦ ap (U i) same ∙ none i (omega (arith, same, order)) inside
-                | inr other ↦ so_far.upper i j order inside (omega (arith, other, before))
-              ];
-          product = so_far.product;
-        }
-
     -- two rows from row `column` on exchange what they have in U, and in the columns of L before `column`
     module _ (row : ℕ) (order : column ≤ row) (row_inside : row < rows) (column_inside : column < columns) (place' : ℕ → ℕ)
         (L' U' : ℕ → ℕ → ℕ) (placed : (i : ℕ) → place' i ≡ place (exchanged column row i))

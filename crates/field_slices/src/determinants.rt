@@ -1,5 +1,5 @@
 // Determinants, by elimination.
-ghost use Rattle.std.specs.Prelude.{◌≡◌, ◌+◌, ◌-◌, ◌*◌, ℕ, IfSome, IsNone, length};
+ghost use Rattle.std.specs.Prelude.{◌≡◌, ◌+◌, ◌-◌, ◌*◌, IfSome, IsNone, length};
 ghost use Rattle.field_slices.specs.Determinants.{corner_entry, determinant_of};
 ghost use Rattle.field_slices.specs.Matrices.{HasMatrixEntry, entry_of};
 

@@ -1,6 +1,6 @@
 // Products and transposes of matrices.
 ghost use Rattle.std.specs.Prelude.{◌≡◌, ◌*◌, ◌<◌, ℕ, length};
-ghost use Rattle.field_slices.specs.Matrices.{HasMatrixEntry, HasMatrixRow, IsMatrixProduct, IsRowWritten, entry_of, product_entry};
+ghost use Rattle.field_slices.specs.Matrices.{HasMatrixRow, IsMatrixProduct, IsRowWritten, entry_of, product_entry};
 
 use crate::rows::{Shape, add_to_row, entry, row_of, set_entry};
 use crate::scalars::Scalars;
