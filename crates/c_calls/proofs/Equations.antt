@@ -4,7 +4,7 @@ use Rattle.std.specs.Prelude.{slice_index}
 use Rattle.field_base.specs.Basis.{sum_below}
 use Rattle.field_base.proofs.BasisSums.{sum_below-same}
 use Rattle.field_slices.specs.Matrices.{AreInverseMatrices, IsSolution, entry_of, put_entry}
-use Rattle.field_slices.proofs.MatrixRows.{put-before, put-inside}
+use Rattle.field_slices.proofs.MatrixRows.{put-before, put-inside, put-whole}
 use Rattle.many_words.specs.Words.{AreElements}
 use Rattle.many_words.specs.Fields.{WordField}
 use Rattle.c_calls.specs.Matrices.{AreSolved, entries}
@@ -34,35 +34,35 @@ module _ {W : Type 0} (field : WordField W) where
 
   -- an entry of it where it was put into the first columns
   pub first_entry : (columns count : ℕ) (words old : List W) → AreElements field words → (put : ℕ → ℕ → ℕ) (i j : ℕ) → j < count
-      → put i j ≡ put_entry 0 count (entry_of low count words i) (entry_of low columns old i) j
+      → put i j ≡ put_entry 0 count (λ k. entry_of low count words i (0 + k)) (entry_of low columns old i) j
       → put i j ≡ entries field count words i j
   first_entry columns count words old fits put i j inside is =
-      let own : j - 0 ≡ j = omega arith in
+      let first : 0 + j ≡ j = omega arith in
       is
-      ∙ put-inside 0 count (entry_of low count words i) (entry_of low columns old i) j (omega arith) (omega (arith, inside))
-      ∙ ap (entry_of low count words i) own ∙ low_entry count words fits i j
+      ∙ put-whole count (λ k. entry_of low count words i (0 + k)) (entry_of low columns old i) j inside
+      ∙ ap (entry_of low count words i) first ∙ low_entry count words fits i j
 
   module _ (rows columns : ℕ) (words right : List W) (words_fit : AreElements field words) (right_fit : AreElements field right)
       (before first both : List W)
       (put : (i j : ℕ) → i < rows → j < columns + 1 → entry_of low (columns + 1) first i j
-      ≡ put_entry 0 columns (entry_of low columns words i) (entry_of low (columns + 1) before i) j)
+      ≡ put_entry 0 columns (λ k. entry_of low columns words i (0 + k)) (entry_of low (columns + 1) before i) j)
       (put' : (i j : ℕ) → i < rows → j < columns + 1 → entry_of low (columns + 1) both i j
-      ≡ put_entry columns 1 (entry_of low 1 right i) (entry_of low (columns + 1) first i) j) where
+      ≡ put_entry columns 1 (λ k. entry_of low 1 right i (0 + k)) (entry_of low (columns + 1) first i) j) where
     -- the coefficients
     coefficient : (i j : ℕ) → i < rows → j < columns → entry_of low (columns + 1) both i j ≡ entries field columns words i j
     coefficient i j inside within =
         put' i j inside (omega (arith, within))
-        ∙ put-before columns 1 (entry_of low 1 right i) (entry_of low (columns + 1) first i) j within
+        ∙ put-before columns 1 (λ k. entry_of low 1 right i (0 + k)) (entry_of low (columns + 1) first i) j within
         ∙ first_entry (columns + 1) columns words before words_fit (entry_of low (columns + 1) first) i j within
         (put i j inside (omega (arith, within)))
 
     -- the right sides
     right_side : (i : ℕ) → i < rows → entry_of low (columns + 1) both i columns ≡ slice_index (map field.number right) i
     right_side i inside =
-        let none : columns - columns ≡ 0 = omega arith in
+        let none : 0 + (columns - columns) ≡ 0 = omega arith in
         let at : i * 1 + 0 ≡ i = omega arith in
         put' i columns inside (omega arith)
-        ∙ put-inside columns 1 (entry_of low 1 right i) (entry_of low (columns + 1) first i) columns (omega arith) (omega arith)
+        ∙ put-inside columns 1 (λ k. entry_of low 1 right i (0 + k)) (entry_of low (columns + 1) first i) columns (omega arith) (omega arith)
         ∙ ap (entry_of low 1 right i) none
         ∙ ap (slice_index (map low right)) at
         ∙ ap (λ (ns : List ℕ). slice_index ns i) (low_elements field right right_fit)

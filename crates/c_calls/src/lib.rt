@@ -4,42 +4,33 @@
 //! takes memory.
 #![tactic(auto)]
 
-mod batch;
-mod determinants;
 mod erasure;
 pub mod in_place;
-mod inverses;
 mod linear;
 mod many;
 pub mod matrices;
 mod messages;
 mod numbers;
 pub mod operations;
-mod polynomials;
-mod products;
-mod reductions;
 mod scalars;
 mod shapes;
 mod shards;
 pub mod slices;
 pub mod status;
-mod systems;
 mod transforms;
 mod wide;
 mod words;
 
-pub use crate::batch::batch_invert;
 pub use crate::erasure::{erasure_encode, erasure_reconstruct, erasure_space, erasure_verify};
 pub use crate::linear::{map_bytes, map_wide};
 pub use crate::many::{
-    add_scaled, dot_product, invert, invert_in_place, multiply, multiply_by, multiply_by_in_place,
-    multiply_in_place,
+    add_scaled, batch_invert, dot_product, evaluate, invert, invert_in_place, multiply,
+    multiply_by, multiply_by_in_place, multiply_in_place,
 };
 pub use crate::messages::{
     gcm_ghash, gcm_ghash_final, hash, hash_prepare, hash_update, hash_update_padded,
     hash_update_prepared, tags_are_equal,
 };
-pub use crate::polynomials::evaluate;
 pub use crate::scalars::{Words, truncate_all, truncated};
 pub use crate::shards::{
     add_shard, encode, encode_prepared, prepare, reconstruct, reconstruct_data, tables_length,

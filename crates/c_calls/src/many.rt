@@ -1,8 +1,12 @@
 // Calls over many words of a field: each compares lengths, looks at each word and returns a status, and what computes the words stands in
 // `many_words`, once for all fields.
-ghost use Rattle.c_calls.specs.Calls.{AddsScaled, Inverts, Multiplies, MultipliesBy, TakesDotProduct};
+ghost use Rattle.std.specs.Prelude.{◌≡◌, length};
+ghost use Rattle.field_base.specs.Powers.{value_of};
+ghost use Rattle.c_calls.specs.Calls.{AddsScaled, Evaluates, Inverts, Multiplies, MultipliesBy, TakesDotProduct};
 ghost use Rattle.many_words.specs.Fields.{field_of};
+ghost use Rattle.many_words.specs.Words.{AreElements, HoldInverses, IsElement};
 
+use crate::scalars::{Words, truncate_all, truncated};
 use crate::slices::{are_elements, write_each, write_each_of_two};
 use crate::status;
 use bit_slices::Vector;
@@ -167,4 +171,74 @@ pub fn invert_in_place<R: Stored, W: Holds<R>, K: Many<R, W>, V: Vector>(words: 
     }
     many_words::invert::<R, W, K, V>(words);
     status::OK
+}
+
+/// Writes the inverse of each word, and 0 for 0. Few words are a batch where that takes less: the inverse of one product, and three products
+/// a word. It takes no memory.
+#[inline]
+pub fn batch_invert<R: Stored, W: Holds<R>, K: Many<R, W>, V: Width + Vector>(
+    words: &[W],
+    inverses: &mut [W],
+) -> u32
+    ensures { Inverts (field_of W.number K.width K.product K.generator) words.now inverses.old inverses.new result }
+{
+    if words.len() >= K::LEAST_IN_BATCH {
+        return invert::<R, W, K, V>(words, inverses);
+    }
+    if words.len() != inverses.len() {
+        return status::LENGTH;
+    }
+    if !are_elements::<R, W, K>(words) {
+        return status::NOT_AN_ELEMENT;
+    }
+    write_inverses::<R, W, K, V>(words, inverses);
+    status::OK
+}
+
+// The same of words that are elements.
+#[inline]
+fn write_inverses<R: Stored, W: Holds<R>, K: Many<R, W>, V: Width + Vector>(
+    words: &[W],
+    inverses: &mut [W],
+)
+    requires long { length inverses.old ≡ length words.now }
+    requires elements { AreElements (field_of W.number K.width K.product K.generator) words.now }
+    ensures { HoldInverses (field_of W.number K.width K.product K.generator) words.now inverses.new }
+{
+    field_slices::inverses_into::<Words<R, W, K, V>>(words, inverses);
+    truncate_all::<R, W, K>(inverses);
+}
+
+/// Writes the value at each point of the polynomial with these coefficients, the constant one first. From 512 coefficients on it goes by
+/// blocks of 128 and the power x^128 of a point, so that the products of a block are by one scalar.
+#[inline]
+pub fn evaluate<R: Stored, W: Holds<R>, K: Many<R, W>, V: Width + Vector>(
+    coefficients: &[W],
+    points: &[W],
+    values: &mut [W],
+) -> u32
+    ensures { Evaluates (field_of W.number K.width K.product K.generator) coefficients.now points.now values.old values.new result }
+{
+    if points.len() != values.len() {
+        return status::LENGTH;
+    }
+    if !are_elements::<R, W, K>(coefficients) || !are_elements::<R, W, K>(points) {
+        return status::NOT_AN_ELEMENT;
+    }
+    for place in 0..values.len() {
+        values[place] = value_at::<R, W, K, V>(coefficients, points[place]);
+    }
+    status::OK
+}
+
+// The value at a point of the polynomial with these coefficients.
+fn value_at<R: Stored, W: Holds<R>, K: Many<R, W>, V: Width + Vector>(
+    coefficients: &[W],
+    point: W,
+) -> W
+    requires coefficients { AreElements (field_of W.number K.width K.product K.generator) coefficients.now }
+    requires point { IsElement (field_of W.number K.width K.product K.generator) point }
+    ensures { W.number result ≡ value_of 1 K.product W.number coefficients.now (W.number point) }
+{
+    truncated::<R, W, K>(field_slices::value_at::<Words<R, W, K, V>>(coefficients, point))
 }

@@ -1,6 +1,237 @@
 // Products, eliminations, inverses, determinants and linear equations of matrices of words, over any field, row after row in a slice.
-pub use crate::determinants::determinant;
-pub use crate::inverses::inverse;
-pub use crate::products::multiply;
-pub use crate::reductions::{rank, row_reduce};
-pub use crate::systems::solve;
+ghost use Rattle.std.specs.Prelude.{◌≡◌, ◌↔◌, IsTrue, length};
+ghost use Rattle.many_words.specs.Fields.{field_of};
+ghost use Rattle.c_calls.specs.Matrices.{HaveEquationLengths, InvertsMatrix, MultipliesMatrices, ReducesRows, SolvesEquations};
+ghost use Rattle.c_calls.specs.Matrices.{TakesDeterminant, TakesRank};
+
+use crate::shapes::has_shape;
+use crate::slices::are_elements;
+use crate::{Words, status, truncate_all, truncated};
+use bit_slices::Vector;
+use field_base::{Holds, Stored};
+use field_slices::matrices::{
+    ColumnCopy, copy_columns, invert_beside, multiply_into, solve_augmented,
+};
+use ghash_slices::Width;
+use many_words::Many;
+
+/// Writes the product of `left`, of `rows` rows of `inner` words, and `right`, of `inner` rows of `columns` words.
+pub fn multiply<R: Stored, W: Holds<R>, K: Many<R, W>, V: Width + Vector>(
+    left: &[W],
+    right: &[W],
+    product: &mut [W],
+    rows: u64,
+    inner: u64,
+    columns: u64,
+) -> u32
+    ensures { MultipliesMatrices (field_of W.number K.width K.product K.generator) rows inner columns left.now right.now product.old
+        product.new result }
+{
+    let (rows, inner, columns) = (rows as usize, inner as usize, columns as usize);
+    if !has_shape(left.len(), rows, inner)
+        || !has_shape(right.len(), inner, columns)
+        || !has_shape(product.len(), rows, columns)
+    {
+        return status::LENGTH;
+    }
+    if !are_elements::<R, W, K>(left) || !are_elements::<R, W, K>(right) {
+        return status::NOT_AN_ELEMENT;
+    }
+    multiply_into::<Words<R, W, K, V>>(product, left, right, rows, inner, columns);
+    truncate_all::<R, W, K>(product);
+    status::OK
+}
+
+/// Brings a matrix of `rows` rows of `columns` words to reduced row echelon form, and writes its rank. The first so many places of
+/// `pivots`, which has a place for each row, are the columns of the leading entries.
+pub fn row_reduce<R: Stored, W: Holds<R>, K: Many<R, W>, V: Width + Vector>(
+    matrix: &mut [W],
+    rows: u64,
+    columns: u64,
+    pivots: &mut [usize],
+    rank: &mut usize,
+) -> u32
+    ensures { ReducesRows (field_of W.number K.width K.product K.generator) rows columns matrix.old pivots.old rank.old matrix.new
+        pivots.new rank.new result }
+{
+    let (rows, columns) = (rows as usize, columns as usize);
+    if !has_shape(matrix.len(), rows, columns) || pivots.len() != rows {
+        return status::LENGTH;
+    }
+    if !are_elements::<R, W, K>(matrix) {
+        return status::NOT_AN_ELEMENT;
+    }
+    *rank = field_slices::matrices::row_reduce::<Words<R, W, K, V>>(matrix, rows, columns, pivots);
+    truncate_all::<R, W, K>(matrix);
+    status::OK
+}
+
+/// Writes the rank of a matrix of `rows` rows of `columns` words, in as much space, and a place for each row.
+pub fn rank<R: Stored, W: Holds<R>, K: Many<R, W>, V: Width + Vector>(
+    matrix: &[W],
+    rows: u64,
+    columns: u64,
+    space: &mut [W],
+    places: &mut [usize],
+    rank: &mut usize,
+) -> u32
+    ensures { TakesRank (field_of W.number K.width K.product K.generator) rows columns matrix.now (length space.old) (length places.old)
+        rank.old rank.new result }
+{
+    let (rows, columns) = (rows as usize, columns as usize);
+    if !has_shape(matrix.len(), rows, columns)
+        || space.len() != matrix.len()
+        || places.len() != rows
+    {
+        return status::LENGTH;
+    }
+    if !are_elements::<R, W, K>(matrix) {
+        return status::NOT_AN_ELEMENT;
+    }
+    space.copy_from_slice(matrix);
+    *rank = field_slices::matrices::row_reduce::<Words<R, W, K, V>>(space, rows, columns, places);
+    status::OK
+}
+
+/// Writes the determinant of a matrix of `size` rows of as many words, in as much space; of no rows it is 1.
+pub fn determinant<R: Stored, W: Holds<R>, K: Many<R, W>, V: Width + Vector>(
+    matrix: &[W],
+    size: u64,
+    space: &mut [W],
+    determinant: &mut W,
+) -> u32
+    ensures { TakesDeterminant (field_of W.number K.width K.product K.generator) size matrix.now (length space.old) determinant.old
+        determinant.new result }
+{
+    let size = size as usize;
+    if !has_shape(matrix.len(), size, size) || space.len() != matrix.len() {
+        return status::LENGTH;
+    }
+    if !are_elements::<R, W, K>(matrix) {
+        return status::NOT_AN_ELEMENT;
+    }
+    space.copy_from_slice(matrix);
+    let value = field_slices::matrices::determinant::<Words<R, W, K, V>>(space, size);
+    *determinant = truncated::<R, W, K>(value);
+    status::OK
+}
+
+/// Writes the inverse of a matrix of `size` rows of as many words, in space for two matrices, and a place for each row.
+pub fn inverse<R: Stored, W: Holds<R>, K: Many<R, W>, V: Width + Vector>(
+    matrix: &[W],
+    size: u64,
+    inverse: &mut [W],
+    space: &mut [W],
+    places: &mut [usize],
+) -> u32
+    ensures { InvertsMatrix (field_of W.number K.width K.product K.generator) size matrix.now (length space.old) (length places.old)
+        inverse.old inverse.new result }
+{
+    let size = size as usize;
+    if !has_shape(matrix.len(), size, size) || inverse.len() != matrix.len() {
+        return status::LENGTH;
+    }
+    let width = size + size;
+    if !has_shape(space.len(), size, width) || places.len() != size {
+        return status::LENGTH;
+    }
+    if !are_elements::<R, W, K>(matrix) {
+        return status::NOT_AN_ELEMENT;
+    }
+    let left_half = ColumnCopy {
+        rows: size,
+        columns: size,
+        from: 0,
+        target_columns: width,
+        to: 0,
+        count: size,
+    };
+    copy_columns::<Words<R, W, K, V>>(space, matrix, left_half);
+    if !invert_beside::<Words<R, W, K, V>>(space, size, places) {
+        return status::UNSOLVABLE;
+    }
+    let right_half = ColumnCopy {
+        rows: size,
+        columns: width,
+        from: size,
+        target_columns: size,
+        to: 0,
+        count: size,
+    };
+    copy_columns::<Words<R, W, K, V>>(inverse, space, right_half);
+    truncate_all::<R, W, K>(inverse);
+    status::OK
+}
+
+/// Writes a solution of linear equations: `matrix`, of `rows` rows of `columns` words, has the coefficients of an equation in each row,
+/// and `right` the right sides. It works in a row of one word more for each equation, and a place for each row.
+pub fn solve<R: Stored, W: Holds<R>, K: Many<R, W>, V: Width + Vector>(
+    matrix: &[W],
+    rows: u64,
+    columns: u64,
+    right: &[W],
+    solution: &mut [W],
+    space: &mut [W],
+    places: &mut [usize],
+) -> u32
+    ensures { SolvesEquations (field_of W.number K.width K.product K.generator) rows columns matrix.now right.now (length space.old)
+        (length places.old) solution.old solution.new result }
+{
+    let (rows, columns) = (rows as usize, columns as usize);
+    if !have_lengths(
+        rows,
+        columns,
+        matrix.len(),
+        right.len(),
+        solution.len(),
+        space.len(),
+        places.len(),
+    ) {
+        return status::LENGTH;
+    }
+    if !are_elements::<R, W, K>(matrix) || !are_elements::<R, W, K>(right) {
+        return status::NOT_AN_ELEMENT;
+    }
+    let width = columns + 1;
+    let coefficients = ColumnCopy {
+        rows,
+        columns,
+        from: 0,
+        target_columns: width,
+        to: 0,
+        count: columns,
+    };
+    let right_sides = ColumnCopy {
+        rows,
+        columns: 1,
+        from: 0,
+        target_columns: width,
+        to: columns,
+        count: 1,
+    };
+    copy_columns::<Words<R, W, K, V>>(space, matrix, coefficients);
+    copy_columns::<Words<R, W, K, V>>(space, right, right_sides);
+    if !solve_augmented::<Words<R, W, K, V>>(space, rows, width, solution, places) {
+        return status::UNSOLVABLE;
+    }
+    truncate_all::<R, W, K>(solution);
+    status::OK
+}
+
+// Whether so many words and places are those of equations.
+fn have_lengths(
+    rows: usize,
+    columns: usize,
+    words: usize,
+    right: usize,
+    solution: usize,
+    space: usize,
+    places: usize,
+) -> bool
+    ensures { IsTrue result ↔ HaveEquationLengths rows columns words right solution space places }
+{
+    if right != rows || solution != columns || places != rows || columns >= 1 << 63 {
+        return false;
+    }
+    has_shape(words, rows, columns) && has_shape(space, rows, columns + 1)
+}

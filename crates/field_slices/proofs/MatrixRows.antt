@@ -349,11 +349,37 @@ module _ (from count : ℕ) (other own : ℕ → ℕ) (j : ℕ) where
       (le-ltb j from (omega (arith, past)))
       ∙ ap (λ (t : Bool). if t then other (j - from) else own j) (le-ltb j (from + count) past)
 
+-- all entries are put in
+pub put-whole : (count : ℕ) (other own : ℕ → ℕ) (j : ℕ) → j < count → put_entry 0 count other own j ≡ other j
+put-whole count other own j inside =
+    let same : j - 0 ≡ j = omega arith in
+    put-inside 0 count other own j (omega arith) (omega (arith, inside)) ∙ ap other same
+
 -- it depends only on the entry that stays
 pub put_same : (from count : ℕ) (other own was : ℕ → ℕ) (j : ℕ) → own j ≡ was j
     → put_entry from count other own j ≡ put_entry from count other was j
 put_same from count other own was j same =
     ap (λ (n : ℕ). if nat_lt j from then n else if nat_lt j (from + count) then other (j - from) else n) same
+
+-- a loop that puts them into a row, from the first of them on
+pub put_start : {V : Type 0} (number : V → ℕ) (columns row from count : ℕ) (other : ℕ → ℕ) (old : List V)
+    → RowWritten number columns row (put_entry from count other (entry_of number columns old row)) old old from
+put_start number columns row from count other old =
+    let own = entry_of number columns old row in
+    row_from number columns row (put_entry from count other own) old from (λ j before. sym (put-before from count other own j before))
+
+module _ (from count : ℕ) (other : ℕ → ℕ) {V : Type 0} {number : V → ℕ} {columns row : ℕ} {old now : List V} {n : ℕ}
+    (so_far : RowWritten number columns row (put_entry from count other (entry_of number columns old row)) old now n) where
+  pub put_step : {next : List V} {value : ℕ} → n < columns → from ≤ n → n < from + count → value ≡ other (n - from)
+      → IsEntryWritten number columns row n value now next
+      → RowWritten number columns row (put_entry from count other (entry_of number columns old row)) old next (n + 1)
+  put_step within past inside is write =
+      row_step so_far within (is ∙ sym (put-inside from count other (entry_of number columns old row) n past inside)) write
+
+  pub put_end : from + count ≤ n
+      → IsRowWritten number columns row (put_entry from count other (entry_of number columns old row)) old now
+  put_end all =
+      row_stays so_far (λ j past inside. put-behind from count other (entry_of number columns old row) j (omega (arith, past, all)))
 
 -- ---- rows of two matrices
 

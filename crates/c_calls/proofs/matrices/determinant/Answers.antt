@@ -1,0 +1,14 @@
+use Rattle.std.proofs.Common.{◌∙◌}
+use Rattle.many_words.specs.Fields.{field_of}
+use Rattle.c_calls.proofs.Calls.{determinant_is}
+use Rattle.c_calls.proofs.Endings.{call_done}
+use Rattle.c_calls.proofs.matrices.determinant.Goals as goal
+
+pub returns : goal.returns
+returns g c =
+    let field = field_of g.W.Reads.number g.K.FieldKernel.width g.K.FieldKernel.product g.K.FieldKernel.generator in
+    let shape = c.has_shape.ensures.0 c.if-not-has_shape.false in
+    let fits = c.are_elements.ensures.0 c.if-not-are_elements.false in
+    call_done (shape, c.if-space-matrix.false ∙ shape) fits
+    (determinant_is field c.args.size (field.number c.truncated.result) c.args.matrix.now c.copy_from_slice.new.self fits
+    c.copy_from_slice.ensures.after (c.truncated.ensures ∙ c.determinant-value.ensures.determinant))

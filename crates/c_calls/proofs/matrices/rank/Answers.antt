@@ -1,0 +1,14 @@
+use Rattle.std.proofs.Common.{◌∙◌}
+use Rattle.many_words.specs.Fields.{field_of}
+use Rattle.c_calls.proofs.Calls.{rank_is}
+use Rattle.c_calls.proofs.Endings.{call_done}
+use Rattle.c_calls.proofs.matrices.rank.Goals as goal
+
+pub returns : goal.returns
+returns g c =
+    let field = field_of g.W.Reads.number g.K.FieldKernel.width g.K.FieldKernel.product g.K.FieldKernel.generator in
+    let shape = c.has_shape.ensures.0 c.if-not-has_shape.false in
+    let fits = c.are_elements.ensures.0 c.if-not-are_elements.false in
+    call_done (shape, c.if-space-matrix.false ∙ shape, c.if-places-rows.false) fits
+    (rank_is field c.args.rows c.args.columns c.row_reduce.result c.row_reduce.new.pivots c.args.matrix.now c.copy_from_slice.new.self
+    c.row_reduce.new.matrix fits c.copy_from_slice.ensures.after c.row_reduce.ensures.reduced c.row_reduce.ensures.space)

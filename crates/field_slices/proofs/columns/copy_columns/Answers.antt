@@ -1,0 +1,27 @@
+use Rattle.std.proofs.Common.{◌+◌, arith}
+use Rattle.field_slices.specs.Matrices.{entry_of, put_entry}
+use Rattle.field_slices.proofs.MatrixRows.{put_same, rows_start, rows_step, rows_end}
+use Rattle.field_slices.proofs.columns.copy_columns.Goals as goal
+
+pub loop-row-init : goal.loop-row-init
+loop-row-init g c =
+    let number = g.S.Scalars.number in
+    let copy = c.args.copy in
+    rows_start number copy.target_columns
+    (λ i. put_entry copy.to copy.count (λ k. entry_of number copy.columns c.args.source.now i (copy.from + k))
+    (entry_of number copy.target_columns c.args.target.now i)) c.args.target.now
+
+pub loop-row-preserved : goal.loop-row-preserved
+loop-row-preserved g c =
+    let number = g.S.Scalars.number in
+    let copy = c.args.copy in
+    let so_far = c.loop-row.invariant in
+    let row = c.loop-row.row in
+    rows_step so_far
+    (λ j inside.
+    put_same copy.to copy.count (λ k. entry_of number copy.columns c.args.source.now row (copy.from + k))
+    (entry_of number copy.target_columns c.loop-row.target row) (entry_of number copy.target_columns c.args.target.now row) j
+    (so_far.rest row j (omega arith) inside)) c.copy_row.ensures
+
+pub returns-clause-entries : goal.returns-clause-entries
+returns-clause-entries g c = rows_end c.loop-row.invariant c.args.copy.rows (omega arith)
