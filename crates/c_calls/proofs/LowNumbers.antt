@@ -1,5 +1,5 @@
 -- Words as the elements that their low bits are.
-use Rattle.std.proofs.Common.{◌≡◌, ℕ, suc, ◌%◌, ◌^◌, ◌<◌, ◌≤◌, List, [], ◌∷◌, length, get_or, map, refl, sym, ◌∙◌, ap, ap₂, subst, arith}
+use Rattle.std.proofs.Common.{◌≡◌, ℕ, suc, ◌%◌, ◌^◌, ◌<◌, List, [], ◌∷◌, length, get_or, map, refl, sym, ◌∙◌, ap, ap₂, subst, arith}
 use Rattle.std.specs.Prelude.{bit_xor, slice_index}
 use Rattle.std.specs.Simd.Lanes.{zip2}
 use Rattle.std.proofs.lemmas.List.{get_or-map, length-map}
@@ -29,6 +29,10 @@ module _ {W : Type 0} (number : W → ℕ) (width : ℕ) where
   -- a word that is an element is its low bits
   pub low-is : (word : W) (n : ℕ) → number word ≡ n → n < 2 ^ width → low_number number width word ≡ n
   low-is word n is fits = ap (λ (m : ℕ). m % 2 ^ width) is ∙ mod-eq_of_lt fits
+
+  -- low bits are few
+  pub truncated-lt : (word : W) {n : ℕ} → n ≡ number word % 2 ^ width → n < 2 ^ width
+  truncated-lt word is = subst (λ (m : ℕ). m < 2 ^ width) (sym is) (low_number-lt number width word)
 
   -- sums
   pub low-sum : (x y sum : W) → number sum ≡ bit_xor (number x) (number y)

@@ -59,11 +59,6 @@ impl<R: Stored, W: Holds<R>, K: Many<R, W>, V: Width + Vector> Scalars for Words
     }
 
     #[inline]
-    fn multiply_each(values: &mut [W], others: &[W]) {
-        many_words::multiply::<R, W, K, V>(values, others);
-    }
-
-    #[inline]
     fn multiply_by(values: &mut [W], scalar: W) {
         many_words::multiply_by::<R, W, K, V>(values, truncated::<R, W, K>(scalar));
     }
@@ -78,11 +73,6 @@ impl<R: Stored, W: Holds<R>, K: Many<R, W>, V: Width + Vector> Scalars for Words
         inverses.copy_from_slice(values);
         truncate_all::<R, W, K>(inverses);
         many_words::invert::<R, W, K, V>(inverses);
-    }
-
-    #[inline]
-    fn dot(left: &[W], right: &[W]) -> W {
-        W::of_stored(K::dot_product::<V, W>(left, right))
     }
 
     ghost wide_law = { K.wide_law };

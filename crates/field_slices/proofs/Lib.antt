@@ -1,4 +1,5 @@
 pub mod BatchInversion
+pub mod BothLists
 pub mod Completeness
 pub mod CornerSums
 pub mod CubeLaws

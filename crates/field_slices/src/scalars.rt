@@ -2,7 +2,6 @@
 ghost use Rattle.std.specs.Prelude.{◌≡◌, ◌≢◌, ◌↔◌, ◌^◌, ◌<◌, ℕ, IsTrue, bit_xor, length, map};
 ghost use Rattle.std.specs.Simd.Lanes.{zip2};
 ghost use Rattle.field_base.specs.Field.{AreInverses, IsField};
-ghost use Rattle.field_base.specs.Powers.{dot_of};
 ghost use Rattle.field_slices.specs.Matrices.{AreScaledSums};
 
 use field_base::traits::Field;
@@ -71,16 +70,6 @@ pub trait Scalars {
         }
     }
 
-    /// Multiplies each value by the other one at its place.
-    fn multiply_each(values: &mut [Self::Value], others: &[Self::Value])
-        requires { length others.now ≡ length values.old }
-        ensures { map number values.new ≡ zip2 product (map number values.old) (map number others.now) }
-    {
-        for place in 0..values.len() {
-            values[place] = Self::multiply(values[place], others[place]);
-        }
-    }
-
     /// Multiplies each value by the scalar.
     fn multiply_by(values: &mut [Self::Value], scalar: Self::Value)
         ensures { map number values.new ≡ map (λ x. product (number scalar) x) (map number values.old) };
@@ -95,11 +84,6 @@ pub trait Scalars {
     fn invert_each(values: &[Self::Value], inverses: &mut [Self::Value])
         requires { length inverses.old ≡ length values.now }
         ensures { AreInverses product (map number values.now) (map number inverses.new) };
-
-    /// The sum of the products at each place.
-    fn dot(left: &[Self::Value], right: &[Self::Value]) -> Self::Value
-        requires { length left.now ≡ length right.now }
-        ensures { number result ≡ dot_of product number left.now right.now };
 
     ghost wide_law: { 0 < width };
 
@@ -158,10 +142,6 @@ impl<F: Field> Scalars for Elements<F> {
 
     fn invert_each(values: &[F], inverses: &mut [F]) {
         F::invert_each(values, inverses);
-    }
-
-    fn dot(left: &[F], right: &[F]) -> F {
-        F::dot_product_of_slices(left, right)
     }
 
     ghost wide_law = { F.wide_law };

@@ -1,5 +1,5 @@
 // Sums and products of slices, place by place, and dot products with elements of a smaller ring.
-ghost use Rattle.std.specs.Prelude.{◌≡◌, ℕ, length, map, bit_xor};
+ghost use Rattle.std.specs.Prelude.{◌≡◌, length, map, bit_xor};
 ghost use Rattle.std.specs.Simd.Lanes.{zip2};
 ghost use Rattle.field_base.specs.Powers.{dot_of};
 

@@ -1,15 +1,12 @@
-use Rattle.std.proofs.Common.{◌^◌, ◌<◌, ℕ, map, sym, subst}
+use Rattle.std.proofs.Common.{ℕ, map, subst}
 use Rattle.field_slices.specs.Matrices.{AreScaledSums}
 use Rattle.c_calls.specs.Low.{low_number}
-use Rattle.c_calls.specs.LowLemmas.{low_number-lt}
 use Rattle.many_words.specs.Fields.{field_of}
-use Rattle.c_calls.proofs.LowNumbers.{low_again, low_sums}
+use Rattle.c_calls.proofs.LowNumbers.{low_again, low_sums, truncated-lt}
 use Rattle.c_calls.proofs.scalars.WordsScalars.add_scaled.Goals as goal
 
 pub add_scaled-requires-clause-scalar : goal.add_scaled-requires-clause-scalar
-add_scaled-requires-clause-scalar g c =
-    let width = g.K.FieldKernel.width in
-    subst (λ (n : ℕ). n < 2 ^ width) (sym c.truncated.ensures) (low_number-lt g.W.Reads.number width c.args.scalar)
+add_scaled-requires-clause-scalar g c = truncated-lt g.W.Reads.number g.K.FieldKernel.width c.args.scalar c.truncated.ensures
 
 pub returns-clause-sums : goal.returns-clause-sums
 returns-clause-sums g c =

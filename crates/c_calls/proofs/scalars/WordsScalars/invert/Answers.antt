@@ -1,13 +1,10 @@
-use Rattle.std.proofs.Common.{◌^◌, ◌<◌, ℕ, sym, ◌∙◌, ap₂, subst}
-use Rattle.c_calls.specs.LowLemmas.{low_number-lt}
-use Rattle.c_calls.proofs.LowNumbers.{low-is}
+use Rattle.std.proofs.Common.{sym, ◌∙◌, ap₂}
+use Rattle.c_calls.proofs.LowNumbers.{truncated-lt}
 use native.Mathlib.Nat.{mod-eq_of_lt}
 use Rattle.c_calls.proofs.scalars.WordsScalars.invert.Goals as goal
 
 pub invert-requires : goal.invert-requires
-invert-requires g c =
-    let width = g.K.FieldKernel.width in
-    subst (λ (n : ℕ). n < 2 ^ width) (sym c.truncated.ensures) (low_number-lt g.W.Reads.number width c.args.x)
+invert-requires g c = truncated-lt g.W.Reads.number g.K.FieldKernel.width c.args.x c.truncated.ensures
 
 pub returns : goal.returns
 returns g c =

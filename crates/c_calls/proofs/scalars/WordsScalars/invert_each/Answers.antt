@@ -1,4 +1,4 @@
-use Rattle.std.proofs.Common.{ℕ, List, length, map, sym, ◌∙◌, ap, subst}
+use Rattle.std.proofs.Common.{ℕ, List, map, ◌∙◌, ap, subst}
 use Rattle.field_base.specs.Field.{AreInverses}
 use Rattle.c_calls.specs.Low.{low_number}
 use Rattle.many_words.specs.Fields.{field_of}

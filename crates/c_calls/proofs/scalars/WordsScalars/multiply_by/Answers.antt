@@ -1,14 +1,11 @@
-use Rattle.std.proofs.Common.{◌^◌, ◌<◌, ℕ, map, sym, ◌∙◌, ap, subst}
+use Rattle.std.proofs.Common.{ℕ, map, ◌∙◌, ap}
 use Rattle.c_calls.specs.Low.{low_number}
-use Rattle.c_calls.specs.LowLemmas.{low_number-lt}
 use Rattle.many_words.specs.Fields.{field_of}
-use Rattle.c_calls.proofs.LowNumbers.{low_again, low_multiples}
+use Rattle.c_calls.proofs.LowNumbers.{low_again, low_multiples, truncated-lt}
 use Rattle.c_calls.proofs.scalars.WordsScalars.multiply_by.Goals as goal
 
 pub multiply_by-requires : goal.multiply_by-requires
-multiply_by-requires g c =
-    let width = g.K.FieldKernel.width in
-    subst (λ (n : ℕ). n < 2 ^ width) (sym c.truncated.ensures) (low_number-lt g.W.Reads.number width c.args.scalar)
+multiply_by-requires g c = truncated-lt g.W.Reads.number g.K.FieldKernel.width c.args.scalar c.truncated.ensures
 
 pub returns : goal.returns
 returns g c =

@@ -1,33 +1,21 @@
-use Rattle.std.proofs.Common.{map, ◌∙◌, arith}
+use Rattle.std.proofs.Common.{arith}
 use Rattle.std.specs.Prelude.{bit_xor}
-use Rattle.std.specs.Simd.Lanes.{zip2}
-use Rattle.field_base.proofs.Written.{written_start, written_step, written-read, written-end, both-at, both-length}
+use Rattle.field_slices.proofs.BothLists.{both_start, both_step, both_end}
 use Rattle.field_slices.proofs.scalars.Scalars.add_each.Goals as goal
 
 pub loop-place-init : goal.loop-place-init
-loop-place-init g c =
-    let s = g.Self.Scalars in
-    written_start s.number (zip2 bit_xor (map s.number c.args.values.now) (map s.number c.args.others.now)) c.args.values.now c.args.values.now
+loop-place-init g c = both_start g.Self.Scalars.number bit_xor c.args.values.now c.args.others.now
 
 pub loop-place-preserved : goal.loop-place-preserved
 loop-place-preserved g c =
-    let s = g.Self.Scalars in
-    let old = c.args.values.now in
-    let others = c.args.others.now in
-    let wanted = zip2 bit_xor (map s.number old) (map s.number others) in
-    let place = c.loop-place.place in
+    let loop = c.loop-place in
     let x = c.index-values-place.result in
     let y = c.index-others-place.result in
-    written_step s.number wanted old c.loop-place.values place c.add.result (omega arith)
-    (c.add.ensures
-    ∙ both-at s.number s.number bit_xor old others place (s.number x) y (omega arith) (omega arith)
-    (written-read s.number wanted old c.loop-place.values place x (omega arith) c.index-values-place.is c.loop-place.invariant)
-    c.index-others-place.is)
-    c.loop-place.invariant
+    both_step g.Self.Scalars.number bit_xor c.args.values.now c.args.others.now loop.values loop.place loop.auto.values c.requires loop.invariant
+    x y c.add.result (omega arith) c.index-values-place.is c.index-others-place.is c.add.ensures
 
 pub returns : goal.returns
 returns g c =
-    let s = g.Self.Scalars in
-    written-end s.number (zip2 bit_xor (map s.number c.args.values.now) (map s.number c.args.others.now)) c.args.values.now c.loop-place.values
-    c.loop-place.place c.loop-place.auto.values (both-length s.number s.number bit_xor c.args.values.now c.args.others.now c.requires)
-    (omega arith) c.loop-place.invariant
+    let loop = c.loop-place in
+    both_end g.Self.Scalars.number bit_xor c.args.values.now c.args.others.now loop.values loop.place loop.auto.values c.requires loop.invariant
+    (omega arith)
