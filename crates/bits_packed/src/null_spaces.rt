@@ -1,11 +1,12 @@
 // Null spaces of matrices over GF(2) in reduced row echelon form.
-ghost use Rattle.std.specs.Prelude.{◌≡◌, ◌≢◌, ◌-◌, ◌*◌, ◌<◌, ◌≤◌, ℕ, IsTrue, false, length, slice_index};
+ghost use Rattle.std.specs.Prelude.{◌≡◌, ◌≢◌, ◌-◌, ◌*◌, ◌<◌, ◌≤◌, ℕ, length, slice_index};
 ghost use Rattle.field_base.specs.Tower.{tower_mul};
 ghost use Rattle.field_slices.specs.Matrices.{HasMatrixRow, IsNullBasis, IsReducedEchelon, null_entry};
 ghost use Rattle.bits_packed.specs.BitMatrices.{IsBitRowWritten, bit_entry, words_for};
 
 use crate::identities::write_identity_row;
 use crate::rows::{Shape, add_entry, entry};
+use field_slices::matrices::leads_at;
 
 /// Writes a basis of the vectors that a matrix in reduced row echelon form takes to 0 to the rows of `basis`: one for each column without a
 /// leading entry, where it is 1 and the others are 0. `reduced`, whose rows have `columns` bits, and `pivots` and `rank` are what
@@ -54,24 +55,13 @@ fn write_null_rows(
     ensures behind { (q j : ℕ) → q < columns - rank → columns ≤ j → j < 64 * shape.words → bit_entry shape.words basis.new q j ≡ 0 }
 {
     let mut passed = 0;
-    let mut count = 0;
     for column in 0..columns {
         if leads_at(pivots, rank, passed, column) {
             passed += 1;
         } else {
-            write_null_row(basis, shape, count, column, reduced, rank, pivots);
-            count += 1;
+            write_null_row(basis, shape, column - passed, column, reduced, rank, pivots);
         }
     }
-}
-
-// Whether the next leading entry, after so many, stands in this column.
-fn leads_at(pivots: &[usize], rank: usize, passed: usize, column: usize) -> bool
-    requires { rank ≤ length pivots.now }
-    ensures next { IsTrue result → (passed < rank) × (slice_index pivots.now passed ≡ column) }
-    ensures none { result ≡ false → passed < rank → slice_index pivots.now passed ≢ column }
-{
-    passed < rank && pivots[passed] == column
 }
 
 // Writes the vector of a column, which has no leading entry, to a row.

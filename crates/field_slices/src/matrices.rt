@@ -12,7 +12,7 @@ pub use crate::matrix_laws::{
     reduced_echelon_is_unique,
 };
 pub use crate::matrix_powers::power_into;
-pub use crate::null_spaces::null_space_into;
+pub use crate::null_spaces::{leads_at, null_space_into};
 pub use crate::points::{cauchy_into, vandermonde_into};
 pub use crate::products::{multiply_into, transpose_into};
 pub use crate::reduction::{row_reduce, row_reduce_augmented};

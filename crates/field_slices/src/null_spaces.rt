@@ -28,19 +28,18 @@ pub fn null_space_into<S: Scalars>(
         columns,
     };
     let mut passed = 0;
-    let mut count = 0;
     for column in 0..columns {
         if leads_at(pivots, rank, passed, column) {
             passed += 1;
         } else {
-            write_null_row::<S>(basis, shape, count, column, reduced, rank, pivots);
-            count += 1;
+            write_null_row::<S>(basis, shape, column - passed, column, reduced, rank, pivots);
         }
     }
 }
 
-// Whether the next leading entry, after so many, stands in this column.
-fn leads_at(pivots: &[usize], rank: usize, passed: usize, column: usize) -> bool
+/// Whether the next leading entry, behind those of `passed` rows, stands in this column; `pivots` begins with the columns of `rank` leading
+/// entries.
+pub fn leads_at(pivots: &[usize], rank: usize, passed: usize, column: usize) -> bool
     requires { rank ≤ length pivots.now }
     ensures next { IsTrue result → (passed < rank) × (slice_index pivots.now passed ≡ column) }
     ensures none { result ≡ false → passed < rank → slice_index pivots.now passed ≢ column }

@@ -1,4 +1,4 @@
-use Rattle.std.proofs.Common.{◌≡◌, ◌+◌, length, ◌∙◌, arith}
+use Rattle.std.proofs.Common.{◌≡◌, ◌+◌, ◌-◌, length, ◌∙◌, arith}
 use Rattle.std.specs.Prelude.{slice_index}
 use Rattle.field_base.specs.BitRingLemmas.{bits_ring}
 use Rattle.field_base.specs.Tower.{tower_mul}
@@ -21,10 +21,10 @@ write_null_row-requires-clause-row c =
     let words = c.args.shape.words in
     let loop = c.loop-column in
     let free = free-here 1 (tower_mul 0) bits_ring (length c.args.pivots.now) c.args.columns c.args.rank (slice_index c.args.pivots.now)
-    (bit_entry words c.args.reduced.now) c.requires.reduced (bit_entry words) c.args.basis.now loop.basis loop.passed loop.count
+    (bit_entry words c.args.reduced.now) c.requires.reduced (bit_entry words) c.args.basis.now loop.basis loop.passed (loop.column - loop.passed)
     loop.column loop.invariant.0 (c.leads_at.ensures.none c.if-leads_at.false) in
     let fits = vector-fits 1 (tower_mul 0) bits_ring (length c.args.pivots.now) c.args.columns c.args.rank (slice_index c.args.pivots.now)
-    (bit_entry words c.args.reduced.now) c.requires.reduced (bit_entry words) c.args.basis.now loop.basis loop.passed loop.count
+    (bit_entry words c.args.reduced.now) c.requires.reduced (bit_entry words) c.args.basis.now loop.basis loop.passed (loop.column - loop.passed)
     loop.column loop.invariant.0 c.loop-column-test.true free in
     record {
       shape = loop.invariant.0.shape ∙ c.requires.shape;
@@ -43,7 +43,7 @@ write_null_row-requires-clause-free c =
     let words = c.args.shape.words in
     let loop = c.loop-column in
     free-here 1 (tower_mul 0) bits_ring (length c.args.pivots.now) c.args.columns c.args.rank (slice_index c.args.pivots.now)
-    (bit_entry words c.args.reduced.now) c.requires.reduced (bit_entry words) c.args.basis.now loop.basis loop.passed loop.count
+    (bit_entry words c.args.reduced.now) c.requires.reduced (bit_entry words) c.args.basis.now loop.basis loop.passed (loop.column - loop.passed)
     loop.column loop.invariant.0 (c.leads_at.ensures.none c.if-leads_at.false)
 
 pub loop-column-preserved : goal.loop-column-preserved
@@ -59,26 +59,30 @@ loop-column-preserved c =
     elim c.if-leads_at.branch [
       | then-leads_at w ↦
           let found = c.leads_at.ensures.next w.if-leads_at.true in (
-            vectors_same (tower_mul 0) columns rank pivot reduced (bit_entry words) old loop.basis next.basis (loop.passed + 1) loop.count
-                next.passed next.count (loop.column + 1) w.basis-is w.passed-is w.count-is
+            vectors_same (tower_mul 0) columns rank pivot reduced (bit_entry words) old loop.basis next.basis (loop.passed + 1)
+                (loop.column - loop.passed) next.passed (loop.column + 1 - next.passed) (loop.column + 1) w.basis-is w.passed-is
+                (omega (arith, w.passed-is))
                 (vectors_pass 1 (tower_mul 0) bits_ring (length c.args.pivots.now) columns rank pivot reduced c.requires.reduced
-                (bit_entry words) old loop.basis loop.passed loop.count loop.column loop.invariant.0 found.0 found.1),
-            behind_same words columns loop.basis next.basis loop.count next.count w.basis-is w.count-is loop.invariant.1,
+                (bit_entry words) old loop.basis loop.passed (loop.column - loop.passed) loop.column loop.invariant.0 found.0 found.1),
+            behind_same words columns loop.basis next.basis (loop.column - loop.passed) (loop.column + 1 - next.passed) w.basis-is
+                (omega (arith, w.passed-is)) loop.invariant.1,
           )
       | else-leads_at w ↦
           let write = w.write_null_row.ensures in
           let free = free-here 1 (tower_mul 0) bits_ring (length c.args.pivots.now) columns rank pivot reduced c.requires.reduced
-          (bit_entry words) old loop.basis loop.passed loop.count loop.column loop.invariant.0
+          (bit_entry words) old loop.basis loop.passed (loop.column - loop.passed) loop.column loop.invariant.0
           (c.leads_at.ensures.none w.if-leads_at.false) in (
             vectors_same (tower_mul 0) columns rank pivot reduced (bit_entry words) old w.write_null_row.new.basis next.basis loop.passed
-                (loop.count + 1) next.passed next.count (loop.column + 1) w.basis-is w.passed-is w.count-is
+                (loop.column - loop.passed + 1) next.passed (loop.column + 1 - next.passed) (loop.column + 1) w.basis-is w.passed-is
+                (omega (arith, w.passed-is, loop.invariant.0.all))
                 (vectors_add 1 (tower_mul 0) bits_ring (length c.args.pivots.now) columns rank pivot reduced c.requires.reduced
-                (bit_entry words) old loop.basis loop.passed loop.count loop.column loop.invariant.0 c.loop-column-test.true free
+                (bit_entry words) old loop.basis loop.passed (loop.column - loop.passed) loop.column loop.invariant.0 c.loop-column-test.true free
                 w.write_null_row.new.basis write.shape (λ j inside. write.entries j (omega (arith, inside, c.requires.columns)))
                 (λ i j other inside. write.others i j other (omega (arith, inside, c.requires.columns)))),
-            behind_same words columns w.write_null_row.new.basis next.basis (loop.count + 1) next.count w.basis-is w.count-is
-                (behind_more words columns loop.count _ loop.basis w.write_null_row.new.basis loop.invariant.1 write
-                (λ j past. null-behind pivot reduced loop.column words loop.count rank columns j c.requires.reduced.pivots_fit
+            behind_same words columns w.write_null_row.new.basis next.basis (loop.column - loop.passed + 1) (loop.column + 1 - next.passed)
+                w.basis-is (omega (arith, w.passed-is, loop.invariant.0.all))
+                (behind_more words columns (loop.column - loop.passed) _ loop.basis w.write_null_row.new.basis loop.invariant.1 write
+                (λ j past. null-behind pivot reduced loop.column words (loop.column - loop.passed) rank columns j c.requires.reduced.pivots_fit
                 c.loop-column-test.true past)),
           )
     ]
@@ -89,7 +93,7 @@ returns-clause-basis c =
     let loop = c.loop-column in
     let all : loop.column ≡ c.args.columns = omega arith in
     vectors_end 1 (tower_mul 0) bits_ring (length c.args.pivots.now) c.args.columns c.args.rank (slice_index c.args.pivots.now)
-    (bit_entry words c.args.reduced.now) c.requires.reduced (bit_entry words) c.args.basis.now loop.basis loop.passed loop.count loop.column
+    (bit_entry words c.args.reduced.now) c.requires.reduced (bit_entry words) c.args.basis.now loop.basis loop.passed (loop.column - loop.passed) loop.column
     all loop.invariant.0
 
 pub returns-clause-behind : goal.returns-clause-behind
@@ -98,6 +102,6 @@ returns-clause-behind c =
     let loop = c.loop-column in
     let all : loop.column ≡ c.args.columns = omega arith in
     let count = vectors_count 1 (tower_mul 0) bits_ring (length c.args.pivots.now) c.args.columns c.args.rank (slice_index c.args.pivots.now)
-    (bit_entry words c.args.reduced.now) c.requires.reduced (bit_entry words) c.args.basis.now loop.basis loop.passed loop.count
+    (bit_entry words c.args.reduced.now) c.requires.reduced (bit_entry words) c.args.basis.now loop.basis loop.passed (loop.column - loop.passed)
     loop.column all loop.invariant.0 in
     λ q j below. loop.invariant.1 q j (omega (arith, below, count))

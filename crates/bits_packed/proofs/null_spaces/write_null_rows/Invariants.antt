@@ -1,3 +1,4 @@
+use Rattle.std.proofs.Common.{◌-◌}
 use Rattle.std.specs.Prelude.{slice_index}
 use Rattle.field_base.specs.Tower.{tower_mul}
 use Rattle.field_slices.proofs.NullSpaces.{VectorsWritten}
@@ -9,4 +10,4 @@ use Rattle.bits_packed.proofs.null_spaces.write_null_rows.Given as goal
 abbrev pub invariant-loop-column : goal.invariant-loop-column
 invariant-loop-column l =
     VectorsWritten (tower_mul 0) l.columns l.rank (slice_index l.pivots) (bit_entry l.shape.words l.reduced) (bit_entry l.shape.words)
-    l.fn.basis l.basis l.passed l.count l.column × BehindZero l.shape.words l.columns l.basis l.count
+    l.fn.basis l.basis l.passed (l.column - l.passed) l.column × BehindZero l.shape.words l.columns l.basis (l.column - l.passed)

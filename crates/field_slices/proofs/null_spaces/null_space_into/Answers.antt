@@ -1,4 +1,4 @@
-use Rattle.std.proofs.Common.{◌≡◌, ◌+◌, length, ◌∙◌, arith}
+use Rattle.std.proofs.Common.{◌≡◌, ◌+◌, ◌-◌, length, ◌∙◌, arith}
 use Rattle.std.specs.Prelude.{slice_index}
 use Rattle.field_slices.specs.Matrices.{entry_of}
 use Rattle.field_slices.proofs.NullSpaces.{rank-columns, free-here, vector-fits}
@@ -28,12 +28,12 @@ write_null_row-requires-clause-row g c =
     let loop = c.loop-column in
     let free = free-here scalars.width scalars.product g.met.S.Scalars.field_law.ring (length c.args.pivots.now) columns c.args.rank
     (slice_index c.args.pivots.now) (entry_of scalars.number columns c.args.reduced.now) c.requires.reduced
-    (entry_of scalars.number columns) c.args.basis.now loop.basis loop.passed loop.count loop.column loop.invariant (c.leads_at.ensures.none c.if-leads_at.false) in
+    (entry_of scalars.number columns) c.args.basis.now loop.basis loop.passed (loop.column - loop.passed) loop.column loop.invariant (c.leads_at.ensures.none c.if-leads_at.false) in
     record {
       shape = loop.invariant.shape ∙ c.requires.shape;
       row_within = vector-fits scalars.width scalars.product g.met.S.Scalars.field_law.ring (length c.args.pivots.now) columns c.args.rank
           (slice_index c.args.pivots.now) (entry_of scalars.number columns c.args.reduced.now) c.requires.reduced
-          (entry_of scalars.number columns) c.args.basis.now loop.basis loop.passed loop.count loop.column loop.invariant c.loop-column-test.true free;
+          (entry_of scalars.number columns) c.args.basis.now loop.basis loop.passed (loop.column - loop.passed) loop.column loop.invariant c.loop-column-test.true free;
     }
 
 pub loop-column-preserved : goal.loop-column-preserved
@@ -48,20 +48,21 @@ loop-column-preserved g c =
     elim c.if-leads_at.branch [
       | then-leads_at w ↦
           let found = c.leads_at.ensures.next w.if-leads_at.true in
-          vectors_same scalars.product columns c.args.rank pivot reduced (entry_of scalars.number columns) old loop.basis next.basis (loop.passed + 1) loop.count
-          next.passed next.count (loop.column + 1) w.basis-is w.passed-is w.count-is
+          vectors_same scalars.product columns c.args.rank pivot reduced (entry_of scalars.number columns) old loop.basis next.basis (loop.passed + 1)
+          (loop.column - loop.passed) next.passed (loop.column + 1 - next.passed) (loop.column + 1) w.basis-is w.passed-is (omega (arith, w.passed-is))
           (vectors_pass scalars.width scalars.product g.met.S.Scalars.field_law.ring (length c.args.pivots.now) columns c.args.rank
           (slice_index c.args.pivots.now) (entry_of scalars.number columns c.args.reduced.now) c.requires.reduced
-          (entry_of scalars.number columns) old loop.basis loop.passed loop.count loop.column loop.invariant found.0 found.1)
+          (entry_of scalars.number columns) old loop.basis loop.passed (loop.column - loop.passed) loop.column loop.invariant found.0 found.1)
       | else-leads_at w ↦
           let free = free-here scalars.width scalars.product g.met.S.Scalars.field_law.ring (length c.args.pivots.now) columns c.args.rank
           (slice_index c.args.pivots.now) (entry_of scalars.number columns c.args.reduced.now) c.requires.reduced
-          (entry_of scalars.number columns) old loop.basis loop.passed loop.count loop.column loop.invariant (c.leads_at.ensures.none w.if-leads_at.false) in
+          (entry_of scalars.number columns) old loop.basis loop.passed (loop.column - loop.passed) loop.column loop.invariant (c.leads_at.ensures.none w.if-leads_at.false) in
           vectors_same scalars.product columns c.args.rank pivot reduced (entry_of scalars.number columns) old w.write_null_row.new.basis next.basis loop.passed
-          (loop.count + 1) next.passed next.count (loop.column + 1) w.basis-is w.passed-is w.count-is
+          (loop.column - loop.passed + 1) next.passed (loop.column + 1 - next.passed) (loop.column + 1) w.basis-is w.passed-is
+          (omega (arith, w.passed-is, loop.invariant.all))
           (vectors_add scalars.width scalars.product g.met.S.Scalars.field_law.ring (length c.args.pivots.now) columns c.args.rank
           (slice_index c.args.pivots.now) (entry_of scalars.number columns c.args.reduced.now) c.requires.reduced
-          (entry_of scalars.number columns) old loop.basis loop.passed loop.count loop.column loop.invariant c.loop-column-test.true free
+          (entry_of scalars.number columns) old loop.basis loop.passed (loop.column - loop.passed) loop.column loop.invariant c.loop-column-test.true free
           w.write_null_row.new.basis w.write_null_row.ensures.shape w.write_null_row.ensures.entries
           w.write_null_row.ensures.others)
     ]
@@ -74,4 +75,4 @@ returns-clause-basis g c =
     let all : loop.column ≡ columns = omega arith in
     vectors_end scalars.width scalars.product g.met.S.Scalars.field_law.ring (length c.args.pivots.now) columns c.args.rank
     (slice_index c.args.pivots.now) (entry_of scalars.number columns c.args.reduced.now) c.requires.reduced
-    (entry_of scalars.number columns) c.args.basis.now loop.basis loop.passed loop.count loop.column all loop.invariant
+    (entry_of scalars.number columns) c.args.basis.now loop.basis loop.passed (loop.column - loop.passed) loop.column all loop.invariant

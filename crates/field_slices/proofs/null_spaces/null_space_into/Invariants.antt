@@ -1,3 +1,4 @@
+use Rattle.std.proofs.Common.{◌-◌}
 use Rattle.std.specs.Prelude.{slice_index}
 use Rattle.field_slices.specs.Matrices.{entry_of}
 use Rattle.field_slices.proofs.NullSpaces.{VectorsWritten}
@@ -8,4 +9,4 @@ abbrev pub invariant-loop-column : goal.invariant-loop-column
 invariant-loop-column g l =
     let scalars = g.S.Scalars in
     VectorsWritten scalars.product l.columns l.rank (slice_index l.pivots) (entry_of scalars.number l.columns l.reduced)
-    (entry_of scalars.number l.columns) l.fn.basis l.basis l.passed l.count l.column
+    (entry_of scalars.number l.columns) l.fn.basis l.basis l.passed (l.column - l.passed) l.column
