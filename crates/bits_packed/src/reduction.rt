@@ -2,7 +2,7 @@
 // Russians.
 ghost use Rattle.std.specs.Prelude.{◌≡◌, ◌≢◌, ◌+◌, ◌*◌, ◌/◌, ◌%◌, ◌<◌, ◌≤◌, ℕ, IsNone, IfSome, length, min, slice_index};
 ghost use Rattle.field_base.specs.Tower.{tower_mul};
-ghost use Rattle.field_slices.specs.Matrices.{HaveSameRowSpace, IsReducedEchelon, joined_entry};
+ghost use Rattle.field_slices.specs.Matrices.{AreRowsReduced, HaveSameRowSpace, IsReducedEchelon, joined_entry};
 ghost use Rattle.bits_packed.specs.BitMatrices.{ArePivotPlaces, HasBitEntry, IsBitRowWritten, IsStripAdded};
 ghost use Rattle.bits_packed.specs.BitMatrices.{bit_entry, present_bit, word_of, words_for};
 
@@ -20,11 +20,8 @@ use crate::rows::{Shape, add_entry, add_row, entry, place};
 pub fn row_reduce(matrix: &mut [u64], rows: usize, columns: usize, pivots: &mut [usize]) -> usize
     requires shape { length matrix.old ≡ rows * words_for columns }
     requires room { length pivots.old ≡ rows }
-    ensures shape { length matrix.new ≡ length matrix.old }
-    ensures room { length pivots.new ≡ length pivots.old }
-    ensures reduced { IsReducedEchelon rows columns result (slice_index pivots.new) (bit_entry (words_for columns) matrix.new) }
-    ensures space { HaveSameRowSpace (tower_mul 0) rows columns (bit_entry (words_for columns) matrix.old)
-        (bit_entry (words_for columns) matrix.new) }
+    ensures reduced { AreRowsReduced (bit_entry (words_for columns)) (tower_mul 0) rows columns columns result matrix.old matrix.new
+        pivots.old pivots.new }
     ensures whole { HaveSameRowSpace (tower_mul 0) rows (64 * words_for columns) (bit_entry (words_for columns) matrix.old)
         (bit_entry (words_for columns) matrix.new) }
 {
@@ -43,11 +40,8 @@ pub fn row_reduce_augmented(
     requires shape { length matrix.old ≡ rows * words_for columns }
     requires count { count ≤ columns }
     requires room { length pivots.old ≡ rows }
-    ensures shape { length matrix.new ≡ length matrix.old }
-    ensures room { length pivots.new ≡ length pivots.old }
-    ensures reduced { IsReducedEchelon rows count result (slice_index pivots.new) (bit_entry (words_for columns) matrix.new) }
-    ensures space { HaveSameRowSpace (tower_mul 0) rows columns (bit_entry (words_for columns) matrix.old)
-        (bit_entry (words_for columns) matrix.new) }
+    ensures reduced { AreRowsReduced (bit_entry (words_for columns)) (tower_mul 0) rows columns count result matrix.old matrix.new
+        pivots.old pivots.new }
     ensures whole { HaveSameRowSpace (tower_mul 0) rows (64 * words_for columns) (bit_entry (words_for columns) matrix.old)
         (bit_entry (words_for columns) matrix.new) }
 {
@@ -65,11 +59,8 @@ pub(crate) fn reduce_words(
     requires shape { length matrix.old ≡ shape.rows * shape.words }
     requires count { count ≤ 64 * shape.words }
     requires room { length pivots.old ≡ shape.rows }
-    ensures shape { length matrix.new ≡ length matrix.old }
-    ensures room { length pivots.new ≡ length pivots.old }
-    ensures reduced { IsReducedEchelon shape.rows count result (slice_index pivots.new) (bit_entry shape.words matrix.new) }
-    ensures space { HaveSameRowSpace (tower_mul 0) shape.rows (64 * shape.words) (bit_entry shape.words matrix.old)
-        (bit_entry shape.words matrix.new) }
+    ensures { AreRowsReduced (bit_entry shape.words) (tower_mul 0) shape.rows (64 * shape.words) count result matrix.old matrix.new
+        pivots.old pivots.new }
 {
     let mut rank = 0;
     let strips = count.div_ceil(64);
@@ -107,11 +98,8 @@ fn reduce_strip(
     requires few { to ≤ from + 64 }
     requires within { to ≤ 64 * shape.words }
     requires reduced { IsReducedEchelon shape.rows from rank (slice_index pivots.old) (bit_entry shape.words matrix.old) }
-    ensures shape { length matrix.new ≡ length matrix.old }
-    ensures room { length pivots.new ≡ length pivots.old }
-    ensures reduced { IsReducedEchelon shape.rows to result (slice_index pivots.new) (bit_entry shape.words matrix.new) }
-    ensures space { HaveSameRowSpace (tower_mul 0) shape.rows (64 * shape.words) (bit_entry shape.words matrix.old)
-        (bit_entry shape.words matrix.new) }
+    ensures { AreRowsReduced (bit_entry shape.words) (tower_mul 0) shape.rows (64 * shape.words) to result matrix.old matrix.new
+        pivots.old pivots.new }
 {
     let mut places = [shape.rows; 64];
     let mut found = rank;

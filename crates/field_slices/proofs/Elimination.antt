@@ -1,7 +1,8 @@
 -- Elimination: what a row operation keeps, and how the reduced row echelon form grows by a column.
-use Rattle.std.proofs.Common.{◌≡◌, ◌≢◌, ◌⊎◌, inl, inr, ℕ, ◌+◌, ◌*◌, ◌^◌, ◌<◌, ◌≤◌, Bool, List, refl, sym, subst, ◌∙◌, ap, ap₂, arith, below_more}
-use Rattle.std.specs.Prelude.{bit_xor, if◌then◌else◌}
+use Rattle.std.proofs.Common.{◌≡◌, ◌≢◌, ◌⊎◌, inl, inr, ℕ, ◌+◌, ◌*◌, ◌^◌, ◌<◌, ◌≤◌, Bool, List, length, set, refl, sym, subst, ◌∙◌, ap, ap₂, arith, below_more}
+use Rattle.std.specs.Prelude.{bit_xor, if◌then◌else◌, slice_index}
 use Rattle.std.proofs.lemmas.Bool.{cases_eq, cases_lt, eq-eqb, ne_eqb}
+use Rattle.std.proofs.lemmas.List.{get_or-set_same, get_or-set_other}
 use Rattle.std.proofs.lemmas.Nat.{pow_below}
 use lib.Bits.{xor_self, xor_zero_r}
 use Rattle.field_base.specs.Ring.{IsRing}
@@ -387,3 +388,17 @@ module _ (rows column rank : ℕ) (pivot pivot_next : ℕ → ℕ) (A B : ℕ �
               let fits = so_far.pivots_fit i below in
               stays i j (inside_before i below) (omega (arith, before, is, fits))
               ∙ so_far.zeros_before i j below (omega (arith, before, is))
+
+-- the same with the column noted in a list: that of a row which is the first from row `rank` on that is not 0 there
+pub echelon_noted : (rows columns column rank row : ℕ) (pivots : List ℕ) (A B : ℕ → ℕ → ℕ) → (rank ≤ row) × (row < rows)
+    → length pivots ≡ rows → column < columns → B rank column ≡ 1 → ((i : ℕ) → i < rows → i ≢ rank → B i column ≡ 0)
+    → ((i j : ℕ) → i < rows → j < columns → A rank j ≡ 0 → A row j ≡ 0 → B i j ≡ A i j)
+    → IsReducedEchelon rows column rank (slice_index pivots) A
+    → IsReducedEchelon rows (column + 1) (rank + 1) (slice_index (set pivots rank column)) B
+echelon_noted rows columns column rank row pivots A B found room inside leads clears stays so_far =
+    let rank_within : rank < rows = omega (arith, found.0, found.1) in
+    echelon_more rows column rank (slice_index pivots) (slice_index (set pivots rank column)) A B rank_within
+    (λ i below. get_or-set_other pivots rank i column 0 (λ e. absurd (omega (arith, e, below))))
+    (get_or-set_same pivots rank column 0 (omega (arith, rank_within, room))) leads clears
+    (λ i j within before. stays i j within (omega (arith, before, inside))
+    (so_far.zero_rows rank j (omega arith) rank_within before) (so_far.zero_rows row j found.0 found.1 before)) so_far

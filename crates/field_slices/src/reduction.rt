@@ -1,7 +1,7 @@
 // Reduced row echelon form, by the elimination of Gauss and Jordan.
 ghost use Rattle.std.specs.Prelude.{◌≡◌, ◌≢◌, ◌+◌, ◌*◌, ◌<◌, ◌≤◌, ℕ, IsNone, IfSome, length, slice_index};
-ghost use Rattle.field_slices.specs.Matrices.{HasMatrixEntry, HasMatrixRow, HaveSameRowSpace, IsReducedEchelon, IsRowWritten};
-ghost use Rattle.field_slices.specs.Matrices.{cleared_entry, entry_of, joined_entry};
+ghost use Rattle.field_slices.specs.Matrices.{AreRowsReduced, HasMatrixEntry, HasMatrixRow, HaveSameRowSpace, IsReducedEchelon};
+ghost use Rattle.field_slices.specs.Matrices.{IsRowWritten, cleared_entry, entry_of, joined_entry};
 
 use crate::rows::{Shape, add_scaled_row, entry, scale_row};
 use crate::scalars::Scalars;
@@ -17,10 +17,7 @@ pub fn row_reduce<S: Scalars>(
 ) -> usize
     requires shape { length matrix.old ≡ rows * columns }
     requires room { length pivots.old ≡ rows }
-    ensures shape { length matrix.new ≡ length matrix.old }
-    ensures room { length pivots.new ≡ length pivots.old }
-    ensures reduced { IsReducedEchelon rows columns result (slice_index pivots.new) (entry_of S.number columns matrix.new) }
-    ensures space { HaveSameRowSpace S.product rows columns (entry_of S.number columns matrix.old) (entry_of S.number columns matrix.new) }
+    ensures { AreRowsReduced (entry_of S.number columns) S.product rows columns columns result matrix.old matrix.new pivots.old pivots.new }
 {
     row_reduce_augmented::<S>(matrix, rows, columns, columns, pivots)
 }
@@ -37,10 +34,7 @@ pub fn row_reduce_augmented<S: Scalars>(
     requires shape { length matrix.old ≡ rows * columns }
     requires count { count ≤ columns }
     requires room { length pivots.old ≡ rows }
-    ensures shape { length matrix.new ≡ length matrix.old }
-    ensures room { length pivots.new ≡ length pivots.old }
-    ensures reduced { IsReducedEchelon rows count result (slice_index pivots.new) (entry_of S.number columns matrix.new) }
-    ensures space { HaveSameRowSpace S.product rows columns (entry_of S.number columns matrix.old) (entry_of S.number columns matrix.new) }
+    ensures { AreRowsReduced (entry_of S.number columns) S.product rows columns count result matrix.old matrix.new pivots.old pivots.new }
 {
     let shape = Shape { rows, columns };
     let mut rank = 0;
@@ -62,12 +56,8 @@ fn reduce_column<S: Scalars>(
     requires room { length pivots.old ≡ shape.rows }
     requires column { column < shape.columns }
     requires reduced { IsReducedEchelon shape.rows column rank (slice_index pivots.old) (entry_of S.number shape.columns matrix.old) }
-    ensures shape { length matrix.new ≡ length matrix.old }
-    ensures room { length pivots.new ≡ length pivots.old }
-    ensures reduced { IsReducedEchelon shape.rows (column + 1) result (slice_index pivots.new)
-        (entry_of S.number shape.columns matrix.new) }
-    ensures space { HaveSameRowSpace S.product shape.rows shape.columns (entry_of S.number shape.columns matrix.old)
-        (entry_of S.number shape.columns matrix.new) }
+    ensures { AreRowsReduced (entry_of S.number shape.columns) S.product shape.rows shape.columns (column + 1) result matrix.old matrix.new
+        pivots.old pivots.new }
 {
     match find_pivot::<S>(matrix, shape, rank, column) {
         None => rank,

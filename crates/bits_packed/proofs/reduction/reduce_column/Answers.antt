@@ -1,9 +1,8 @@
-use Rattle.std.proofs.Common.{◌<◌, ◌*◌, ◌%◌, ◌∙◌, refl, set, arith}
+use Rattle.std.proofs.Common.{◌*◌, ◌%◌, ◌∙◌, refl, arith}
 use Rattle.std.specs.Prelude.{slice_index}
-use Rattle.std.proofs.lemmas.List.{get_or-set_same, get_or-set_other}
 use Rattle.field_base.specs.BitRingLemmas.{bits_ring}
 use Rattle.field_base.specs.Tower.{tower_mul}
-use Rattle.field_slices.proofs.Elimination.{echelon_more, echelon_skip}
+use Rattle.field_slices.proofs.Elimination.{echelon_noted, echelon_skip}
 use Rattle.field_slices.proofs.RowSpaces.{space_same}
 use Rattle.bits_packed.specs.BitMatrices.{bit_entry, present_bit}
 use Rattle.bits_packed.proofs.PendingSums.{places-on, present-stored}
@@ -34,16 +33,7 @@ make_pivot-requires-clause-rank c =
 pub returns-in-Some-clause-reduced : goal.returns-in-Some-clause-reduced
 returns-in-Some-clause-reduced c =
     let now = present_bit c.args.shape.rows c.args.shape.words c.args.column in
-    let pivots = c.args.pivots.now in
-    let rank = c.args.rank in
-    let column = c.args.column in
-    let found = c.in-Some.ensures.inside in
     let made = c.make_pivot.ensures in
-    let so_far = c.requires.reduced in
-    let rank_within : rank < c.args.shape.rows = omega (arith, found.0, found.1) in
-    echelon_more c.args.shape.rows column rank (slice_index pivots) (slice_index (set pivots rank column))
-    (now c.args.places.now c.args.matrix.now) (now c.make_pivot.new.places c.make_pivot.new.matrix) rank_within
-    (λ i below. get_or-set_other pivots rank i column 0 (λ e. absurd (omega (arith, e, below))))
-    (get_or-set_same pivots rank column 0 (omega (arith, rank_within, c.requires.room))) made.leading made.alone
-    (λ i j inside before. made.stays i j inside (omega (arith, before, c.requires.column))
-    (so_far.zero_rows rank j (omega arith) rank_within before) (so_far.zero_rows c.in-Some.row j found.0 found.1 before)) so_far
+    echelon_noted c.args.shape.rows (64 * c.args.shape.words) c.args.column c.args.rank c.in-Some.row c.args.pivots.now
+    (now c.args.places.now c.args.matrix.now) (now c.make_pivot.new.places c.make_pivot.new.matrix) c.in-Some.ensures.inside c.requires.room
+    c.requires.column made.leading made.alone made.stays c.requires.reduced

@@ -79,29 +79,21 @@ add_sums-requires-clause-shape c = c.loop-column.invariant.0 ∙ c.requires.shap
 pub add_sums-requires-clause-word : goal.add_sums-requires-clause-word
 add_sums-requires-clause-word c = omega (arith, c.requires.within, c.requires.more)
 
-pub returns-clause-shape : goal.returns-clause-shape
-returns-clause-shape c = c.add_sums.ensures.shape ∙ c.loop-column.invariant.0
-
-pub returns-clause-room : goal.returns-clause-room
-returns-clause-room c = c.loop-column.invariant.1
-
-pub returns-clause-reduced : goal.returns-clause-reduced
-returns-clause-reduced c =
+pub returns : goal.returns
+returns c =
     let rows = c.args.shape.rows in
     let words = c.args.shape.words in
     let now = present_bit rows words c.args.from c.loop-column.places c.loop-column.matrix in
     let all : c.loop-column.column ≡ c.args.to = omega (arith, c.requires.more) in
-    echelon_equal rows c.args.to now (bit_entry words c.add_sums.new.matrix)
-    (λ i j inside fits. c.add_sums.ensures.entries i j inside (omega (arith, fits, c.requires.within))) c.loop-column.found
-    (slice_index c.loop-column.pivots)
-    (subst (λ (n : ℕ). IsReducedEchelon rows n c.loop-column.found (slice_index c.loop-column.pivots) now) all c.loop-column.invariant.3)
-
-pub returns-clause-space : goal.returns-clause-space
-returns-clause-space c =
-    let rows = c.args.shape.rows in
-    let words = c.args.shape.words in
-    let now = present_bit rows words c.args.from c.loop-column.places c.loop-column.matrix in
-    space_then 1 (tower_mul 0) bits_ring rows (64 * words) (bit_entry words c.args.matrix.now) now (bit_entry words c.add_sums.new.matrix)
-    c.loop-column.invariant.4
-    (space_equal rows (64 * words) now (bit_entry words c.add_sums.new.matrix) (λ i j inside fits. c.add_sums.ensures.entries i j inside fits)
-    (tower_mul 0))
+    record {
+      shape = c.add_sums.ensures.shape ∙ c.loop-column.invariant.0;
+      room = c.loop-column.invariant.1;
+      reduced = echelon_equal rows c.args.to now (bit_entry words c.add_sums.new.matrix)
+          (λ i j inside fits. c.add_sums.ensures.entries i j inside (omega (arith, fits, c.requires.within))) c.loop-column.found
+          (slice_index c.loop-column.pivots)
+          (subst (λ (n : ℕ). IsReducedEchelon rows n c.loop-column.found (slice_index c.loop-column.pivots) now) all c.loop-column.invariant.3);
+      space = space_then 1 (tower_mul 0) bits_ring rows (64 * words) (bit_entry words c.args.matrix.now) now
+          (bit_entry words c.add_sums.new.matrix) c.loop-column.invariant.4
+          (space_equal rows (64 * words) now (bit_entry words c.add_sums.new.matrix)
+          (λ i j inside fits. c.add_sums.ensures.entries i j inside fits) (tower_mul 0));
+    }

@@ -51,12 +51,14 @@ loop-index-preserved c =
           (bit_entry words c.loop-index.matrix) (bit_entry words c.reduce_strip-rank.new.matrix) so_far.3 step.space,
     )
 
-pub returns-clause-reduced : goal.returns-clause-reduced
-returns-clause-reduced c =
+pub returns : goal.returns
+returns c =
     let enough = (div_ceil_times c.args.count 64 (omega arith)).0 in
     let all : min (64 * c.loop-index.index) c.args.count ≡ c.args.count = omega (arith, enough, c.div_ceil-strips.ensures) in
-    subst (λ (n : ℕ). IsReducedEchelon c.args.shape.rows n c.loop-index.rank (slice_index c.loop-index.pivots)
-    (bit_entry c.args.shape.words c.loop-index.matrix)) all c.loop-index.invariant.2
-
-pub returns-clause-space : goal.returns-clause-space
-returns-clause-space c = c.loop-index.invariant.3
+    record {
+      shape = c.loop-index.invariant.0;
+      room = c.loop-index.invariant.1;
+      reduced = subst (λ (n : ℕ). IsReducedEchelon c.args.shape.rows n c.loop-index.rank (slice_index c.loop-index.pivots)
+          (bit_entry c.args.shape.words c.loop-index.matrix)) all c.loop-index.invariant.2;
+      space = c.loop-index.invariant.3;
+    }

@@ -1,23 +1,32 @@
-use Rattle.std.proofs.Common.{◌<◌, set, arith}
+use Rattle.std.proofs.Common.{refl}
 use Rattle.std.specs.Prelude.{slice_index}
-use Rattle.std.proofs.lemmas.List.{get_or-set_same, get_or-set_other}
+use Rattle.std.proofs.lemmas.List.{length-set}
 use Rattle.field_slices.specs.Matrices.{entry_of}
-use Rattle.field_slices.proofs.Elimination.{echelon_more}
+use Rattle.field_slices.proofs.Elimination.{echelon_noted, echelon_skip}
+use Rattle.field_slices.proofs.RowSpaces.{space_same}
 use Rattle.field_slices.proofs.reduction.reduce_column.Goals as goal
 
-pub returns-in-Some-clause-reduced : goal.returns-in-Some-clause-reduced
-returns-in-Some-clause-reduced g c =
+pub returns-in-None : goal.returns-in-None
+returns-in-None g c =
+    let scalars = g.S.Scalars in
+    let entries = entry_of scalars.number c.args.shape.columns c.args.matrix.now in
+    record {
+      shape = refl;
+      room = refl;
+      reduced = echelon_skip c.args.shape.rows c.args.column c.args.rank (slice_index c.args.pivots.now) entries (c.in-None.ensures.none refl)
+          c.requires.reduced;
+      space = space_same scalars.width scalars.product g.met.S.Scalars.field_law.ring c.args.shape.rows c.args.shape.columns entries;
+    }
+
+pub returns-in-Some : goal.returns-in-Some
+returns-in-Some g c =
     let entries = entry_of g.S.Scalars.number c.args.shape.columns in
-    let pivots = c.args.pivots.now in
-    let rank = c.args.rank in
-    let column = c.args.column in
-    let found = c.in-Some.ensures.inside in
     let made = c.make_pivot.ensures in
-    let so_far = c.requires.reduced in
-    let rank_within : rank < c.args.shape.rows = omega (arith, found.0, found.1) in
-    echelon_more c.args.shape.rows column rank (slice_index pivots) (slice_index (set pivots rank column)) (entries c.args.matrix.now)
-    (entries c.make_pivot.new.matrix) rank_within
-    (λ i below. get_or-set_other pivots rank i column 0 (λ e. absurd (omega (arith, e, below))))
-    (get_or-set_same pivots rank column 0 (omega (arith, rank_within, c.requires.room))) made.leading made.alone
-    (λ i j inside before. made.stays i j inside (omega (arith, before, c.requires.column))
-    (so_far.zero_rows rank j (omega arith) rank_within before) (so_far.zero_rows c.in-Some.row j found.0 found.1 before)) so_far
+    record {
+      shape = made.shape;
+      room = length-set c.args.pivots.now c.args.rank c.args.column;
+      reduced = echelon_noted c.args.shape.rows c.args.shape.columns c.args.column c.args.rank c.in-Some.row c.args.pivots.now
+          (entries c.args.matrix.now) (entries c.make_pivot.new.matrix) c.in-Some.ensures.inside c.requires.room c.requires.column made.leading
+          made.alone made.stays c.requires.reduced;
+      space = made.space;
+    }

@@ -29,11 +29,13 @@ loop-column-preserved g c =
           (entry_of scalars.number columns c.reduce_column-rank.new.matrix) so_far.3 step.space,
     )
 
-pub returns-clause-reduced : goal.returns-clause-reduced
-returns-clause-reduced g c =
+pub returns : goal.returns
+returns g c =
     let all : c.loop-column.column ≡ c.args.count = omega arith in
-    subst (λ (n : ℕ). IsReducedEchelon c.args.rows n c.loop-column.rank (slice_index c.loop-column.pivots)
-    (entry_of g.S.Scalars.number c.args.columns c.loop-column.matrix)) all c.loop-column.invariant.2
-
-pub returns-clause-space : goal.returns-clause-space
-returns-clause-space g c = c.loop-column.invariant.3
+    record {
+      shape = c.loop-column.invariant.0;
+      room = c.loop-column.invariant.1;
+      reduced = subst (λ (n : ℕ). IsReducedEchelon c.args.rows n c.loop-column.rank (slice_index c.loop-column.pivots)
+          (entry_of g.S.Scalars.number c.args.columns c.loop-column.matrix)) all c.loop-column.invariant.2;
+      space = c.loop-column.invariant.3;
+    }
