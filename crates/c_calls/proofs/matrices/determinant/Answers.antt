@@ -1,8 +1,13 @@
 use Rattle.std.proofs.Common.{◌∙◌}
 use Rattle.many_words.specs.Fields.{field_of}
 use Rattle.c_calls.proofs.Calls.{determinant_is}
-use Rattle.c_calls.proofs.Endings.{call_done}
+use Rattle.c_calls.proofs.Endings.{call_done, call_no_elements, refuted}
 use Rattle.c_calls.proofs.matrices.determinant.Goals as goal
+
+pub returns-then-not-are_elements : goal.returns-then-not-are_elements
+returns-then-not-are_elements g c =
+    let shape = c.has_shape.ensures.0 c.if-not-has_shape.false in
+    call_no_elements (shape, c.if-space-matrix.false ∙ shape) (λ fits. refuted c.if-not-are_elements.true (c.are_elements.ensures.1 fits))
 
 pub returns : goal.returns
 returns g c =

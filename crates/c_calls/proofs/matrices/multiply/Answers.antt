@@ -1,8 +1,11 @@
 use Rattle.many_words.specs.Fields.{field_of}
 use Rattle.c_calls.proofs.Calls.{product_is}
-use Rattle.c_calls.proofs.Endings.{call_done}
+use Rattle.c_calls.proofs.Endings.{call_done, call_misfit, call_no_elements, refuted}
 use Rattle.c_calls.proofs.LowNumbers.{now_numbers}
 use Rattle.c_calls.proofs.matrices.multiply.Goals as goal
+use Rattle.c_calls.proofs.matrices.multiply.Goals.{then-not-has_shape-via-then-not-has_shape, then-not-has_shape-via-else-not-has_shape+then-not-has_shape-2}
+use Rattle.c_calls.proofs.matrices.multiply.Goals.{then-not-has_shape-via-else-not-has_shape+else-not-has_shape-2+then-not-has_shape-3}
+use Rattle.c_calls.proofs.matrices.multiply.Goals.{then-not-are_elements-via-then-not-are_elements, then-not-are_elements-via-else-not-are_elements+then-not-are_elements-2}
 
 pub multiply_into-requires-clause-left : goal.multiply_into-requires-clause-left
 multiply_into-requires-clause-left g c = c.has_shape.ensures.0 c.if-not-has_shape.false
@@ -12,6 +15,32 @@ multiply_into-requires-clause-right g c = c.has_shape-else-not-has_shape.ensures
 
 pub multiply_into-requires-clause-shape : goal.multiply_into-requires-clause-shape
 multiply_into-requires-clause-shape g c = c.has_shape-else-not-has_shape-2.ensures.0 c.if-not-has_shape-3.false
+
+pub returns-then-not-has_shape : goal.returns-then-not-has_shape
+returns-then-not-has_shape g c =
+    call_misfit
+    (λ fit.
+    elim c.then-not-has_shape.branch [
+      | then-not-has_shape-via-then-not-has_shape w ↦ refuted w.if-not-has_shape.true (c.has_shape.ensures.1 fit.0)
+      | then-not-has_shape-via-else-not-has_shape+then-not-has_shape-2 w ↦
+          refuted w.if-not-has_shape-2.true (w.has_shape-else-not-has_shape.ensures.1 fit.1)
+      | then-not-has_shape-via-else-not-has_shape+else-not-has_shape-2+then-not-has_shape-3 w ↦
+          refuted w.if-not-has_shape-3.true (w.has_shape-else-not-has_shape-2.ensures.1 fit.2)
+    ])
+
+pub returns-then-not-are_elements : goal.returns-then-not-are_elements
+returns-then-not-are_elements g c =
+    call_no_elements (
+      c.has_shape.ensures.0 c.if-not-has_shape.false,
+      c.has_shape-else-not-has_shape.ensures.0 c.if-not-has_shape-2.false,
+      c.has_shape-else-not-has_shape-2.ensures.0 c.if-not-has_shape-3.false,
+    )
+    (λ both.
+    elim c.then-not-are_elements.branch [
+      | then-not-are_elements-via-then-not-are_elements w ↦ refuted w.if-not-are_elements.true (c.are_elements.ensures.1 both.0)
+      | then-not-are_elements-via-else-not-are_elements+then-not-are_elements-2 w ↦
+          refuted w.if-not-are_elements-2.true (w.are_elements-else-not-are_elements.ensures.1 both.1)
+    ])
 
 pub returns : goal.returns
 returns g c =

@@ -9,6 +9,12 @@ returns-then-not-are_elements g c =
     call_no_elements (c.has_shape.ensures.0 c.if-not-has_shape.false, c.if-pivots-rows.false)
     (λ fits. refuted c.if-not-are_elements.true (c.are_elements.ensures.1 fits))
 
+pub row_reduce-requires-clause-shape : goal.row_reduce-requires-clause-shape
+row_reduce-requires-clause-shape g c = c.has_shape.ensures.0 c.if-not-has_shape.false
+
+pub row_reduce-requires-clause-room : goal.row_reduce-requires-clause-room
+row_reduce-requires-clause-room g c = c.if-pivots-rows.false
+
 pub returns : goal.returns
 returns g c =
     let field = field_of g.W.Reads.number g.K.FieldKernel.width g.K.FieldKernel.product g.K.FieldKernel.generator in

@@ -3,13 +3,24 @@ use Rattle.std.specs.Prelude.{slice_index}
 use Rattle.field_slices.specs.Matrices.{IsSolution, entry_of}
 use Rattle.many_words.specs.Fields.{field_of}
 use Rattle.c_calls.specs.Low.{low_number}
-use Rattle.c_calls.proofs.Endings.{call_solved, call_unsolved, equations_misfit, refuted}
+use Rattle.c_calls.proofs.Endings.{call_solved, call_unsolved, equations_misfit, equations_no_elements, refuted}
 use Rattle.c_calls.proofs.Equations.{is_solution, solution_is}
 use Rattle.c_calls.proofs.LowNumbers.{now_elements, now_numbers}
 use Rattle.c_calls.proofs.matrices.solve.Goals as goal
+use Rattle.c_calls.proofs.matrices.solve.Goals.{then-not-are_elements-via-then-not-are_elements, then-not-are_elements-via-else-not-are_elements+then-not-are_elements-2}
 
 pub returns-then-not-have_lengths : goal.returns-then-not-have_lengths
 returns-then-not-have_lengths g c = equations_misfit (λ fit. refuted c.if-not-have_lengths.true (c.have_lengths.ensures.1 fit))
+
+pub returns-then-not-are_elements : goal.returns-then-not-are_elements
+returns-then-not-are_elements g c =
+    equations_no_elements (c.have_lengths.ensures.0 c.if-not-have_lengths.false)
+    (λ both.
+    elim c.then-not-are_elements.branch [
+      | then-not-are_elements-via-then-not-are_elements w ↦ refuted w.if-not-are_elements.true (c.are_elements.ensures.1 both.0)
+      | then-not-are_elements-via-else-not-are_elements+then-not-are_elements-2 w ↦
+          refuted w.if-not-are_elements-2.true (w.are_elements-else-not-are_elements.ensures.1 both.1)
+    ])
 
 pub overflow_add-width : goal.overflow_add-width
 overflow_add-width g c = omega (arith, (c.have_lengths.ensures.0 c.if-not-have_lengths.false).few)
