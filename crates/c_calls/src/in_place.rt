@@ -3,7 +3,7 @@
 ghost use Rattle.c_calls.specs.Calls.{CallOnEach, CallOnTwo};
 ghost use Rattle.many_words.specs.Fields.{field_of};
 
-use crate::slices::are_elements;
+use crate::slices::{are_both_elements, are_elements};
 use crate::status;
 use field_base::{FieldKernel, Holds, Stored};
 use many_words::operations::{OnOne, OnTwo};
@@ -37,7 +37,7 @@ pub fn change_each_by<R: Stored, W: Holds<R>, K: FieldKernel<R>, O: OnTwo<R, W, 
     if others.len() != words.len() {
         return status::LENGTH;
     }
-    if !are_elements::<R, W, K>(words) || !are_elements::<R, W, K>(others) {
+    if !are_both_elements::<R, W, K>(words, others) {
         return status::NOT_AN_ELEMENT;
     }
     change_all_by::<R, W, K, O>(words, others, operation);

@@ -7,7 +7,7 @@ ghost use Rattle.many_words.specs.Fields.{field_of};
 ghost use Rattle.many_words.specs.Words.{AreElements, HoldInverses, IsElement};
 
 use crate::scalars::{Words, truncate_all, truncated};
-use crate::slices::{are_elements, write_each, write_each_of_two};
+use crate::slices::{are_both_elements, are_elements, write_each, write_each_of_two};
 use crate::status;
 use bit_slices::Vector;
 use field_base::{Holds, Stored};
@@ -31,7 +31,7 @@ pub fn multiply<R: Stored, W: Holds<R>, K: Many<R, W>, V: Width + Vector>(
     if left.len() != products.len() || right.len() != products.len() {
         return status::LENGTH;
     }
-    if !are_elements::<R, W, K>(left) || !are_elements::<R, W, K>(right) {
+    if !are_both_elements::<R, W, K>(left, right) {
         return status::NOT_AN_ELEMENT;
     }
     products.copy_from_slice(left);
@@ -51,7 +51,7 @@ pub fn multiply_in_place<R: Stored, W: Holds<R>, K: Many<R, W>, V: Width + Vecto
     if words.len() != products.len() {
         return status::LENGTH;
     }
-    if !are_elements::<R, W, K>(products) || !are_elements::<R, W, K>(words) {
+    if !are_both_elements::<R, W, K>(products, words) {
         return status::NOT_AN_ELEMENT;
     }
     many_words::multiply::<R, W, K, V>(products, words);
@@ -132,7 +132,7 @@ pub fn dot_product<R: Stored, W: Holds<R>, K: Many<R, W>, V: Width + Vector>(
     if left.len() != right.len() {
         return status::LENGTH;
     }
-    if !are_elements::<R, W, K>(left) || !are_elements::<R, W, K>(right) {
+    if !are_both_elements::<R, W, K>(left, right) {
         return status::NOT_AN_ELEMENT;
     }
     *sum = W::of_stored(K::dot_product::<V, W>(left, right));
@@ -222,7 +222,7 @@ pub fn evaluate<R: Stored, W: Holds<R>, K: Many<R, W>, V: Width + Vector>(
     if points.len() != values.len() {
         return status::LENGTH;
     }
-    if !are_elements::<R, W, K>(coefficients) || !are_elements::<R, W, K>(points) {
+    if !are_both_elements::<R, W, K>(coefficients, points) {
         return status::NOT_AN_ELEMENT;
     }
     for place in 0..values.len() {

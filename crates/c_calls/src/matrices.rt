@@ -5,7 +5,7 @@ ghost use Rattle.c_calls.specs.Matrices.{HaveEquationLengths, InvertsMatrix, Mul
 ghost use Rattle.c_calls.specs.Matrices.{TakesDeterminant, TakesRank};
 
 use crate::shapes::has_shape;
-use crate::slices::are_elements;
+use crate::slices::{are_both_elements, are_elements};
 use crate::{Words, status, truncate_all, truncated};
 use bit_slices::Vector;
 use field_base::{Holds, Stored};
@@ -34,7 +34,7 @@ pub fn multiply<R: Stored, W: Holds<R>, K: Many<R, W>, V: Width + Vector>(
     {
         return status::LENGTH;
     }
-    if !are_elements::<R, W, K>(left) || !are_elements::<R, W, K>(right) {
+    if !are_both_elements::<R, W, K>(left, right) {
         return status::NOT_AN_ELEMENT;
     }
     multiply_into::<Words<R, W, K, V>>(product, left, right, rows, inner, columns);
@@ -189,7 +189,7 @@ pub fn solve<R: Stored, W: Holds<R>, K: Many<R, W>, V: Width + Vector>(
     ) {
         return status::LENGTH;
     }
-    if !are_elements::<R, W, K>(matrix) || !are_elements::<R, W, K>(right) {
+    if !are_both_elements::<R, W, K>(matrix, right) {
         return status::NOT_AN_ELEMENT;
     }
     let width = columns + 1;

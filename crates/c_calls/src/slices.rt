@@ -63,7 +63,7 @@ pub fn write_each_of_two<R: Stored, W: Holds<R>, K: FieldKernel<R>, O: OnTwo<R, 
     if left.len() != results.len() || right.len() != results.len() {
         return status::LENGTH;
     }
-    if !are_elements::<R, W, K>(left) || !are_elements::<R, W, K>(right) {
+    if !are_both_elements::<R, W, K>(left, right) {
         return status::NOT_AN_ELEMENT;
     }
     for place in 0..results.len() {
@@ -143,4 +143,16 @@ pub fn are_elements<R: Stored, W: Holds<R>, K: FieldKernel<R>>(words: &[W]) -> b
         }
     }
     true
+}
+
+/// Whether every word of both slices is an element.
+#[inline]
+pub(crate) fn are_both_elements<R: Stored, W: Holds<R>, K: FieldKernel<R>>(
+    left: &[W],
+    right: &[W],
+) -> bool
+    ensures { IsTrue result ↔ (AreElements (field_of W.number K.width K.product K.generator) left.now
+        × AreElements (field_of W.number K.width K.product K.generator) right.now) }
+{
+    are_elements::<R, W, K>(left) && are_elements::<R, W, K>(right)
 }

@@ -23,12 +23,6 @@ copy_columns-requires-clause-source g c = c.has_shape.ensures.0 c.if-not-has_sha
 pub copy_columns-requires-clause-shape : goal.copy_columns-requires-clause-shape
 copy_columns-requires-clause-shape g c = c.has_shape-2.ensures.0 c.if-not-has_shape-2.false
 
-pub copy_columns-requires-clause-inside : goal.copy_columns-requires-clause-inside
-copy_columns-requires-clause-inside g c = omega arith
-
-pub copy_columns-requires-clause-room : goal.copy_columns-requires-clause-room
-copy_columns-requires-clause-room g c = omega arith
-
 pub invert_beside-requires-clause-shape : goal.invert_beside-requires-clause-shape
 invert_beside-requires-clause-shape g c = c.copy_columns.ensures.shape ∙ c.has_shape-2.ensures.0 c.if-not-has_shape-2.false
 
@@ -38,12 +32,6 @@ copy_columns-requires-2-clause-source g c =
 
 pub copy_columns-requires-2-clause-shape : goal.copy_columns-requires-2-clause-shape
 copy_columns-requires-2-clause-shape g c = c.if-inverse-matrix.false ∙ c.has_shape.ensures.0 c.if-not-has_shape.false
-
-pub copy_columns-requires-2-clause-inside : goal.copy_columns-requires-2-clause-inside
-copy_columns-requires-2-clause-inside g c = omega arith
-
-pub copy_columns-requires-2-clause-room : goal.copy_columns-requires-2-clause-room
-copy_columns-requires-2-clause-room g c = omega arith
 
 pub returns-then-not-invert_beside : goal.returns-then-not-invert_beside
 returns-then-not-invert_beside g c =

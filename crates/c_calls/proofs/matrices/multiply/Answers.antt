@@ -5,7 +5,6 @@ use Rattle.c_calls.proofs.LowNumbers.{now_numbers}
 use Rattle.c_calls.proofs.matrices.multiply.Goals as goal
 use Rattle.c_calls.proofs.matrices.multiply.Goals.{then-not-has_shape-via-then-not-has_shape, then-not-has_shape-via-else-not-has_shape+then-not-has_shape-2}
 use Rattle.c_calls.proofs.matrices.multiply.Goals.{then-not-has_shape-via-else-not-has_shape+else-not-has_shape-2+then-not-has_shape-3}
-use Rattle.c_calls.proofs.matrices.multiply.Goals.{then-not-are_elements-via-then-not-are_elements, then-not-are_elements-via-else-not-are_elements+then-not-are_elements-2}
 
 pub multiply_into-requires-clause-left : goal.multiply_into-requires-clause-left
 multiply_into-requires-clause-left g c = c.has_shape.ensures.0 c.if-not-has_shape.false
@@ -28,32 +27,26 @@ returns-then-not-has_shape g c =
           refuted w.if-not-has_shape-3.true (w.has_shape-else-not-has_shape-2.ensures.1 fit.2)
     ])
 
-pub returns-then-not-are_elements : goal.returns-then-not-are_elements
-returns-then-not-are_elements g c =
+pub returns-then-not-are_both_elements : goal.returns-then-not-are_both_elements
+returns-then-not-are_both_elements g c =
     call_no_elements (
       c.has_shape.ensures.0 c.if-not-has_shape.false,
       c.has_shape-else-not-has_shape.ensures.0 c.if-not-has_shape-2.false,
       c.has_shape-else-not-has_shape-2.ensures.0 c.if-not-has_shape-3.false,
     )
-    (λ both.
-    elim c.then-not-are_elements.branch [
-      | then-not-are_elements-via-then-not-are_elements w ↦ refuted w.if-not-are_elements.true (c.are_elements.ensures.1 both.0)
-      | then-not-are_elements-via-else-not-are_elements+then-not-are_elements-2 w ↦
-          refuted w.if-not-are_elements-2.true (w.are_elements-else-not-are_elements.ensures.1 both.1)
-    ])
+    (λ both. refuted c.if-not-are_both_elements.true (c.are_both_elements.ensures.1 both))
 
 pub returns : goal.returns
 returns g c =
     let field = field_of g.W.Reads.number g.K.FieldKernel.width g.K.FieldKernel.product g.K.FieldKernel.generator in
     let target = c.multiply_into.new.target in
     let product = c.truncate_all.new.words in
-    let left_fits = c.are_elements.ensures.0 c.if-not-are_elements.false in
-    let right_fits = c.are_elements-else-not-are_elements.ensures.0 c.if-not-are_elements-2.false in
+    let fits = c.are_both_elements.ensures.0 c.if-not-are_both_elements.false in
     call_done (
       c.has_shape.ensures.0 c.if-not-has_shape.false,
       c.has_shape-else-not-has_shape.ensures.0 c.if-not-has_shape-2.false,
       c.has_shape-else-not-has_shape-2.ensures.0 c.if-not-has_shape-3.false,
     )
-    (left_fits, right_fits)
-    (product_is field c.args.rows c.args.inner c.args.columns c.args.left.now c.args.right.now target product left_fits right_fits
+    fits
+    (product_is field c.args.rows c.args.inner c.args.columns c.args.left.now c.args.right.now target product fits.0 fits.1
     (now_numbers field target product c.truncate_all.ensures.long c.truncate_all.ensures.low) c.multiply_into.ensures.product)

@@ -7,20 +7,14 @@ use Rattle.c_calls.proofs.Endings.{call_solved, call_unsolved, equations_misfit,
 use Rattle.c_calls.proofs.Equations.{is_solution, solution_is}
 use Rattle.c_calls.proofs.LowNumbers.{now_elements, now_numbers}
 use Rattle.c_calls.proofs.matrices.solve.Goals as goal
-use Rattle.c_calls.proofs.matrices.solve.Goals.{then-not-are_elements-via-then-not-are_elements, then-not-are_elements-via-else-not-are_elements+then-not-are_elements-2}
 
 pub returns-then-not-have_lengths : goal.returns-then-not-have_lengths
 returns-then-not-have_lengths g c = equations_misfit (λ fit. refuted c.if-not-have_lengths.true (c.have_lengths.ensures.1 fit))
 
-pub returns-then-not-are_elements : goal.returns-then-not-are_elements
-returns-then-not-are_elements g c =
+pub returns-then-not-are_both_elements : goal.returns-then-not-are_both_elements
+returns-then-not-are_both_elements g c =
     equations_no_elements (c.have_lengths.ensures.0 c.if-not-have_lengths.false)
-    (λ both.
-    elim c.then-not-are_elements.branch [
-      | then-not-are_elements-via-then-not-are_elements w ↦ refuted w.if-not-are_elements.true (c.are_elements.ensures.1 both.0)
-      | then-not-are_elements-via-else-not-are_elements+then-not-are_elements-2 w ↦
-          refuted w.if-not-are_elements-2.true (w.are_elements-else-not-are_elements.ensures.1 both.1)
-    ])
+    (λ both. refuted c.if-not-are_both_elements.true (c.are_both_elements.ensures.1 both))
 
 pub overflow_add-width : goal.overflow_add-width
 overflow_add-width g c = omega (arith, (c.have_lengths.ensures.0 c.if-not-have_lengths.false).few)
@@ -31,24 +25,12 @@ copy_columns-requires-clause-source g c = (c.have_lengths.ensures.0 c.if-not-hav
 pub copy_columns-requires-clause-shape : goal.copy_columns-requires-clause-shape
 copy_columns-requires-clause-shape g c = (c.have_lengths.ensures.0 c.if-not-have_lengths.false).beside
 
-pub copy_columns-requires-clause-inside : goal.copy_columns-requires-clause-inside
-copy_columns-requires-clause-inside g c = omega arith
-
-pub copy_columns-requires-clause-room : goal.copy_columns-requires-clause-room
-copy_columns-requires-clause-room g c = omega arith
-
 pub copy_columns-requires-2-clause-source : goal.copy_columns-requires-2-clause-source
 copy_columns-requires-2-clause-source g c = omega (arith, (c.have_lengths.ensures.0 c.if-not-have_lengths.false).right_sides)
 
 pub copy_columns-requires-2-clause-shape : goal.copy_columns-requires-2-clause-shape
 copy_columns-requires-2-clause-shape g c =
     c.copy_columns.ensures.shape ∙ (c.have_lengths.ensures.0 c.if-not-have_lengths.false).beside
-
-pub copy_columns-requires-2-clause-inside : goal.copy_columns-requires-2-clause-inside
-copy_columns-requires-2-clause-inside g c = omega arith
-
-pub copy_columns-requires-2-clause-room : goal.copy_columns-requires-2-clause-room
-copy_columns-requires-2-clause-room g c = omega arith
 
 pub solve_augmented-requires-clause-shape : goal.solve_augmented-requires-clause-shape
 solve_augmented-requires-clause-shape g c =
@@ -64,23 +46,21 @@ solve_augmented-requires-clause-room g c = (c.have_lengths.ensures.0 c.if-not-ha
 pub returns-then-not-solve_augmented : goal.returns-then-not-solve_augmented
 returns-then-not-solve_augmented g c =
     let field = field_of g.W.Reads.number g.K.FieldKernel.width g.K.FieldKernel.product g.K.FieldKernel.generator in
-    let matrix_fits = c.are_elements.ensures.0 c.if-not-are_elements.false in
-    let right_fits = c.are_elements-else-not-are_elements.ensures.0 c.if-not-are_elements-2.false in
+    let fits = c.are_both_elements.ensures.0 c.if-not-are_both_elements.false in
     let lengths = c.have_lengths.ensures.0 c.if-not-have_lengths.false in
     let beside = entry_of (low_number field.number field.width) (c.args.columns + 1) c.copy_columns-2.new.target in
-    call_unsolved lengths (matrix_fits, right_fits)
+    call_unsolved lengths fits
     (λ found.
     c.solve_augmented.ensures.unsolvable c.if-not-solve_augmented.true found.0
     (subst (λ (n : ℕ). IsSolution field.times c.args.rows n beside found.0) (sym lengths.unknowns)
-    (is_solution field c.args.rows c.args.columns c.args.matrix.now c.args.right.now matrix_fits right_fits c.args.space.now
+    (is_solution field c.args.rows c.args.columns c.args.matrix.now c.args.right.now fits.0 fits.1 c.args.space.now
     c.copy_columns.new.target c.copy_columns-2.new.target c.copy_columns.ensures.entries c.copy_columns-2.ensures.entries found.0 found.1)))
     (c.solve_augmented.ensures.stays c.if-not-solve_augmented.true)
 
 pub returns : goal.returns
 returns g c =
     let field = field_of g.W.Reads.number g.K.FieldKernel.width g.K.FieldKernel.product g.K.FieldKernel.generator in
-    let matrix_fits = c.are_elements.ensures.0 c.if-not-are_elements.false in
-    let right_fits = c.are_elements-else-not-are_elements.ensures.0 c.if-not-are_elements-2.false in
+    let fits = c.are_both_elements.ensures.0 c.if-not-are_both_elements.false in
     let lengths = c.have_lengths.ensures.0 c.if-not-have_lengths.false in
     let low = low_number field.number field.width in
     let beside = entry_of low (c.args.columns + 1) c.copy_columns-2.new.target in
@@ -90,9 +70,9 @@ returns g c =
     let cut = c.truncate_all.ensures.low in
     let x = slice_index (map field.number new) in
     let solved =
-    solution_is field c.args.rows c.args.columns c.args.matrix.now c.args.right.now matrix_fits right_fits c.args.space.now
+    solution_is field c.args.rows c.args.columns c.args.matrix.now c.args.right.now fits.0 fits.1 c.args.space.now
     c.copy_columns.new.target c.copy_columns-2.new.target c.copy_columns.ensures.entries c.copy_columns-2.ensures.entries x
     (subst (λ (n : ℕ). IsSolution field.times c.args.rows n beside x) lengths.unknowns
     (subst (λ (ns : List ℕ). IsSolution field.times c.args.rows (length c.args.solution.now) beside (slice_index ns)) (sym (now_numbers field target new long cut))
     (c.solve_augmented.ensures.solution c.if-not-solve_augmented.false))) in
-    call_solved lengths (matrix_fits, right_fits) (x, solved) (now_elements field target new long cut, solved)
+    call_solved lengths fits (x, solved) (now_elements field target new long cut, solved)
