@@ -1,25 +1,16 @@
 -- What a call in a transcript returns, by its exits, and what fits.
-use Rattle.std.proofs.Common.{◌≡◌, ◌≢◌, ◌↔◌, inl, inr, ℕ, ◌*◌, ◌^◌, ◌<◌, ◌≤◌, Bool, true, false, List, [], ◌∷◌, length, Err, Ok, Result, refl, sym, ◌∙◌, ap, subst, arith}
-use Rattle.std.specs.Prelude.{IfErr, IsErrAnd, IsTrue, OnErr}
+use Rattle.std.proofs.Common.{◌≡◌, ◌≢◌, inl, inr, ℕ, ◌*◌, ◌≤◌, Bool, true, false, List, [], ◌∷◌, Err, Ok, Result, sym, ◌∙◌, ap, subst, arith}
+use Rattle.std.specs.Prelude.{IfErr, IsErrAnd, OnErr}
 use Rattle.std.proofs.lemmas.Bool.{true≢false}
 use Rattle.std.proofs.lemmas.Result.{err_from_is_err_and}
 use Rattle.sum_checks.specs.Refusals.{CanBeStated, IsAnswer, VerifierRefuses}
 use Rattle.sum_checks.specs.Terms.{AreWithin, Product, degree_of}
 use Rattle.sum_checks.specs.declared.error.ProtocolError.{ProtocolError}
-use Rattle.sum_checks.specs.declared.error.ProtocolError.TheVariants.{Challenger, Length, Memory, Shape}
+use Rattle.sum_checks.specs.declared.error.ProtocolError.TheVariants.{Length, Memory, Shape}
 
 -- ---- exits
 
 module _ {T : Type 0} (before after : Bool) (refuses : ProtocolError → Type 0) (kept : Type 0) where
-  -- the challenger had failed before
-  pub answer-failed : before ≡ true → kept → IsAnswer {T = T} before after refuses kept (Err Challenger)
-  answer-failed fails same = record {
-    failed = λ _. (refl, same);
-    refused = λ goes error is. absurd (true≢false (sym fails ∙ goes));
-    memory = λ goes. absurd (true≢false (sym fails ∙ goes));
-    goes_on = tt;
-  }
-
   -- the operands are refused, with this error alone
   pub answer-refused : (error : ProtocolError) → before ≡ false → refuses error → ((other : ProtocolError) → refuses other → other ≡ error) → kept
       → IsAnswer {T = T} before after refuses kept (Err error)
@@ -66,23 +57,6 @@ no-error {T} value error same = subst (λ (r : Result T ProtocolError). OnErr r 
 -- ---- what fits
 
 module _ (width rounds count : ℕ) (terms : List Product) where
-  pub stated-if : (all within counts : Bool) (many : ℕ) → IsTrue all ↔ IsTrue within × IsTrue counts → IsTrue within ↔ AreWithin count terms
-      → IsTrue counts ↔ (3 ≤ width) × (rounds < 2 ^ width) × (count < 2 ^ width) × (many < 2 ^ width) → many ≡ length terms
-      → IsTrue all ↔ CanBeStated width rounds count terms
-  stated-if all within counts many both one other same = (
-    λ holds.
-        let parts = both.0 holds in
-        let fits = other.0 parts.1 in
-        record {
-          field = fits.0;
-          within = one.0 parts.0;
-          rounds_fit = fits.1;
-          count_fits = fits.2;
-          terms_fit = subst (λ (n : ℕ). n < 2 ^ width) same fits.3;
-        },
-    λ can. both.1 (one.1 can.within, other.1 (can.field, can.rounds_fit, can.count_fits, subst (λ (n : ℕ). n < 2 ^ width) (sym same) can.terms_fit)),
-  )
-
   -- a verifier refuses no messages that are as long as they have to be, of a claim that it cannot be that it cannot be stated
   pub verifier-takes : (size : ℕ) → size ≡ rounds * degree_of terms → ((CanBeStated width rounds count terms → ⊥) → ⊥) → (error : ProtocolError)
       → VerifierRefuses width rounds count terms size error → ⊥

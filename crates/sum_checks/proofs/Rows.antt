@@ -91,16 +91,6 @@ module _ (width : ℕ) (times : ℕ → ℕ → ℕ) (ring : IsRing width 1 time
   terms_value-lt (term ∷ terms) row =
       xor_lt width (product_value times row term) (terms_value times terms row) (product_value-lt row term) (terms_value-lt terms row)
 
-  sum-lt : (f : ℕ → ℕ) → ((i : ℕ) → f i < 2 ^ width) → (n : ℕ) → sum_below f n < 2 ^ width
-  unfolding sum_below
-  sum-lt f fits zero = pow_pos width
-  sum-lt f fits (suc n) = xor_lt width (sum_below f n) (f n) (sum-lt f fits n) (fits n)
-
-  pub cube_sum-lt : (terms : List Product) (count n : ℕ) (values : List ℕ) → cube_sum times terms count n values < 2 ^ width
-  cube_sum-lt terms count n values =
-      sum-lt (λ i. terms_value times terms (λ j. slice_index values (i * count + j)))
-      (λ i. terms_value-lt terms (λ j. slice_index values (i * count + j))) (2 ^ n)
-
   module _ (terms : List Product) (count : ℕ) (within : AreWithin count terms) where
     -- ---- the sum over a cube is the sum of those over both halves
 

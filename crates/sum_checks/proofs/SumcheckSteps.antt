@@ -1,11 +1,8 @@
 -- One round of the prover and of the verifier of sum-check, and what is observed before the first.
-use Rattle.std.proofs.Common.{◌≡◌, ◌≢◌, ◌↔◌, false, ℕ, zero, suc, ◌+◌, ◌-◌, ◌*◌, ◌/◌, ◌%◌, ◌^◌, ◌<◌, ◌≤◌, List, [], ◌∷◌, ◌++◌, length, map, take, drop, refl, sym, ◌∙◌, ap, ap₂, subst, append_assoc, arith, lit<}
-use Rattle.std.specs.Prelude.{IsTrue, bit_xor, slice_index}
+use Rattle.std.proofs.Common.{◌≡◌, ℕ, zero, suc, ◌+◌, ◌-◌, ◌*◌, ◌/◌, ◌%◌, ◌^◌, ◌<◌, ◌≤◌, List, [], ◌∷◌, ◌++◌, length, map, take, drop, refl, sym, ◌∙◌, ap, ap₂, subst, append_assoc, arith, lit<}
+use Rattle.std.specs.Prelude.{bit_xor, slice_index}
 use Rattle.std.proofs.Math.Seq.{drop-append_seam, take-append_seam}
-use Rattle.std.proofs.Math.Nat.{mod-eq_of_lt, mul-div_cancel, mul-mod_left, mul_comm, pow-le-pow_right, two-pow-succ}
-use Rattle.std.proofs.Math.Pow.{pow-lt}
-use Rattle.std.proofs.lemmas.Bool.{false≢true}
-use Rattle.std.proofs.lemmas.Nat.{div-add-mod'}
+use Rattle.std.proofs.Math.Nat.{pow-le-pow_right, two-pow-succ}
 use Rattle.std.proofs.lemmas.List.{append-nil, length-append, length-drop, length-map, length-take-le, map-append, take-map}
 use Rattle.std.specs.List.{flat_map, range_with_len}
 use Rattle.std.proofs.lemmas.List.FromFn.{length-map-range_with_len, map-range_with_len_more}
@@ -259,12 +256,6 @@ nodes-are repr message rest one two nodes first second claim is is_one is_two is
     ∙ ap (λ (n : ℕ). repr first ∷ n ∷ map repr rest) sum
     ∙ ap (λ (xs : List _). node_values claim (map repr xs)) (sym is)
 
--- the values of a cube, whose number is a power by a shift of words
-pub rows-size : (size rounds count : ℕ) → rounds < 64 → size ≡ count * (1 * 2 ^ rounds % 2 ^ 64) → size ≡ 2 ^ rounds * count
-rows-size size rounds count few is =
-    let one : 1 * 2 ^ rounds ≡ 2 ^ rounds = omega arith in
-    is ∙ ap (λ (k : ℕ). count * (k % 2 ^ 64)) one ∙ ap (λ (k : ℕ). count * k) (mod-eq_of_lt (pow-lt few)) ∙ mul_comm count (2 ^ rounds)
-
 -- the values of the cube of one coordinate more
 pub cube-half : (size rounds count : ℕ) → size ≡ 2 ^ (rounds + 1) * count → size ≡ 2 * (2 ^ rounds * count)
 cube-half size rounds count is =
@@ -328,18 +319,6 @@ module _ {F : Type 0} (repr : F → ℕ) (h : ℕ → ℕ) where
       ∙ ap (λ (ns : List ℕ). ns ++ h node ∷ []) so_far
       ∙ ap (λ (ns : List ℕ). h 0 ∷ ns) (sym (map-range_with_len_more h 2 (node - 2) node at))
       ∙ ap (λ (k : ℕ). map h (0 ∷ range_with_len 2 k)) (sym next)
-
--- ---- so many values of one size
-
-pub parts-not : (all count size : ℕ) → all % size ≢ 0 → IsTrue false ↔ (all ≡ count * size)
-parts-not all count size some =
-    ((λ never. absurd (false≢true never)), λ is. absurd (some (ap (λ (n : ℕ). n % size) is ∙ mul-mod_left count size)))
-
-pub parts-are : (all count size : ℕ) → 0 < size → all % size ≡ 0 → (all / size ≡ count) ↔ (all ≡ count * size)
-parts-are all count size some none = (
-  (λ is. sym (div-add-mod' all size) ∙ ap₂ (λ (a b : ℕ). a + b) (ap (λ (n : ℕ). n * size) is) none ∙ omega arith),
-  λ is. ap (λ (n : ℕ). n / size) is ∙ mul-div_cancel count some,
-)
 
 -- ---- statements
 

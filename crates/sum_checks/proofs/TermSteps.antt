@@ -1,7 +1,7 @@
 -- Steps over a list of terms, from the first on, and over the factors of one.
-use Rattle.std.proofs.Common.{◌≡◌, ◌≢◌, ◌↔◌, ℕ, zero, suc, ◌+◌, ◌-◌, ◌*◌, ◌^◌, ◌<◌, ◌≤◌, Bool, true, false, List, [], ◌∷◌, length, map, take, drop, get_or, refl, sym, ◌∙◌, ap, ap₂, subst, arith, lit<}
+use Rattle.std.proofs.Common.{◌≡◌, ◌≢◌, ◌↔◌, ℕ, zero, suc, ◌+◌, ◌-◌, ◌^◌, ◌<◌, ◌≤◌, Bool, true, false, List, [], ◌∷◌, length, map, take, drop, get_or, refl, sym, ◌∙◌, ap, ap₂, subst, arith, lit<}
 use Rattle.std.specs.Prelude.{IsTrue, bit_xor, max, slice_index}
-use Rattle.std.proofs.Math.Nat.{le-max_left, le-max_right, lt_of_lt_of_le, mul-le-mul_right, two-pow-succ}
+use Rattle.std.proofs.Math.Nat.{le-max_left, le-max_right, lt_of_lt_of_le, two-pow-succ}
 use Rattle.std.proofs.lemmas.Bool.{false≢true}
 use Rattle.std.proofs.lemmas.List.{get_or-drop, get_or-take, take-map, take_rest}
 use Rattle.field_slices.proofs.CubeTables.{drop-map}
@@ -191,23 +191,7 @@ product-more times f n before after so_far is =
     next : (k : ℕ) → suc k ≡ k + 1
     next k = omega arith
 
--- the factor at a place
-pub factor-inside : (read factors : List ℕ) (count place : ℕ) → place < length read → read ≡ factors
-    → ((k : ℕ) → k < length factors → slice_index factors k < count) → slice_index read place < count
-factor-inside read factors count place inside same within =
-    subst (λ (ns : List ℕ). slice_index ns place < count) (sym same) (within place (subst (λ (ns : List ℕ). place < length ns) same inside))
-
--- a row of the values
-pub row-fits : (corner corners count size : ℕ) → corner < corners → size ≡ corners * count → corner * count + count ≤ size
-row-fits corner corners count size below is =
-    let more : (corner + 1) * count ≤ corners * count = mul-le-mul_right count (step below) in
-    let split : (corner + 1) * count ≡ corner * count + count = omega arith in
-    omega (arith, more, split, is)
-  where
-    step : corner < corners → corner + 1 ≤ corners
-    step low = omega (arith, low)
-
--- its elements
+-- the elements of a row of the values
 pub row-value : {A : Type 0} (repr : A → ℕ) (values row : List A) (start n count j : ℕ) → row ≡ take n (drop start values) → n ≡ count → j < count
     → slice_index (map repr row) j ≡ slice_index (map repr values) (start + j)
 row-value repr values row start n count j is size inside =

@@ -1,5 +1,5 @@
 // What is proved, as the elements that a transcript observes before the first message.
-ghost use Rattle.std.specs.Prelude.{◌≡◌, ◌↔◌, ◌++◌, ◌^◌, ◌<◌, ◌≤◌, ℕ, List, map, length, slice_index, Err, IfErr, IfOk, IsTrue, OnOk};
+ghost use Rattle.std.specs.Prelude.{◌≡◌, ◌↔◌, ◌++◌, ◌^◌, ◌<◌, ◌≤◌, ℕ, map, length, slice_index, Err, IfErr, IfOk, IsTrue, OnOk};
 ghost use Rattle.std.specs.List.{flat_map};
 ghost use Rattle.sum_checks.specs.Products.{term_product};
 ghost use Rattle.sum_checks.specs.Refusals.{CanBeStated};
