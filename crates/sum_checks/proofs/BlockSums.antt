@@ -59,11 +59,11 @@ module _ {A : Type 0} (term_product : A → Product) (times : ℕ → ℕ → �
 
 -- the rows of a block are those of the table from its first row on
 module _ {A : Type 0} (repr : A → ℕ) (times : ℕ → ℕ → ℕ) (terms : List Product) (count : ℕ) (within : AreWithin count terms) where
-  pub block-more : (values block : List A) (start size taken m sum part next : ℕ) → block ≡ take taken (drop (start * count) values)
-      → taken ≡ size * count → m ≡ size
+  pub block-more : (values block : List A) (start size m sum part next : ℕ) → block ≡ take (size * count) (drop (start * count) values)
+      → m ≡ size
       → sum ≡ rows_sum times terms count start (map repr values) → part ≡ rows_sum times terms count m (map repr block)
       → next ≡ bit_xor sum part → next ≡ rows_sum times terms count (start + size) (map repr values)
-  block-more values block start size taken m sum part next is taken_is long so_far more added =
+  block-more values block start size m sum part next is long so_far more added =
       let at = λ (i : ℕ). terms_value times terms (row_entry count (map repr values) i) in
       added
       ∙ ap₂ bit_xor so_far
@@ -80,5 +80,5 @@ module _ {A : Type 0} (repr : A → ℕ) (times : ℕ → ℕ → ℕ) (terms : 
       entry : (i j : ℕ) → i < size → j < count → row_entry count (map repr block) i j ≡ row_entry count (map repr values) (start + i) j
       entry i j below inside =
           let less = mul-add-lt i count j size below inside in
-          row-value repr values block (start * count) taken (size * count) (i * count + j) is taken_is (omega (arith, less))
+          row-value repr values block (start * count) (size * count) (size * count) (i * count + j) is refl (omega (arith, less))
           ∙ ap (slice_index (map repr values)) (moved i j)

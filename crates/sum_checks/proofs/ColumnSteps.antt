@@ -1,5 +1,5 @@
 -- Columns of rows, and their sums of products.
-use Rattle.std.proofs.Common.{◌≡◌, ℕ, zero, suc, ◌+◌, ◌*◌, ◌%◌, ◌<◌, List, [], ◌∷◌, length, map, take, get_or, refl, sym, ◌∙◌, ap, ap₂, arith}
+use Rattle.std.proofs.Common.{◌≡◌, ℕ, zero, suc, ◌+◌, ◌*◌, ◌%◌, ◌<◌, List, [], ◌∷◌, length, map, take, refl, sym, ◌∙◌, ap, ap₂, arith}
 use Rattle.std.specs.Prelude.{bit_xor, slice_index}
 use Rattle.std.specs.List.{range_with_len}
 use Rattle.std.proofs.lemmas.List.{get_or-take, length-take-le}
@@ -9,8 +9,7 @@ use lib.Bits.{xor_assoc, xor_zero_r}
 use Rattle.field_base.specs.Basis.{product_below, sum_below}
 use Rattle.field_base.specs.Powers.{dot_of}
 use Rattle.field_base.proofs.BasisSums.{product_below-same, sum_below-add, sum_below-same}
-use Rattle.field_base.proofs.Places.{number-at}
-use Rattle.sum_checks.specs.Terms.{row_entry, row_product}
+use Rattle.sum_checks.specs.Terms.{row_product}
 
 -- a sum is its first term and the others
 sum_from-first : (f : ℕ → ℕ) (n : ℕ) → sum_below f (suc n) ≡ bit_xor (f 0) (sum_below (λ i. f (suc i)) n)
@@ -38,12 +37,11 @@ dot-sum times repr (x ∷ xs) (y ∷ ys) same =
 pub listed-at : (f : ℕ → ℕ) (n i : ℕ) → i < n → slice_index (map f (range_with_len 0 n)) i ≡ f i
 listed-at f n i below = get_or-map-range_with_len f 0 n i i 0 below (omega arith)
 
--- an element of a row
-pub row_entry-read : {A : Type 0} (repr : A → ℕ) (rows : List A) (count size row place : ℕ) (x : A) → length rows ≡ size * count → row < size
-    → place < count → x ≡ get_or rows (row * count + place) x → repr x ≡ row_entry count (map repr rows) row place
-row_entry-read repr rows count size row place x long below inside read =
+-- an element of a row is within
+pub entry-within : (row count place size all : ℕ) → all ≡ size * count → row < size → place < count → row * count + place < all
+entry-within row count place size all long below inside =
     let less = mul-add-lt row count place size below inside in
-    sym (number-at repr rows (row * count + place) x (omega (arith, less, long)) read)
+    omega (arith, less, long)
 
 -- the sum of ones is the parity of how many there are
 ones : (n : ℕ) → sum_below (λ i. 1) n ≡ n % 2

@@ -1,9 +1,18 @@
 // Columns of a block of rows: the values of one polynomial at each row, gathered so that their products go by slices.
-ghost use Rattle.std.specs.Prelude.{◌≡◌, ◌*◌, ◌<◌, ℕ, length, map, slice_index};
+ghost use Rattle.std.specs.Prelude.{◌≡◌, ◌+◌, ◌*◌, ◌<◌, ℕ, length, map, slice_index};
 ghost use Rattle.field_base.specs.Basis.{sum_below};
 ghost use Rattle.sum_checks.specs.Terms.{row_entry, row_product};
 
 use field_base::traits::Field;
+
+// What the polynomial of number `place` has at a row of `count` values.
+#[inline]
+fn entry_of<F: Field>(rows: &[F], count: usize, row: usize, place: usize) -> F
+    requires { row * count + place < length rows.now }
+    ensures { F.repr result ≡ row_entry count (map F.repr rows.now) row place }
+{
+    rows[row * count + place]
+}
 
 // Writes to the column what the polynomial of number `place` has at each row of `count` values.
 fn put_column<F: Field>(column: &mut [F], rows: &[F], count: usize, place: usize)
@@ -12,7 +21,7 @@ fn put_column<F: Field>(column: &mut [F], rows: &[F], count: usize, place: usize
     ensures { (i : ℕ) → i < length column.old → slice_index (map F.repr column.new) i ≡ row_entry count (map F.repr rows.now) i place }
 {
     for row in 0..column.len() {
-        column[row] = rows[row * count + place];
+        column[row] = entry_of(rows, count, row, place);
     }
 }
 
@@ -24,7 +33,7 @@ fn multiply_column<F: Field>(column: &mut [F], rows: &[F], count: usize, place: 
         ≡ F.product (slice_index (map F.repr column.old) i) (row_entry count (map F.repr rows.now) i place) }
 {
     for row in 0..column.len() {
-        column[row] = column[row] * rows[row * count + place];
+        column[row] = column[row] * entry_of(rows, count, row, place);
     }
 }
 

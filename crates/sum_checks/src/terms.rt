@@ -1,5 +1,5 @@
 // Sums of products of polynomials, by their values.
-ghost use Rattle.std.specs.Prelude.{◌≡◌, ◌+◌, ◌*◌, ◌^◌, ◌<◌, ◌≤◌, ◌↔◌, ℕ, length, map, slice_index, IfSome, IsNone, IsTrue};
+ghost use Rattle.std.specs.Prelude.{◌≡◌, ◌+◌, ◌*◌, ◌^◌, ◌<◌, ◌≤◌, ◌↔◌, ℕ, drop, length, map, slice_index, take, IfSome, IsNone, IsTrue};
 ghost use Rattle.field_base.specs.Basis.{product_below, sum_below};
 ghost use Rattle.sum_checks.specs.Terms.{ArePairs, AreWithin, FactorsAreWithin, cube_sum, degree_of, product_value, row_entry, rows_sum, terms_value};
 
@@ -190,6 +190,16 @@ fn terms_sum<F: Field>(
     first + others
 }
 
+// So many rows of `count` values each, from a row on.
+#[inline]
+fn rows_from<F>(values: &[F], count: usize, start: usize, size: usize) -> &[F]
+    requires { (start + size) * count ≤ length values.now }
+    ensures values { result.now ≡ take (size * count) (drop (start * count) values.now) }
+    ensures count { length result.now ≡ size * count }
+{
+    &values[start * count..][..size * count]
+}
+
 // The sum over so many rows, in blocks of as many as `left` and `right` have places.
 fn blocks_sum<F: Field>(
     terms: &[Term<F>],
@@ -209,7 +219,7 @@ fn blocks_sum<F: Field>(
     let mut start = 0;
     while start < rows {
         let size = left.len().min(rows - start);
-        let block = &values[start * count..(start + size) * count];
+        let block = rows_from(values, count, start, size);
         let part = terms_sum(terms, block, count, &mut left[..size], &mut right[..size]);
         sum = sum + part;
         start += size;
@@ -225,9 +235,7 @@ fn sum_by_rows<F: Field>(terms: &[Term<F>], values: &[F], count: usize, rows: us
 {
     let mut sum = F::ZERO;
     for row in 0..rows {
-        let start = row * count;
-        let block = &values[start..start + count];
-        let value = terms_at(terms, block);
+        let value = terms_at(terms, rows_from(values, count, row, 1));
         sum = sum + value;
     }
     sum

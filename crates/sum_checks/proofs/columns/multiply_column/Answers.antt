@@ -1,10 +1,9 @@
 use Rattle.std.proofs.Common.{◌<◌, ℕ, length, map, sym, ◌∙◌, ap₂, arith}
 use Rattle.std.specs.Prelude.{slice_index}
 use Rattle.std.specs.List.{range_with_len}
-use Rattle.std.proofs.lemmas.Nat.{mul-add-lt}
 use Rattle.sum_checks.specs.Terms.{row_entry}
 use Rattle.field_base.proofs.Written.{written_step, written-read}
-use Rattle.sum_checks.proofs.ColumnSteps.{listed-at, row_entry-read}
+use Rattle.sum_checks.proofs.ColumnSteps.{entry-within, listed-at}
 use Rattle.sum_checks.proofs.columns.multiply_column.Goals as goal
 
 pub loop-row-preserved : goal.loop-row-preserved
@@ -16,13 +15,12 @@ loop-row-preserved g c =
     let wanted = map product (range_with_len 0 size) in
     let row = c.loop-row.row in
     let x = c.index-column-row.result in
-    let y = c.index-rows-row.result in
     let below : row < size = omega arith in
     written_step field.repr wanted old c.loop-row.column row c.mul.result (omega arith)
-    (g.met.F.Represented.mul_law x y c.mul.result c.mul.ensures
+    (g.met.F.Represented.mul_law x c.entry_of.result c.mul.result c.mul.ensures
     ∙ ap₂ field.product
     (written-read field.repr wanted old c.loop-row.column row x (omega arith) c.index-column-row.is c.loop-row.invariant)
-    (row_entry-read field.repr c.args.rows.now c.args.count size row c.args.place y c.requires.size below c.requires.inside c.index-rows-row.is)
+    c.entry_of.ensures
     ∙ sym (listed-at product size row below))
     c.loop-row.invariant
 
@@ -33,20 +31,7 @@ returns g c i below =
     let done = c.loop-row.invariant.done i (omega (arith, below)) in
     done ∙ listed-at product (length c.args.column.now) i below
 
-pub overflow_mul-row : goal.overflow_mul-row
-overflow_mul-row g c =
-    let less = mul-add-lt c.loop-row.row c.args.count c.args.place (length c.args.column.now) c.loop-row-test.true c.requires.inside in
-    let size = c.requires.size in
-    omega (arith, less, size)
-
-pub overflow_add-row : goal.overflow_add-row
-overflow_add-row g c =
-    let less = mul-add-lt c.loop-row.row c.args.count c.args.place (length c.args.column.now) c.loop-row-test.true c.requires.inside in
-    let size = c.requires.size in
-    omega (arith, less, size)
-
-pub bounds-rows-row : goal.bounds-rows-row
-bounds-rows-row g c =
-    let less = mul-add-lt c.loop-row.row c.args.count c.args.place (length c.args.column.now) c.loop-row-test.true c.requires.inside in
-    let size = c.requires.size in
-    omega (arith, less, size)
+pub entry_of-requires : goal.entry_of-requires
+entry_of-requires g c =
+    entry-within c.loop-row.row c.args.count c.args.place (length c.args.column.now) (length c.args.rows.now) c.requires.size c.loop-row-test.true
+    c.requires.inside

@@ -1,4 +1,4 @@
-use Rattle.std.proofs.Common.{◌+◌, ◌*◌, ◌≤◌, map, refl, ap, ◌∙◌, sym, arith}
+use Rattle.std.proofs.Common.{◌+◌, ◌*◌, ◌≤◌, map, ap, ◌∙◌, sym, arith}
 use Rattle.std.specs.Prelude.{bit_xor}
 use Rattle.std.proofs.Math.Nat.{mul-le-mul_right}
 use Rattle.field_slices.proofs.NextTerms.{sum-more}
@@ -27,16 +27,12 @@ loop-row-preserved g c =
     (c.terms_at-value.ensures
     ∙ terms_value-same field.product c.args.count (map (term_product field.repr) c.args.terms.now) _
     (row_entry c.args.count (map field.repr c.args.values.now) c.loop-row.row) c.requires.within
-    (λ j inside. row-value field.repr c.args.values.now _ (c.loop-row.row * c.args.count) _ c.args.count j refl (omega arith) inside)))
+    (λ j inside.
+    row-value field.repr c.args.values.now _ (c.loop-row.row * c.args.count) (1 * c.args.count) c.args.count j c.rows_from.ensures.values
+    (omega arith) inside)))
 
-pub overflow_mul-start : goal.overflow_mul-start
-overflow_mul-start g c =
-    let most : (c.loop-row.row + 1) * c.args.count ≤ c.args.rows * c.args.count = mul-le-mul_right c.args.count (omega arith) in
-    let long = c.requires.size in
-    omega (arith, most, long)
-
-pub overflow_add-block : goal.overflow_add-block
-overflow_add-block g c =
+pub rows_from-requires : goal.rows_from-requires
+rows_from-requires g c =
     let most : (c.loop-row.row + 1) * c.args.count ≤ c.args.rows * c.args.count = mul-le-mul_right c.args.count (omega arith) in
     let long = c.requires.size in
     omega (arith, most, long)
