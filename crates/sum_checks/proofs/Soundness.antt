@@ -86,29 +86,27 @@ module _ (width : ℕ) (times : ℕ → ℕ → ℕ) (field : IsField width time
 shape-folded : (width : ℕ) (times : ℕ → ℕ → ℕ) (terms : List Product) (count d n r : ℕ) (values : List ℕ)
     → IsClaimShape width times terms count d (suc n) values → IsClaimShape width times terms count d n (folded times r values)
 shape-folded width times terms count d n r values shape = record {
-  field = shape.field;
-  wide = shape.wide;
-  nodes = shape.nodes;
-  some = shape.some;
-  few = shape.few;
-  within = shape.within;
+  summed = shape.summed;
   size = even-length (2 ^ n * count) values (rows-twice count n values shape.size) times r;
-  fits = folded-fit width times shape.field.ring shape.wide (2 ^ n * count) r values (rows-twice count n values shape.size) shape.fits;
+  fits =
+      folded-fit width times shape.summed.field.ring shape.summed.wide (2 ^ n * count) r values (rows-twice count n values shape.size) shape.fits;
 }
 
 module _ (width : ℕ) (times : ℕ → ℕ → ℕ) (terms : List Product) (count d n : ℕ) (values : List ℕ)
     (shape : IsClaimShape width times terms count d (suc n) values) where
   round-polynomial : IsPolynomial times (suc d) (honest_at times terms count n values)
   round-polynomial =
-      honest-polynomial width times shape.field.ring shape.wide terms count shape.within d n values shape.size shape.fits shape.few
+      honest-polynomial width times shape.summed.field.ring shape.summed.wide terms count shape.summed.within d n values shape.size shape.fits
+      shape.summed.few
 
   halves : cube_sum times terms count (suc n) values ≡ bit_xor (honest_at times terms count n values 0) (honest_at times terms count n values 1)
-  halves = cube_sum-halves width times shape.field.ring shape.wide terms count shape.within n values shape.size shape.fits
+  halves =
+      cube_sum-halves width times shape.summed.field.ring shape.summed.wide terms count shape.summed.within n values shape.size shape.fits
 
   honest-length : length (honest_message times terms count n values d) ≡ d
   honest-length =
       let long = length-map-range_with_len (honest_at times terms count n values) 2 (d - 1) in
-      let more = shape.some in
+      let more = shape.summed.some in
       omega (arith, long, more)
 
   -- the honest message of a true claim has the values of the round's polynomial at the nodes
@@ -127,7 +125,8 @@ module _ (width : ℕ) (times : ℕ → ℕ → ℕ) (terms : List Product) (cou
       → message_at width times claim message x ≡ honest_at times terms count n values x
   honest-reduced claim message true_claim honest x =
       ap (λ (g : List ℕ). message_at width times claim g x) honest
-      ∙ message-is width times shape.field shape.wide d shape.some shape.nodes claim (honest_message times terms count n values d) honest-length
+      ∙ message-is width times shape.summed.field shape.summed.wide d shape.summed.some shape.summed.nodes claim
+      (honest_message times terms count n values d) honest-length
       (honest_at times terms count n values) round-polynomial (honest-nodes claim true_claim) x
 
   -- of a false claim the polynomial is not the honest one
@@ -141,7 +140,7 @@ module _ (width : ℕ) (times : ℕ → ℕ → ℕ) (terms : List Product) (cou
       ]
     where
       sums : bit_xor (message_at width times claim message 0) (message_at width times claim message 1) ≡ claim
-      sums = message-ends width times shape.field shape.wide d shape.some shape.nodes claim message long claim_fits fits
+      sums = message-ends width times shape.summed.field shape.summed.wide d shape.summed.some shape.summed.nodes claim message long claim_fits fits
 
 -- ---- completeness
 
@@ -153,7 +152,7 @@ module _ (width : ℕ) (times : ℕ → ℕ → ℕ) (terms : List Product) (cou
       → reduced_claim width times claim messages challenges ≡ terms_value times terms (slice_index (folded_all times challenges values))
   unfolding reduced_claim AreHonestMessages folded_all
   left-over claim values [] [] shape true_claim honest =
-      true_claim ∙ cube_sum-none width times shape.field.ring shape.wide terms count shape.within values
+      true_claim ∙ cube_sum-none width times shape.summed.field.ring shape.summed.wide terms count shape.summed.within values
   left-over claim values [] (g ∷ gs) shape true_claim honest = absurd honest
   left-over claim values (r ∷ rs) [] shape true_claim honest = absurd honest
   left-over claim values (r ∷ rs) (g ∷ gs) shape true_claim honest =
@@ -163,8 +162,9 @@ module _ (width : ℕ) (times : ℕ → ℕ → ℕ) (terms : List Product) (cou
   at-point : (values challenges : List ℕ) → IsClaimShape width times terms count d (length challenges) values
       → terms_value times terms (slice_index (folded_all times challenges values)) ≡ terms_value times terms (table_value times count values challenges)
   at-point values challenges shape =
-      terms_value-same times count terms (slice_index (folded_all times challenges values)) (table_value times count values challenges) shape.within
-      (folded-values width times shape.field.ring shape.wide count challenges values shape.size shape.fits)
+      terms_value-same times count terms (slice_index (folded_all times challenges values)) (table_value times count values challenges)
+      shape.summed.within
+      (folded-values width times shape.summed.field.ring shape.summed.wide count challenges values shape.size shape.fits)
 
 pub honest_reduces : HonestReduces
 honest_reduces width times terms count d claim values challenges messages shape true_claim honest =
@@ -218,7 +218,7 @@ module _ (width : ℕ) (times : ℕ → ℕ → ℕ) (terms : List Product) (cou
       → (k : ℕ) × IsSaved width times terms count claim values challenges messages k
   unfolding reduced_claim folded_all AreMessages
   false-saved claim values [] [] shape claim_fits are same wrong reaches =
-      absurd (wrong (reaches ∙ sym (cube_sum-none width times shape.field.ring shape.wide terms count shape.within values)))
+      absurd (wrong (reaches ∙ sym (cube_sum-none width times shape.summed.field.ring shape.summed.wide terms count shape.summed.within values)))
   false-saved claim values [] (g ∷ gs) shape claim_fits are same wrong reaches = absurd (omega (arith, same))
   false-saved claim values (r ∷ rs) [] shape claim_fits are same wrong reaches = absurd (omega (arith, same))
   false-saved claim values (r ∷ rs) (g ∷ gs) shape claim_fits are same wrong reaches =
@@ -229,7 +229,8 @@ module _ (width : ℕ) (times : ℕ → ℕ → ℕ) (terms : List Product) (cou
         | inr other ↦
             let later =
             false-saved (message_at width times claim g r) (folded times r values) rs gs (shape-folded width times terms count d (length rs) r values shape)
-            (message-lt width times shape.field shape.wide d shape.some shape.nodes claim g are.0 claim_fits are.1 r) are.2 (omega (arith, same)) other.1
+            (message-lt width times shape.summed.field shape.summed.wide d shape.summed.some shape.summed.nodes claim g are.0 claim_fits are.1 r) are.2
+            (omega (arith, same)) other.1
             reaches in
             (suc later.0, saved-later claim r values rs g gs later.0 later.1)
       ]
@@ -243,9 +244,9 @@ pub few_challenges_save : FewChallengesSave
 few_challenges_save width times terms count d n claim values message shape long x differs m point distinct agree =
     elim (cases_lt d m) [
       | inr few ↦ few
-      | inl many ↦ absurd (differs (polynomial-unique width times shape.field.ring shape.field.inverses (suc d)
+      | inl many ↦ absurd (differs (polynomial-unique width times shape.summed.field.ring shape.summed.field.inverses (suc d)
           (message_at width times claim message) (honest_at times terms count n values)
-          (message-polynomial width times shape.field shape.wide d shape.some shape.nodes claim message long)
+          (message-polynomial width times shape.summed.field shape.summed.wide d shape.summed.some shape.summed.nodes claim message long)
           (round-polynomial width times terms count d n values shape) point
           (λ i inside. distinct.below i (within i inside many)) (λ i j i_inside j_inside. distinct.differ i j (within i i_inside many) (within j j_inside many))
           (λ i inside. agree i (within i inside many)) x))

@@ -132,12 +132,14 @@ module _ {C F : Type 0} (observes : C → F → C → Type 0) (gives : C → F �
 
       shape : IsClaimShape width times terms count (degree_of terms) (length (map repr point)) (map repr values)
       shape = record {
-        field = field;
-        wide = wide;
-        nodes = let power : 2 ^ 3 ≤ 2 ^ width = pow-le-pow_right (lit< tt) enough in omega (arith, power, few);
-        some = degree-some terms;
-        few = degree-most terms;
-        within = within;
+        summed = record {
+          field = field;
+          wide = wide;
+          nodes = let power : 2 ^ 3 ≤ 2 ^ width = pow-le-pow_right (lit< tt) enough in omega (arith, power, few);
+          some = degree-some terms;
+          few = degree-most terms;
+          within = within;
+        };
         size = length-map values repr ∙ size ∙ ap (λ (n : ℕ). 2 ^ n * count) (sym long);
         fits = numbers-lt repr width range values;
       }

@@ -207,12 +207,14 @@ module _ (width : ℕ) (times : ℕ → ℕ → ℕ) (field : IsField width time
 
   shape : (n : ℕ) → n ≡ length point → IsClaimShape width times zero_check_terms 4 3 n (zero_check_rows times point a b c)
   shape n same = record {
-    field = field;
-    wide = wide;
-    nodes = let power : 2 ^ 2 ≤ 2 ^ width = pow-le-pow_right (lit< tt) enough in power;
-    some = lit< tt;
-    few = few;
-    within = within-four;
+    summed = record {
+      field = field;
+      wide = wide;
+      nodes = let power : 2 ^ 2 ≤ 2 ^ width = pow-le-pow_right (lit< tt) enough in power;
+      some = lit< tt;
+      few = few;
+      within = within-four;
+    };
     size = length-map-range_with_len (λ k. zero_check_entry times point a b c (k / 4) (k % 4)) 0 (2 ^ length point * 4)
         ∙ ap (λ (m : ℕ). 2 ^ m * 4) (sym same);
     fits = rows-fit;

@@ -42,15 +42,18 @@ AreHonestMessages times terms count d values (message ∷ messages) (r ∷ rs) =
 
 -- ---- completeness and soundness
 
--- what the laws are about: a field of at least d + 1 elements, terms of at most d factors, at least one, over so many polynomials, of
--- which there is a value for each corner of the cube of n coordinates
-pub record IsClaimShape (width : ℕ) (times : ℕ → ℕ → ℕ) (terms : List Product) (count d n : ℕ) (values : List ℕ) : Type 0 where
+-- a field of at least d + 1 elements, and terms of at most d factors, at least one, over so many polynomials
+pub record AreSummed (width : ℕ) (times : ℕ → ℕ → ℕ) (terms : List Product) (count d : ℕ) : Type 0 where
   pub field : IsField width times
   pub wide : 0 < width
   pub nodes : suc d ≤ 2 ^ width
   pub some : 0 < d
   pub few : HaveFactors d terms
   pub within : AreWithin count terms
+
+-- what the laws are about: such terms, and a value of each polynomial for each corner of the cube of n coordinates
+pub record IsClaimShape (width : ℕ) (times : ℕ → ℕ → ℕ) (terms : List Product) (count d n : ℕ) (values : List ℕ) : Type 0 where
+  pub summed : AreSummed width times terms count d
   pub size : length values ≡ 2 ^ n * count
   pub fits : (i : ℕ) → slice_index values i < 2 ^ width
 
