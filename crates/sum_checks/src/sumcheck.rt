@@ -1,14 +1,14 @@
 // The prover and the verifier of the sum-check protocol, over any field and any challenger of it.
-ghost use Rattle.std.specs.Prelude.{◌≡◌, ◌↔◌, ◌+◌, ◌*◌, ◌-◌, ◌/◌, ◌^◌, ◌<◌, ◌≤◌, ◌++◌, ℕ, List, length, map, slice_index, take, Err, IfOk};
+ghost use Rattle.std.specs.Prelude.{◌≡◌, ◌↔◌, ◌+◌, ◌*◌, ◌-◌, ◌/◌, ◌^◌, ◌<◌, ◌≤◌, ◌++◌, ℕ, List, length, map, slice_index, Err, IfOk};
 ghost use Rattle.std.specs.Prelude.{false, ◌||◌, IfErr, IsTrue, OnOk};
 ghost use Rattle.sum_checks.specs.Products.{term_product};
 ghost use Rattle.sum_checks.specs.Refusals.{CanBeProved, CanBeStated, IsAnswer, ProverRefuses, VerifierRefuses};
-ghost use Rattle.sum_checks.specs.Sumcheck.{AreTurns, IsRunOf, IsTurn, messages_of, statement_of};
-ghost use Rattle.sum_checks.specs.SumcheckClaims.{AreHonestMessages, honest_message, message_at, node_values, reduced_claim};
+ghost use Rattle.sum_checks.specs.Sumcheck.{AreTurns, IsRunOf, messages_of, statement_of};
+ghost use Rattle.sum_checks.specs.SumcheckClaims.{AreHonestMessages, honest_message, node_values, reduced_claim};
 ghost use Rattle.sum_checks.specs.SumcheckRuns.{IsProofAndVerdict};
-ghost use Rattle.sum_checks.specs.Terms.{ArePairs, AreWithin, cube_sum, degree_of, honest_at, table_value, terms_value};
+ghost use Rattle.sum_checks.specs.Terms.{ArePairs, AreWithin, cube_sum, degree_of, honest_at, table_value};
 ghost use Rattle.sum_checks.specs.declared.error.ProtocolError.TheVariants.{Memory, Shape};
-ghost use Rattle.field_slices.specs.Multilinear.{folded, folded_all};
+ghost use Rattle.field_slices.specs.Multilinear.{folded_all};
 
 use crate::error::ProtocolError;
 use crate::statement::{can_be_stated, statement};
@@ -95,6 +95,18 @@ pub fn prove<F: Field, C: CanObserve<F> + CanSample<F>, A: Allocator + Copy>(
     Ok(proven)
 }
 
+// What a prover has before a round: the terms, and the values of `count` polynomials at the corners of the cube of `rounds` coordinates
+// besides the first.
+#[derive(Drop)]
+struct Round<'a, F: Field> {
+    terms: &'a [Term<F>],
+    values: &'a [F],
+    count: usize,
+    rounds: usize,
+    ghost few: { rounds < 63 },
+    ghost size: { length values.now ≡ 2 ^ (rounds + 1) * count },
+}
+
 // Whether the claim can be stated and so many values are those of the polynomials at the corners of the cube.
 fn can_be_proved<F: Field>(rounds: usize, count: usize, terms: &[Term<F>], size: usize) -> bool
     ensures { IsTrue result ↔ CanBeProved F.width rounds count (map (term_product F.repr) terms.now) size }
@@ -143,7 +155,13 @@ fn prove_rounds<F: Field, C: CanObserve<F> + CanSample<F>, A: Allocator + Copy>(
         proven.values = left;
         return Ok(());
     }
-    let message = message(alloc, terms, values, scratch, rounds - 1, count)?;
+    let round = Round {
+        terms,
+        values,
+        count,
+        rounds: rounds - 1,
+    };
+    let message = message(alloc, &round, scratch)?;
     let sent = message.as_slice();
     challenger.observe_slice(sent)?;
     proven.messages.extend_from_slice(sent)?;
@@ -164,92 +182,69 @@ fn prove_rounds<F: Field, C: CanObserve<F> + CanSample<F>, A: Allocator + Copy>(
     Ok(())
 }
 
-// The message of an honest prover, where `rounds` coordinates are left besides the first: the values of the round's polynomial at the
-// elements 0, 2, 3, .., up to the degree. `scratch` is as long as the values.
+// The message of an honest prover: the values of the round's polynomial at the elements 0, 2, 3, .., up to the degree. `scratch` is as
+// long as the values.
 fn message<F: Field, A: Allocator>(
     alloc: A,
-    terms: &[Term<F>],
-    values: &[F],
+    round: &Round<'_, F>,
     scratch: &mut [F],
-    rounds: usize,
-    count: usize,
 ) -> Result<Vec<F, A>, AllocError>
-    requires few { rounds < 63 }
     requires field { 3 ≤ F.width }
-    requires within { AreWithin count (map (term_product F.repr) terms.now) }
-    requires size { length values.now ≡ 2 ^ (rounds + 1) * count }
-    requires room { length scratch.old ≡ length values.now }
+    requires within { AreWithin round.now.count (map (term_product F.repr) round.now.terms.now) }
+    requires room { length scratch.old ≡ length round.now.values.now }
     ensures room { length scratch.new ≡ length scratch.old }
     ensures honest { IfOk result (λ message. map F.repr message.items
-        ≡ honest_message F.product (map (term_product F.repr) terms.now) count rounds
-        (map F.repr values.now) (degree_of (map (term_product F.repr) terms.now))) }
+        ≡ honest_message F.product (map (term_product F.repr) round.now.terms.now) round.now.count round.now.rounds
+        (map F.repr round.now.values.now) (degree_of (map (term_product F.repr) round.now.terms.now))) }
 {
     let mut message = Vec::new(alloc);
-    let first = cube_sum(terms, &values[..values.len() / 2], count, rounds);
+    let lower = &round.values[..round.values.len() / 2];
+    let first = cube_sum(round.terms, lower, round.count, round.rounds);
     message.push(first)?;
-    let degree = degree(terms);
+    let degree = degree(round.terms);
     for node in 2..degree + 1 {
         let x = F::interpolation_node(node);
-        let value = value_at(terms, values, scratch, rounds, count, x, first);
+        let value = value_at(round, scratch, x, first);
         message.push(value)?;
     }
     Ok(message)
 }
 
-// The value at x of the round's polynomial, where `rounds` coordinates are left besides the first, and `first` is its value at 0.
-// `scratch` is as long as the values.
-fn value_at<F: Field>(
-    terms: &[Term<F>],
-    values: &[F],
-    scratch: &mut [F],
-    rounds: usize,
-    count: usize,
-    x: F,
-    first: F,
-) -> F
-    requires few { rounds < 63 }
-    requires within { AreWithin count (map (term_product F.repr) terms.now) }
-    requires size { length values.now ≡ 2 ^ (rounds + 1) * count }
-    requires room { length scratch.old ≡ length values.now }
-    requires first { F.repr first ≡ honest_at F.product (map (term_product F.repr) terms.now) count rounds (map F.repr values.now) 0 }
+// The value at x of the round's polynomial, where `first` is its value at 0. `scratch` is as long as the values.
+fn value_at<F: Field>(round: &Round<'_, F>, scratch: &mut [F], x: F, first: F) -> F
+    requires within { AreWithin round.now.count (map (term_product F.repr) round.now.terms.now) }
+    requires room { length scratch.old ≡ length round.now.values.now }
+    requires first { F.repr first ≡ honest_at F.product (map (term_product F.repr) round.now.terms.now) round.now.count round.now.rounds
+        (map F.repr round.now.values.now) 0 }
     ensures room { length scratch.new ≡ length scratch.old }
-    ensures value { F.repr result
-        ≡ honest_at F.product (map (term_product F.repr) terms.now) count rounds (map F.repr values.now) (F.repr x) }
+    ensures value { F.repr result ≡ honest_at F.product (map (term_product F.repr) round.now.terms.now) round.now.count round.now.rounds
+        (map F.repr round.now.values.now) (F.repr x) }
 {
-    let half = values.len() / 2;
-    if are_pairs(terms) {
-        return value_of_pairs(terms, values, &mut scratch[..half], rounds, count, x, first);
+    let half = round.values.len() / 2;
+    if are_pairs(round.terms) {
+        return value_of_pairs(round, &mut scratch[..half], x, first);
     }
-    scratch.copy_from_slice(values);
+    scratch.copy_from_slice(round.values);
     fold(scratch, x);
-    cube_sum(terms, &scratch[..half], count, rounds)
+    cube_sum(round.terms, &scratch[..half], round.count, round.rounds)
 }
 
 // The same of terms with two factors each, where `sums` is half as long as the values. The polynomial has degree two. Its leading coefficient
 // is the sum of the terms of the sums of both halves, so that no value is multiplied by x.
-fn value_of_pairs<F: Field>(
-    terms: &[Term<F>],
-    values: &[F],
-    sums: &mut [F],
-    rounds: usize,
-    count: usize,
-    x: F,
-    first: F,
-) -> F
-    requires few { rounds < 63 }
-    requires pairs { ArePairs (map (term_product F.repr) terms.now) }
-    requires within { AreWithin count (map (term_product F.repr) terms.now) }
-    requires size { length values.now ≡ 2 ^ (rounds + 1) * count }
-    requires room { length sums.old ≡ length values.now / 2 }
-    requires first { F.repr first ≡ honest_at F.product (map (term_product F.repr) terms.now) count rounds (map F.repr values.now) 0 }
-    ensures { F.repr result
-        ≡ honest_at F.product (map (term_product F.repr) terms.now) count rounds (map F.repr values.now) (F.repr x) }
+fn value_of_pairs<F: Field>(round: &Round<'_, F>, sums: &mut [F], x: F, first: F) -> F
+    requires pairs { ArePairs (map (term_product F.repr) round.now.terms.now) }
+    requires within { AreWithin round.now.count (map (term_product F.repr) round.now.terms.now) }
+    requires room { length sums.old ≡ length round.now.values.now / 2 }
+    requires first { F.repr first ≡ honest_at F.product (map (term_product F.repr) round.now.terms.now) round.now.count round.now.rounds
+        (map F.repr round.now.values.now) 0 }
+    ensures { F.repr result ≡ honest_at F.product (map (term_product F.repr) round.now.terms.now) round.now.count round.now.rounds
+        (map F.repr round.now.values.now) (F.repr x) }
 {
-    let (lower, upper) = values.split_at(values.len() / 2);
-    let second = cube_sum(terms, upper, count, rounds);
+    let (lower, upper) = round.values.split_at(round.values.len() / 2);
+    let second = cube_sum(round.terms, upper, round.count, round.rounds);
     sums.copy_from_slice(lower);
     add_slice(sums, upper);
-    let leading = cube_sum(terms, sums, count, rounds);
+    let leading = cube_sum(round.terms, sums, round.count, round.rounds);
     let linear = (first + second) + leading;
     first + (linear * x + leading * x.square())
 }
@@ -286,11 +281,12 @@ pub fn verify<F: Field, C: CanObserve<F> + CanSample<F>, A: Allocator + Copy>(
     let degree = degree(terms);
     let elements = statement(alloc, rounds, count, terms, claim)?;
     challenger.observe_slice(elements.as_slice())?;
-    let mut point = Vec::new(alloc);
-    let claim = verify_rounds(
-        alloc, challenger, claim, messages, rounds, degree, &mut point,
-    )?;
-    Ok(Reduced { point, claim })
+    let mut reduced = Reduced {
+        point: Vec::new(alloc),
+        claim,
+    };
+    verify_rounds(alloc, challenger, messages, rounds, degree, &mut reduced)?;
+    Ok(reduced)
 }
 
 // Whether the claim can be stated, and so many values are those of `rounds` messages, each of as many as a term has factors at most.
@@ -324,16 +320,15 @@ pub fn has_length(length: usize, count: usize, size: usize) -> bool
     length / size == count
 }
 
-// Appends the challenges of the rounds that are left, and returns the claim after them.
+// Appends the challenges of the rounds that are left, and reduces the claim by them.
 fn verify_rounds<F: Field, C: CanObserve<F> + CanSample<F>, A: Allocator + Copy>(
     alloc: A,
     challenger: &mut C,
-    claim: F,
     messages: &[F],
     rounds: usize,
     degree: usize,
-    point: &mut Vec<F, A>,
-) -> Result<F, ProtocolError>
+    reduced: &mut Reduced<F, A>,
+) -> Result<(), ProtocolError>
     requires field { 3 ≤ F.width }
     requires some { 0 < degree }
     requires few { degree ≤ 4 }
@@ -341,22 +336,22 @@ fn verify_rounds<F: Field, C: CanObserve<F> + CanSample<F>, A: Allocator + Copy>
     requires going { C.has_failed challenger.old ≡ false }
     ensures goes_on { OnOk result (C.has_failed challenger.new ≡ false) }
     ensures memory { IfErr result (λ error. error ≡ Memory) }
-    ensures run { IfOk result (λ last. (challenges : List F) × (point.new.items ≡ point.old.items ++ challenges)
+    ensures run { OnOk result ((challenges : List F) × (reduced.new.point.items ≡ reduced.old.point.items ++ challenges)
         × AreTurns C.observes C.gives challenger.old (messages_of degree rounds messages.now) challenges challenger.new
-        × (F.repr last ≡ reduced_claim F.width F.product (F.repr claim) (map (map F.repr) (messages_of degree rounds messages.now))
-        (map F.repr challenges))) }
+        × (F.repr reduced.new.claim ≡ reduced_claim F.width F.product (F.repr reduced.old.claim)
+        (map (map F.repr) (messages_of degree rounds messages.now)) (map F.repr challenges))) }
 {
     if rounds == 0 {
-        return Ok(claim);
+        return Ok(());
     }
     let (message, rest) = messages.split_at(degree);
     challenger.observe_slice(message)?;
     let challenge = challenger.sample()?;
-    point.push(challenge)?;
-    let nodes = node_values(alloc, claim, message)?;
-    let next = interpolate_at_nodes(nodes.as_slice(), challenge);
-    let last = verify_rounds(alloc, challenger, next, rest, rounds - 1, degree, point)?;
-    Ok(last)
+    reduced.point.push(challenge)?;
+    let nodes = node_values(alloc, reduced.claim, message)?;
+    reduced.claim = interpolate_at_nodes(nodes.as_slice(), challenge);
+    verify_rounds(alloc, challenger, rest, rounds - 1, degree, reduced)?;
+    Ok(())
 }
 
 // The values of a round's polynomial at the first elements, by its claim and its message.

@@ -15,10 +15,14 @@ returns-then-rounds-eq0-clause-run g t c =
     c.args.challenger.now c.args.rounds c.args.values.now c.args.proven.now.messages.items c.args.proven.now.point.items
     c.in_ok-left.left.items c.if-rounds-eq0.true c.in_ok-left.ensures.items
 
-pub message-requires-clause-size : goal.message-requires-clause-size
-message-requires-clause-size g t c =
+pub invariant_of-round : goal.invariant_of-round
+invariant_of-round g t c =
     let some : 0 < c.args.rounds = omega arith in
-    cube-more (length c.args.values.now) c.args.rounds c.args.count some c.requires.size
+    let few = c.requires.few in
+    record {
+      few = omega (arith, few, some);
+      size = cube-more (length c.args.values.now) c.args.rounds c.args.count some c.requires.size;
+    }
 
 pub fold-requires : goal.fold-requires
 fold-requires g t c =
@@ -68,8 +72,8 @@ returns-in_err-challenge-clause-memory g t c =
 pub message-requires-clause-field : goal.message-requires-clause-field
 message-requires-clause-field g t c = c.requires.field
 
-pub message-requires-clause-within : goal.message-requires-clause-within
-message-requires-clause-within g t c = c.requires.within
-
 pub message-requires-clause-room : goal.message-requires-clause-room
 message-requires-clause-room g t c = c.requires.room
+
+pub message-requires-clause-within : goal.message-requires-clause-within
+message-requires-clause-within g t c = c.requires.within

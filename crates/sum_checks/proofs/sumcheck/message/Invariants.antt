@@ -8,6 +8,8 @@ use Rattle.sum_checks.proofs.sumcheck.message.Given as goal
 abbrev pub invariant-loop-node : goal.invariant-loop-node
 invariant-loop-node g l =
     let field = g.F.Represented in
+    let round = l.round in
     (map field.repr l.message.items
-    ≡ map (honest_at field.product (map (term_product field.repr) l.terms) l.count l.rounds (map field.repr l.values)) (0 ∷ range_with_len 2 (l.node - 2)))
-    × (length l.scratch ≡ length l.values)
+    ≡ map (honest_at field.product (map (term_product field.repr) round.terms.now) round.count round.rounds (map field.repr round.values.now))
+    (0 ∷ range_with_len 2 (l.node - 2)))
+    × (length l.scratch ≡ length round.values.now)

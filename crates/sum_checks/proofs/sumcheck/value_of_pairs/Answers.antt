@@ -9,20 +9,23 @@ use Rattle.sum_checks.proofs.sumcheck.value_of_pairs.Goals as goal
 
 pub cube_sum-second-requires-clause-size : goal.cube_sum-second-requires-clause-size
 cube_sum-second-requires-clause-size g c =
-    let half = cube-half (length c.args.values.now) c.args.rounds c.args.count c.requires.size in
+    let round = c.args.round.now in
+    let half = cube-half (length round.values.now) round.rounds round.count round.size in
     let rest = c.split_at.ensures.back_len in
     omega (arith, half, rest)
 
 pub add_slice-requires : goal.add_slice-requires
 add_slice-requires g c =
-    let half = cube-half (length c.args.values.now) c.args.rounds c.args.count c.requires.size in
+    let round = c.args.round.now in
+    let half = cube-half (length round.values.now) round.rounds round.count round.size in
     let rest = c.split_at.ensures.back_len in
     let kept = c.copy_from_slice.ensures.len in
     omega (arith, half, rest, kept, c.requires.room)
 
 pub cube_sum-leading-requires-clause-size : goal.cube_sum-leading-requires-clause-size
 cube_sum-leading-requires-clause-size g c =
-    let half = cube-half (length c.args.values.now) c.args.rounds c.args.count c.requires.size in
+    let round = c.args.round.now in
+    let half = cube-half (length round.values.now) round.rounds round.count round.size in
     let kept = c.copy_from_slice.ensures.len in
     let long : length c.add_slice.new.values ≡ length c.copy_from_slice.new.self = omega arith in
     omega (arith, half, kept, long, c.requires.room)
@@ -37,29 +40,30 @@ copy_from_slice-requires g c =
     omega (arith, front, room)
 
 pub cube_sum-second-requires-clause-few : goal.cube_sum-second-requires-clause-few
-cube_sum-second-requires-clause-few g c = let few = c.requires.few in omega (arith, few)
+cube_sum-second-requires-clause-few g c = let few = c.args.round.now.few in omega (arith, few)
 
 pub cube_sum-second-requires-clause-within : goal.cube_sum-second-requires-clause-within
 cube_sum-second-requires-clause-within g c = c.requires.within
 
 pub cube_sum-leading-requires-clause-few : goal.cube_sum-leading-requires-clause-few
-cube_sum-leading-requires-clause-few g c = let few = c.requires.few in omega (arith, few)
+cube_sum-leading-requires-clause-few g c = let few = c.args.round.now.few in omega (arith, few)
 
 pub cube_sum-leading-requires-clause-within : goal.cube_sum-leading-requires-clause-within
 cube_sum-leading-requires-clause-within g c = c.requires.within
 
 pub returns : goal.returns
 returns g c =
+    let round = c.args.round.now in
     let field = g.F.Represented in
     let law = g.met.F.Represented in
-    let values = c.args.values.now in
+    let values = round.values.now in
     let upper = c.split_at.result.1.now in
     let leading = c.cube_sum-leading.result in
-    let half = cube-half (length values) c.args.rounds c.args.count c.requires.size in
-    let even : length (map field.repr values) ≡ 2 ^ c.args.rounds * c.args.count + 2 ^ c.args.rounds * c.args.count =
+    let half = cube-half (length values) round.rounds round.count round.size in
+    let even : length (map field.repr values) ≡ 2 ^ round.rounds * round.count + 2 ^ round.rounds * round.count =
     length-map values field.repr ∙ omega (arith, half) in
-    pairs-value field.width field.product g.met.F.Field.field_law.ring g.met.F.Field.wide_law (map (term_product field.repr) c.args.terms.now)
-    c.args.count c.args.rounds c.requires.within c.requires.pairs (map field.repr values) even (field.repr c.args.x) (field.repr c.args.first)
+    pairs-value field.width field.product g.met.F.Field.field_law.ring g.met.F.Field.wide_law (map (term_product field.repr) round.terms.now)
+    round.count round.rounds c.requires.within c.requires.pairs (map field.repr values) even (field.repr c.args.x) (field.repr c.args.first)
     (field.repr c.cube_sum-second.result) (field.repr leading) (field.repr c.add-3.result) (map field.repr c.split_at.result.0.now)
     (map field.repr upper) (map field.repr c.add_slice.new.values)
     (lower-numbers field.repr values c.split_at.result.0.now c.split_at.ensures.front)

@@ -25,7 +25,7 @@ returns-clause-read g c =
     verified-run g.C.CanObserve.observes g.C.CanSample.gives field.width field.product field.repr c.args.challenger.now
     c.observe_slice.new.self c.verify_rounds.new.challenger
     (statement_of field.width field.product c.args.rounds c.args.count terms (field.repr c.args.claim)) c.as_slice.result.now
-    (field.repr c.args.claim) c.args.rounds c.degree-degree.result (degree_of terms) c.args.messages.now c.new-point.result.items
-    c.verify_rounds.new.point.items (field.repr c.in_ok-claim.claim) c.new-point.ensures.items
+    (field.repr c.args.claim) c.args.rounds c.degree-degree.result (degree_of terms) c.args.messages.now c.new.result.items
+    c.verify_rounds.new.reduced.point.items (field.repr c.verify_rounds.new.reduced.claim) c.new.ensures.items
     (ap (map field.repr) c.as_slice.ensures.value ∙ c.in_ok-elements.ensures.numbers) c.in_ok-observe_slice.ensures.ok
-    c.degree-degree.ensures.is c.in_ok-claim.ensures.run
+    c.degree-degree.ensures.is c.in_ok-verify_rounds.ensures.run
