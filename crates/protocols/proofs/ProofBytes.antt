@@ -1,6 +1,6 @@
 -- The bytes of a proof are cut into those of its elements.
-use Rattle.std.proofs.Common.{◌≡◌, ◌≢◌, ℕ, zero, suc, ◌+◌, ◌-◌, ◌*◌, ◌/◌, ◌%◌, ◌^◌, ◌<◌, ◌≤◌, List, [], ◌∷◌, ◌++◌, length, get_or, take, drop, refl, sym, ◌∙◌, ap, ap₂, subst, arith}
-use Rattle.std.proofs.Math.Seq.{drop-append_seam, take-add, take-append_seam, take-suc}
+use Rattle.std.proofs.Common.{◌≡◌, ◌≢◌, ℕ, zero, suc, ◌+◌, ◌-◌, ◌*◌, ◌/◌, ◌%◌, ◌^◌, ◌<◌, ◌≤◌, List, [], ◌∷◌, ◌++◌, length, take, drop, refl, sym, ◌∙◌, ap, ap₂, subst, arith}
+use Rattle.std.proofs.Math.Seq.{drop-append_seam, take-add, take-append_seam}
 use Rattle.std.proofs.Math.Nat.{mul-div_cancel, mul-le-mul_right, mul-mod_left}
 use Rattle.std.proofs.lemmas.Nat.{div-add-mod'}
 use Rattle.std.proofs.lemmas.Grind.{flat_map-append}
@@ -23,14 +23,6 @@ module _ {F : Type 0} (size : ℕ) (repr : F → ℕ) where
   proof-more xs longer x is =
       ap (joined_bytes size repr) is ∙ flat_map-append bytes_of xs (x ∷ [])
       ∙ ap (λ (ys : List ℕ). joined_bytes size repr xs ++ ys) (append-nil (low_bytes size (repr x)))
-
-  pub element-written : (elements : List F) (index : ℕ) (x : F) (old new part : List ℕ) → index < length elements → x ≡ get_or elements index x
-      → new ≡ old ++ part → part ≡ low_bytes size (repr x) → old ≡ joined_bytes size repr (take index elements)
-      → new ≡ joined_bytes size repr (take (index + 1) elements)
-  element-written elements index x old new part inside is written bytes so_far =
-      written ∙ ap₂ (λ (a b : List ℕ). a ++ b) so_far bytes
-      ∙ sym (proof-more (take index elements) (take (index + 1) elements) x
-      (ap (λ (n : ℕ). take n elements) (add-one index) ∙ take-suc elements index x inside ∙ ap (λ (y : F). take index elements ++ y ∷ []) (sym is)))
 
   pub length-proof : (xs : List F) → length (joined_bytes size repr xs) ≡ length xs * size
   length-proof [] = let none : 0 ≡ 0 * size = omega arith in none
