@@ -1,7 +1,7 @@
 -- The values of a polynomial, block by block, are a code word, and as many symbols as the message has determine it.
 use Rattle.std.proofs.Common.{◌≡◌, ◌⊎◌, inl, inr, ℕ, ◌+◌, ◌-◌, ◌*◌, ◌%◌, ◌^◌, ◌<◌, ◌≤◌, List, ◌++◌, length, map, take, drop, sym, ◌∙◌, ap, subst, le_trans, arith, lit<}
 use Rattle.std.specs.Prelude.{slice_index}
-use Rattle.std.proofs.Math.Nat.{add-mul, mul-le-mul_left, pow-le-pow_right}
+use Rattle.std.proofs.Math.Nat.{add-mul, pow-le-pow_right}
 use Rattle.std.proofs.Math.Pow.{shl_exact}
 use Rattle.std.proofs.lemmas.Bool.{cases_lt}
 use Rattle.std.proofs.lemmas.Grind.{same_number_lists}
@@ -109,14 +109,6 @@ module _ (width : ℕ) (times : ℕ → ℕ → ℕ) (vector : ℕ → ℕ) (k :
 -- a power of two below the width of a word, by a shift
 pub shifted : (e : ℕ) → e ≤ 40 → (1 * 2 ^ e) % 2 ^ 64 ≡ 2 ^ e
 shifted e few = shl_exact {a = 1} 1 e 64 (lit< tt) (omega (arith, few)) ∙ one-mul (2 ^ e)
-
--- the pairs of a transform of 2 ^ k values are counted in 64 bits
-pub few_pairs : (k : ℕ) → k ≤ 39 → 0 + k * 2 ^ (k - 1) < 2 ^ 64
-few_pairs k few =
-    let exponent : k - 1 ≤ 39 = omega (arith, few) in
-    let power : 2 ^ (k - 1) ≤ 2 ^ 39 = pow-le-pow_right (lit< tt) exponent in
-    let product : k * 2 ^ (k - 1) ≤ k * 2 ^ 39 = mul-le-mul_left k power in
-    omega (arith, product, few)
 
 -- ---- as many symbols as the message has
 

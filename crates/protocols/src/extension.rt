@@ -6,7 +6,7 @@ ghost use Rattle.additive_transforms.specs.Transform.{AreOnlyCoefficients, HoldP
 ghost use Rattle.protocols.specs.CodeWords.{IsCodeWord, IsCodeWordOf, PartsDetermine};
 
 use additive_transforms::{
-    element_point, forward, forward_elements, inverse, inverse_elements, point,
+    element_point, forward_elements, forward_numbers, inverse_elements, inverse_numbers, point,
 };
 use field_base::traits::TowerLevel;
 use std::alloc::{AllocError, Allocator};
@@ -40,9 +40,9 @@ fn move_on<A: Allocator>(alloc: A, values: &mut [u128], levels: usize) -> Result
         × (length coefficients ≡ 2 ^ levels)
         × HoldPolynomialValues (point 128 ghash_cantor_vector 0 (2 ^ levels)) coefficients values.new) }
 {
-    inverse(values, 0, &mut 0);
+    inverse_numbers(values, 0);
     let shift = point(0, values.len() as u128);
-    forward(alloc, values, shift, &mut 0)?;
+    forward_numbers(alloc, values, shift)?;
     Ok(())
 }
 
