@@ -9,6 +9,7 @@ use borrow.Rule.Slice.PartMut.{mid_of, put_mid, same_len_mid}
 use lib.Seq.{length-take-le}
 use native.Mathlib.Nat.{le_refl}
 use Rattle.field_base.proofs.Places.{number-at, number-set_same, number-set_other}
+use Rattle.field_element.specs.Changes.{AreChanged}
 use Rattle.additive_transforms.proofs.Written.{read_before, read_behind, read_inside, read_lent}
 
 -- the places before n are related to what they were, and the others are as they were
@@ -79,6 +80,24 @@ module _ {A : Type 0} (repr : A → ℕ) (relates : ℕ → ℕ → ℕ → Type
           (subst (λ (y : ℕ). relates (start + (k - start)) y (slice_index (map repr part) (k - start)))
           (read_lent repr start count now (k - start) within ∙ so_far.rest (start + (k - start)) (omega (arith, from)))
           (given (k - start) (subst (λ (n : ℕ). k - start < n) (sym lent) within))))
+
+-- at the end all are changed
+pub changed-all : {A : Type 0} (repr : A → ℕ) (relates : ℕ → ℕ → ℕ → Type 0) (old now : List A) (n : ℕ) → Changed repr relates old now n
+    → length old ≤ n → AreChanged repr relates old now
+changed-all repr relates old now n so_far all =
+    record { long = so_far.long; results = λ k below. so_far.done k (omega (arith, below, all)) }
+
+-- all are changed by a block that begins at place 0
+pub changed-at_once : {A : Type 0} (repr : A → ℕ) (relates : ℕ → ℕ → ℕ → Type 0) (old now : List A)
+    → AreChanged repr (λ (k : ℕ). relates (0 + k)) old now → AreChanged repr relates old now
+changed-at_once repr relates old now are =
+    record {
+      long = are.long;
+      results =
+          λ k below.
+          let place : 0 + k ≡ k = omega arith in
+          subst (λ (n : ℕ). relates n (slice_index (map repr old) k) (slice_index (map repr now) k)) place (are.results k below);
+    }
 
 -- lists whose numbers are what is wanted at each place
 module _ {A : Type 0} (repr : A → ℕ) (xs rs : List A) (long : length rs ≡ length xs) where

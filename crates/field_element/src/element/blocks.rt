@@ -1,6 +1,7 @@
 // What kernels compute on many words at once, over elements: the words of a block of elements are copied, and so are the results. An
 // element is no word that such a call could write to, since it has no more bits than its field.
-ghost use Rattle.std.specs.Prelude.{◌≡◌, ◌<◌, ◌≤◌, ◌+◌, ◌^◌, ℕ, List, get_or, length, map, slice_index};
+ghost use Rattle.std.specs.Prelude.{◌≡◌, ◌<◌, ◌≤◌, ◌+◌, ◌^◌, ℕ, List, get_or, length, map};
+ghost use Rattle.field_element.specs.Changes.{AreChanged};
 ghost use Rattle.field_element.specs.Element.{repr_of};
 ghost use Rattle.many_words.specs.Fields.{field_of};
 ghost use Rattle.many_words.specs.Words.{AreElements};
@@ -50,45 +51,28 @@ pub(crate) trait OnWords<R: Stored, K: FieldKernel<R>> {
     ghost fewer_law: { (long m n : ℕ) → n ≤ m → suffice long m → suffice long n };
 }
 
-/// Changes each element.
+/// Changes each element: few one after another, and more block by block.
 pub(crate) fn change_elements<R: Stored, K: Many<R, R>, O: OnWords<R, K>>(
     elements: &mut [Element<R, K>],
     others: &[Element<R, K>],
     operation: &O,
 )
     requires { O.suffice (length others.now) (length elements.old) }
-    ensures long { length elements.new ≡ length elements.old }
-    ensures results { (k : ℕ) → k < length elements.old → O.gives operation.now (map repr_of others.now) k
-        (slice_index (map repr_of elements.old) k) (slice_index (map repr_of elements.new) k) }
+    ensures { AreChanged repr_of (O.gives operation.now (map repr_of others.now)) elements.old elements.new }
 {
     if elements.len() < O::least() {
-        change_one_by_one(elements, others, operation);
+        for place in 0..elements.len() {
+            elements[place] = Element {
+                repr: operation.result_at(elements[place].repr, others, place),
+                field: PhantomData,
+            };
+        }
     } else if elements.len() <= FEW {
         change_block::<R, K, O, FEW>(elements, others, operation, 0);
     } else if elements.len() <= SOME {
         change_block::<R, K, O, SOME>(elements, others, operation, 0);
     } else {
         change_blocks(elements, others, operation);
-    }
-}
-
-// Changes the elements one after another.
-#[inline]
-fn change_one_by_one<R: Stored, K: Many<R, R>, O: OnWords<R, K>>(
-    elements: &mut [Element<R, K>],
-    others: &[Element<R, K>],
-    operation: &O,
-)
-    requires { O.suffice (length others.now) (length elements.old) }
-    ensures long { length elements.new ≡ length elements.old }
-    ensures results { (k : ℕ) → k < length elements.old → O.gives operation.now (map repr_of others.now) k
-        (slice_index (map repr_of elements.old) k) (slice_index (map repr_of elements.new) k) }
-{
-    for place in 0..elements.len() {
-        elements[place] = Element {
-            repr: operation.result_at(elements[place].repr, others, place),
-            field: PhantomData,
-        };
     }
 }
 
@@ -100,9 +84,7 @@ fn change_blocks<R: Stored, K: Many<R, R>, O: OnWords<R, K>>(
     operation: &O,
 )
     requires { O.suffice (length others.now) (length elements.old) }
-    ensures long { length elements.new ≡ length elements.old }
-    ensures results { (k : ℕ) → k < length elements.old → O.gives operation.now (map repr_of others.now) k
-        (slice_index (map repr_of elements.old) k) (slice_index (map repr_of elements.new) k) }
+    ensures { AreChanged repr_of (O.gives operation.now (map repr_of others.now)) elements.old elements.new }
 {
     let mut start = 0;
     while start < elements.len() {
@@ -124,9 +106,7 @@ fn change_block<R: Stored, K: Many<R, R>, O: OnWords<R, K>, const N: usize>(
     requires few { length elements.old ≤ N }
     requires room { N ≤ 128 }
     requires suffice { O.suffice (length others.now) (start + length elements.old) }
-    ensures long { length elements.new ≡ length elements.old }
-    ensures results { (k : ℕ) → k < length elements.old → O.gives operation.now (map repr_of others.now) (start + k)
-        (slice_index (map repr_of elements.old) k) (slice_index (map repr_of elements.new) k) }
+    ensures { AreChanged repr_of (λ (k : ℕ). O.gives operation.now (map repr_of others.now) (start + k)) elements.old elements.new }
 {
     let count = elements.len();
     let mut words = [R::ZERO; N];
@@ -154,9 +134,7 @@ fn change_by_words<R: Stored, K: Many<R, R>, O: OnWords<R, K>>(
     requires words { length words.old ≡ length elements.old }
     requires beside { length beside.old ≡ length elements.old }
     requires suffice { O.suffice (length others.now) (start + length elements.old) }
-    ensures long { length elements.new ≡ length elements.old }
-    ensures results { (k : ℕ) → k < length elements.old → O.gives operation.now (map repr_of others.now) (start + k)
-        (slice_index (map repr_of elements.old) k) (slice_index (map repr_of elements.new) k) }
+    ensures { AreChanged repr_of (λ (k : ℕ). O.gives operation.now (map repr_of others.now) (start + k)) elements.old elements.new }
 {
     read_each(words, elements);
     operation.change(words, beside, others, start);

@@ -1,5 +1,5 @@
 // What is computed of many elements at once: products, multiples by one scalar, inverses, and sums of products.
-ghost use Rattle.std.specs.Prelude.{◌≡◌, ◌<◌, ◌≤◌, ◌^◌, ℕ, bit_xor, length, map, slice_index};
+ghost use Rattle.std.specs.Prelude.{◌≡◌, ◌<◌, ◌≤◌, ◌+◌, ◌^◌, ℕ, bit_xor, get_or, length, map, slice_index};
 ghost use Rattle.std.specs.Simd.Lanes.{zip2};
 ghost use Rattle.std.proofs.Common.{arith};
 ghost use Rattle.field_base.specs.Field.{AreInverses, IsInverseOrZero};
@@ -72,6 +72,21 @@ pub(crate) fn invert_elements<R: Stored, K: Many<R, R>>(
     change_elements(inverses, &others, &Inverses);
 }
 
+// Writes the words of the elements from the place `start` on.
+#[inline(always)]
+fn read_from<R: Stored, K: FieldKernel<R>>(
+    words: &mut [R],
+    elements: &[Element<R, K>],
+    start: usize,
+)
+    requires { start + length words.old ≤ length elements.now }
+    ensures long { length words.new ≡ length words.old }
+    ensures read { (k : ℕ) → k < length words.new → (d : R)
+        → R.number (get_or words.new k d) ≡ slice_index (map repr_of elements.now) (start + k) }
+{
+    read_each(words, &elements[start..start + words.len()]);
+}
+
 // The product by the other element.
 struct Products;
 
@@ -93,8 +108,7 @@ impl<R: Stored, K: Many<R, R>> OnWords<R, K> for Products {
 
     #[inline(always)]
     fn change(&self, words: &mut [R], beside: &mut [R], others: &[Element<R, K>], start: usize) {
-        let end = start + words.len();
-        read_each(beside, &others[start..end]);
+        read_from(beside, others, start);
         K::multiply_all::<u64x2>(words, beside);
     }
 
@@ -153,8 +167,7 @@ impl<R: Stored, K: Many<R, R>> OnWords<R, K> for AddedMultiples<R, K> {
 
     #[inline(always)]
     fn change(&self, words: &mut [R], beside: &mut [R], others: &[Element<R, K>], start: usize) {
-        let end = start + words.len();
-        read_each(beside, &others[start..end]);
+        read_from(beside, others, start);
         K::add_multiples::<u64x2>(words, beside, self.scalar.repr);
     }
 

@@ -1,6 +1,6 @@
 use Rattle.std.proofs.Common.{◌≡◌, ◌+◌, ◌-◌, ◌≤◌, length, arith}
 use Rattle.field_element.specs.Element.{repr_of}
-use Rattle.field_element.proofs.ChangedPlaces.{changed-none, changed-block}
+use Rattle.field_element.proofs.ChangedPlaces.{changed-all, changed-none, changed-block}
 use Rattle.field_element.proofs.element.blocks.change_blocks.Goals as goal
 
 pub loop-start-init : goal.loop-start-init
@@ -17,10 +17,5 @@ loop-start-preserved g c =
           next room c.change_block.ensures.long c.change_block.ensures.results c.loop-start.invariant.1,
     )
 
-pub returns-clause-long : goal.returns-clause-long
-returns-clause-long g c = c.loop-start.invariant.1.long
-
-pub returns-clause-results : goal.returns-clause-results
-returns-clause-results g c =
-    let all : length c.args.elements.now ≤ c.loop-start.start = omega arith in
-    λ k below. c.loop-start.invariant.1.done k (omega (arith, all, below))
+pub returns : goal.returns
+returns g c = changed-all repr_of _ _ _ c.loop-start.start c.loop-start.invariant.1 (omega arith)

@@ -1,10 +1,10 @@
-use Rattle.std.proofs.Common.{◌+◌, ◌<◌, ◌≤◌, ◌^◌, ℕ, List, get_or, length, map, sym, subst, ◌∙◌, ap, arith}
+use Rattle.std.proofs.Common.{◌+◌, ◌<◌, ◌^◌, ℕ, List, get_or, length, map, sym, subst, ◌∙◌, ap, arith}
 use Rattle.std.specs.Prelude.{slice_index}
 use Rattle.std.proofs.lemmas.List.{get_or-map}
 use Rattle.field_base.proofs.Places.{numbers-lt}
 use Rattle.field_element.specs.Element.{repr_of}
 use Rattle.many_words.proofs.WordDots.{same_long}
-use Rattle.field_element.proofs.ChangedPlaces.{changed-none, changed-written}
+use Rattle.field_element.proofs.ChangedPlaces.{changed-all, changed-none, changed-written}
 use Rattle.field_element.proofs.element.blocks.change_by_words.Goals as goal
 
 pub change-requires-clause-elements : goal.change-requires-clause-elements
@@ -49,10 +49,5 @@ loop-place-preserved g c =
     (c.change.ensures.results place inside word)))
     c.loop-place.invariant
 
-pub returns-clause-long : goal.returns-clause-long
-returns-clause-long g c = c.loop-place.invariant.long
-
-pub returns-clause-results : goal.returns-clause-results
-returns-clause-results g c =
-    let all : length c.args.elements.now ≤ c.loop-place.place = omega arith in
-    λ k below. c.loop-place.invariant.done k (omega (arith, all, below))
+pub returns : goal.returns
+returns g c = changed-all repr_of _ _ _ c.loop-place.place c.loop-place.invariant (omega arith)

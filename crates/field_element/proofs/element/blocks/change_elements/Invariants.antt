@@ -1,7 +1,7 @@
 use Rattle.std.proofs.Common.{map}
 use Rattle.field_element.specs.Element.{repr_of}
 use Rattle.field_element.proofs.ChangedPlaces.{Changed}
-use Rattle.field_element.proofs.element.blocks.change_one_by_one.Given as goal
+use Rattle.field_element.proofs.element.blocks.change_elements.Given as goal
 
 -- the places before this one are changed
 abbrev pub invariant-loop-place : goal.invariant-loop-place
