@@ -1,10 +1,10 @@
 // Commitments to tables of multilinear polynomials by the columns of interleaved code words, and openings of their values.
-ghost use Rattle.std.specs.Prelude.{◌≡◌, ◌↔◌, ◌+◌, ◌*◌, ◌^◌, ◌<◌, ◌≤◌, ℕ, List, length, map, slice_index, IfOk, IsTrue};
+ghost use Rattle.std.specs.Prelude.{◌≡◌, ◌↔◌, ◌+◌, ◌-◌, ◌*◌, ◌^◌, ◌<◌, ◌≤◌, ℕ, length, map, slice_index, IfOk, IsTrue};
 ghost use Rattle.std.specs.List.{range_with_len};
 ghost use Rattle.field_bytes.specs.Streams.{joined_bytes};
 ghost use Rattle.field_slices.specs.Multilinear.{multilinear_value};
-ghost use Rattle.merkle_trees.specs.Commitments.{IsTreeOver, root_of, row_at};
-ghost use Rattle.merkle_trees.specs.Openings.{AreAscending, OpensRows};
+ghost use Rattle.merkle_trees.specs.Commitments.{IsTreeOver, row_at};
+ghost use Rattle.merkle_trees.specs.Openings.{AreAscending};
 ghost use Rattle.protocols.specs.Tables.{AreColumnsAt, AreExtendedColumns, ColumnValuesAgree, ColumnValuesEvaluate, FewPlacesAgree};
 ghost use Rattle.protocols.specs.Tables.{IsHonestOpening, OpensColumns, OpensPlaces, column_at};
 
@@ -38,6 +38,26 @@ pub struct OpenedColumns<F: Field, A: Allocator> {
     pub columns: Vec<F, A>,
     /// The nodes that open their bytes.
     pub nodes: Vec<[u8; 32], A>,
+}
+
+/// A row that a prover sends of a committed table, as the values of its columns at a point.
+#[derive(Clone, Copy)]
+pub struct ClaimedRow<'a, F> {
+    /// The point.
+    pub point: &'a [F],
+    /// The row.
+    pub row: &'a [F],
+}
+
+/// What a verifier is sent of a committed table's columns.
+#[derive(Clone, Copy)]
+pub struct ColumnOpening<'a, F> {
+    /// The places that are opened.
+    pub places: &'a [usize],
+    /// The columns there, one after the other.
+    pub columns: &'a [F],
+    /// The nodes that open their bytes.
+    pub nodes: &'a [[u8; 32]],
 }
 
 /// Commits to a table of 2^(rows + levels) values, a matrix of 2^rows rows of 2^levels values each: each row is extended to a code word at
@@ -156,29 +176,28 @@ pub fn open_columns<F: ShortElement, A: Allocator + Copy>(
     Ok(OpenedColumns { columns, nodes })
 }
 
-/// Whether a row has the values of a committed table's columns at a point, as far as the columns at these places say: nodes open their
-/// bytes, and the row's code word has at each place the value of the column there. The columns stand one after the other. Rows and columns
-/// of other sizes, and places that are not in ascending order, come twice or are not below 2^(expansion + levels), are refused. It fails if
-/// memory was refused.
+/// Whether a row of 2^levels values has the values of a committed table's columns at a point, as far as the columns that are opened say:
+/// nodes open their bytes, and the row's code word, of 2^depth elements, has at each place the value of the column there. Rows and columns
+/// of other sizes, and places that are not in ascending order, come twice or are not below 2^depth, are refused. It fails if memory was
+/// refused.
 pub fn verify_columns<F: ShortElement, H: ByteHasher32, A: Allocator + Copy>(
     alloc: A,
     hasher: &H,
     commitment: Commitment,
     levels: usize,
-    expansion: usize,
-    point: &[F],
-    row: &[F],
-    places: &[usize],
-    columns: &[F],
-    nodes: &[[u8; 32]],
+    claim: &ClaimedRow<'_, F>,
+    opening: &ColumnOpening<'_, F>,
 ) -> Result<bool, AllocError>
-    requires few { expansion + levels ≤ 40 }
-    requires points { expansion + levels ≤ F.width }
-    requires depth { commitment.depth ≡ expansion + levels }
-    requires coordinates { length point.now ≤ 40 }
+    requires few { commitment.depth ≤ 40 }
+    requires points { commitment.depth ≤ F.width }
+    requires levels { levels ≤ commitment.depth }
+    requires coordinates { length claim.now.point.now ≤ 40 }
     ensures { IfOk result (λ accepted. IsTrue accepted ↔ OpensColumns (H.digest hasher.now) F.repr F.NUM_BYTES F.width F.product
-        (λ i. F.basis (F.cantor i)) levels expansion commitment.root point.now row.now places.now columns.now nodes.now) }
+        (λ i. F.basis (F.cantor i)) levels (commitment.depth - levels) commitment.root claim.now.point.now claim.now.row.now
+        opening.now.places.now opening.now.columns.now opening.now.nodes.now) }
 {
+    let (point, row) = (claim.point, claim.row);
+    let (places, columns) = (opening.places, opening.columns);
     let height = power_of_two(point.len());
     if !has_length(columns.len(), places.len(), height) {
         return Ok(false);
@@ -195,12 +214,12 @@ pub fn verify_columns<F: ShortElement, H: ByteHasher32, A: Allocator + Copy>(
         places,
         bytes.as_slice(),
         size,
-        nodes,
+        opening.nodes,
     )?;
     if !opened {
         return Ok(false);
     }
-    let word = extend(alloc, row, levels, expansion)?;
+    let word = extend(alloc, row, levels, commitment.depth - levels)?;
     let agree = agree_at(word.as_slice(), point, height, places, columns);
     Ok(agree)
 }

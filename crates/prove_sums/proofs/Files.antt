@@ -3,11 +3,9 @@ use Rattle.std.proofs.Common.{◌≡◌, ℕ, zero, suc, ◌+◌, ◌-◌, ◌*�
 use Rattle.std.specs.Prelude.{IfNone, IfSome, None, Option, Some, slice_index}
 use Rattle.std.specs.List.{flat_map}
 use Rattle.std.specs.Simd.{first_chunks}
-use Rattle.std.proofs.Math.Seq.{drop-append_seam, take-append_seam, take-suc}
-use Rattle.std.proofs.lemmas.Grind.{flat_map-append}
-use Rattle.std.proofs.lemmas.List.{append-nil, append_assoc, drop-drop, length-append, length-drop, length-take-le, take-append-drop}
+use Rattle.std.proofs.Math.Seq.{drop-append_seam, take-append_seam}
+use Rattle.std.proofs.lemmas.List.{append_assoc, drop-drop, length-append, length-drop, length-take-le, take-append-drop}
 use Rattle.std.proofs.lemmas.List.Concat.{flat_map-cons}
-use native.Mathlib.Numerals.{add-one}
 use Rattle.field_bytes.specs.Bytes.{low_bytes}
 use Rattle.field_bytes.specs.Streams.{joined_bytes}
 use Rattle.field_bytes.proofs.Taking.{length-chunks}
@@ -68,18 +66,6 @@ chunk-size (suc k) bytes enough (suc j) inside =
 pub chunk-count : (k : ℕ) (bytes : List ℕ) → length (first_chunks 32 k bytes) ≡ k
 chunk-count zero bytes = refl
 chunk-count (suc k) bytes = ap suc (chunk-count k (drop 32 bytes))
-
--- one node more
-pub node_written : (nodes : List (List ℕ)) (place : ℕ) (node old new front : List ℕ) → place < length nodes
-    → node ≡ get_or nodes place node → new ≡ old ++ node → old ≡ front ++ flat (take place nodes)
-    → new ≡ front ++ flat (take (place + 1) nodes)
-node_written nodes place node old new front inside is written so_far =
-    written ∙ ap (λ (l : List ℕ). l ++ node) so_far ∙ append_assoc front (flat (take place nodes)) node
-    ∙ ap (λ (l : List ℕ). front ++ l)
-    (sym (ap (λ (n : ℕ). flat (take n nodes)) (add-one place)
-    ∙ ap flat (take-suc nodes place node inside ∙ ap (λ y. take place nodes ++ y ∷ []) (sym is))
-    ∙ flat_map-append (λ x. x) (take place nodes) (node ∷ [])
-    ∙ ap (λ (ys : List ℕ). flat (take place nodes) ++ ys) (append-nil node)))
 
 -- ---- files
 
@@ -154,9 +140,6 @@ module _ (bytes : List ℕ) where
     behind_body size long =
         sym (drop-drop size 73 bytes) ∙ ap (drop size) behind_right ∙ ap (λ (n : ℕ). drop n (body ++ flat nodes)) long
         ∙ drop-append_seam body (flat nodes)
-
-    pub file_head : take 8 bytes ≡ head
-    file_head = ap (take 8) all
 
     pub file_rounds : rounds_of ≡ rounds
     file_rounds = ap (λ (l : List ℕ). slice_index l 8) all

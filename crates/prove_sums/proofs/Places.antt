@@ -1,27 +1,9 @@
 -- Tables that are read, place by place.
 use Rattle.std.proofs.Common.{◌≡◌, ℕ, ◌+◌, ◌<◌, List, [], ◌∷◌, ◌++◌, length, map, take, get_or, refl, sym, ◌∙◌, ap, ap₂, append_assoc, arith}
 use Rattle.std.proofs.Math.Seq.{take-suc}
-use Rattle.std.proofs.lemmas.List.{length-map, length-take-le, map-append}
+use Rattle.std.proofs.lemmas.List.{length-take-le}
 use native.Mathlib.Numerals.{add-one}
 use Rattle.prove_sums.specs.Verdicts.{interleaved}
-
--- one number more, which is that of one word more
-pub listed : {B T : Type 0} (g : B → T) (items pushed : List T) (x : T) (words : List B) (place : ℕ) (word : B) → place < length words
-    → word ≡ get_or words place word → pushed ≡ items ++ x ∷ [] → x ≡ g word → items ≡ map g (take place words)
-    → pushed ≡ map g (take (place + 1) words)
-listed g items pushed x words place word inside read is same so_far =
-    is ∙ ap₂ (λ (xs : List _) (y : _). xs ++ y ∷ []) so_far same
-    ∙ sym (map-append g (take place words) (word ∷ []))
-    ∙ ap (map g)
-    (ap (λ y. take place words ++ y ∷ []) read
-    ∙ sym (ap (λ (n : ℕ). take n words) (add-one place) ∙ take-suc words place word inside))
-
--- one element more, whose number is that of one word more
-pub grown : {A B T : Type 0} (f : A → T) (g : B → T) (items pushed : List A) (x : A) (words : List B) (place : ℕ) (word : B) → place < length words
-    → word ≡ get_or words place word → pushed ≡ items ++ x ∷ [] → f x ≡ g word → map f items ≡ map g (take place words)
-    → map f pushed ≡ map g (take (place + 1) words)
-grown f g items pushed x words place word inside read is same so_far =
-    listed g (map f items) (map f pushed) (f x) words place word inside read (ap (map f) is ∙ map-append f items (x ∷ [])) same so_far
 
 -- two rows more
 interleaved-append : {F : Type 0} (xs ys : List F) (x y : F) → length ys ≡ length xs
@@ -50,7 +32,3 @@ pub map-interleaved : {A B : Type 0} (f : A → B) (xs ys : List A) → map f (i
 map-interleaved f [] ys = refl
 map-interleaved f (x ∷ xs) [] = refl
 map-interleaved f (x ∷ xs) (y ∷ ys) = ap (λ (l : List _). f x ∷ f y ∷ l) (map-interleaved f xs ys)
-
--- lists with the same images are of one length
-pub same-length : {A B T : Type 0} (f : A → T) (g : B → T) (xs : List A) (ys : List B) → map f xs ≡ map g ys → length xs ≡ length ys
-same-length f g xs ys same = sym (length-map xs f) ∙ ap length same ∙ length-map ys g

@@ -16,32 +16,12 @@ power-room n most below few =
     let bound : 2 ^ most ≤ 2 ^ 40 = pow-le-pow_right (lit< tt) few in
     (mod-eq_of_lt {n = 1 * 2 ^ n} (omega (arith, up, bound)) ∙ one-mul (2 ^ n), up)
 
-module _ (n : ℕ) (few : n ≤ 39) where
-  pub rows-few : rows_of n ≤ 16
-  rows-few = omega (arith, few)
-
-  pub levels-few : levels_of n ≤ 24
-  levels-few = omega (arith, few)
-
-  pub bits-few : block_bits n ≤ 19
-  bits-few = omega (arith, few)
-
-  pub blocks-few : depth_of n - block_bits n ≤ 7
-  blocks-few = omega (arith, few)
-
 -- a product below its bounds
 pub product-few : (a b c d : ℕ) → a ≤ c → b ≤ d → a * b ≤ c * d
 product-few a b c d one other =
     let first : a * b ≤ c * b = mul-le-mul_right b one in
     let second : c * b ≤ c * d = mul-le-mul_left c other in
     omega (arith, first, second)
-
--- place `i` of so many blocks
-pub place-few : (i count size number : ℕ) → i < count → count ≤ 128 → 0 < size → size ≤ 524288 → i * size + number % size < 67108864
-place-few i count size number inside few some small =
-    let whole : i * size ≤ 127 * size = mul-le-mul_right size (omega (arith, inside, few)) in
-    let rest = mod-lt number some in
-    omega (arith, whole, rest, small)
 
 -- ---- parts of the elements of a proof
 
@@ -92,11 +72,15 @@ pub half-room : (which size : ℕ) → which < 2 → which * (size / 2) + size /
 half-room which size below = let few = twice-few which (size / 2) below in omega (arith, few)
 
 -- what is said of parts, said of others that are the same
-pub same-opening : {F : Type 0} (says : ℕ → List F → List F → List (List ℕ) → Type 0) {k levels : ℕ} {row rows columns all : List F}
-    {nodes half : List (List ℕ)} → k ≡ levels → row ≡ rows → columns ≡ all → nodes ≡ half → says k row columns nodes → says levels rows all half
-same-opening says {k} {levels} {row} {rows} {columns} {all} {nodes} {half} one two three four holds =
-    subst (λ (l : ℕ). says l rows all half) one
-    (subst (λ (r : List _). says k r all half) two (subst (λ (c : List _). says k row c half) three (subst (λ n. says k row columns n) four holds)))
+pub same-opening : {F : Type 0} (says : ℕ → ℕ → List ℕ → List F → List F → List (List ℕ) → Type 0) {k levels rate r : ℕ} {root top : List ℕ}
+    {row rows columns all : List F} {nodes half : List (List ℕ)} → k ≡ levels → rate ≡ r → root ≡ top → row ≡ rows → columns ≡ all → nodes ≡ half
+    → says k rate root row columns nodes → says levels r top rows all half
+same-opening says {k} {levels} {rate} {r} {root} {top} {row} {rows} {columns} {all} {nodes} {half} one two three four five six holds =
+    subst (λ (l : ℕ). says l r top rows all half) one
+    (subst (λ (e : ℕ). says k e top rows all half) two
+    (subst (λ (t : List ℕ). says k rate t rows all half) three
+    (subst (λ (x : List _). says k rate root x all half) four
+    (subst (λ (c : List _). says k rate root row c half) five (subst (λ n. says k rate root row columns n) six holds)))))
 
 -- ---- places
 
@@ -151,12 +135,6 @@ matrix-size n rows levels is same =
     ap (λ (m : ℕ). 2 ^ m) (let whole : n ≡ rows + levels = omega (arith, is, same) in whole) ∙ pow-add 2 rows levels
 
 -- the columns of a table's extension have room for its own
-pub held-room : {F : Type 0} (n : ℕ) (columns : List F) → length columns ≡ 2 ^ 2 * 2 ^ levels_of n * 2 ^ rows_of n
-    → row_size n * 2 ^ rows_of n ≤ length columns
-held-room n columns count =
-    subst (λ (m : ℕ). row_size n * 2 ^ rows_of n ≤ m) (sym count)
-    (mul-le-mul_right (2 ^ rows_of n) (let four : 2 ^ levels_of n ≤ 4 * 2 ^ levels_of n = omega arith in four))
-
 pub columns-held : {size row point height all have : ℕ} → size ≡ row → point ≡ height → all ≡ have → row * 2 ^ height ≤ have → size * 2 ^ point ≤ all
 columns-held {size} {row} {point} {height} {all} {have} one two three room =
     subst (λ (s : ℕ). s * 2 ^ point ≤ all) (sym one)

@@ -1,6 +1,6 @@
 -- What is proved of two tables, and what a verifier says of a proof, over elements and bytes alone. Elements have numbers by `repr`, the sum is
 -- `bit_xor` and the product `times`. `hash` and `digest` are hash functions.
-use Rattle.std.specs.Prelude.{◌≡◌, ◌≢◌, ◌↔◌, ℕ, ◌*◌, ◌^◌, ◌<◌, ◌≤◌, Bool, true, false, List, [], ◌∷◌, ◌++◌, length, map, take, drop, IsTrue}
+use Rattle.std.specs.Prelude.{◌≡◌, ◌≢◌, ◌↔◌, ℕ, zero, suc, ◌*◌, ◌^◌, ◌<◌, ◌≤◌, Bool, true, false, List, [], ◌∷◌, ◌++◌, length, map, take, drop, Err, IsTrue, Ok, Result}
 use Rattle.std.specs.List.{range_with_len}
 use Rattle.std.specs.declared.alloc.Global.{Global}
 use Rattle.std.specs.declared.option.Option.{Option}
@@ -87,6 +87,11 @@ abbrev pub IsProductAt : {F : Type 0} → (F → ℕ) → (ℕ → ℕ → ℕ) 
 IsProductAt repr times n elements others claim =
     claim ≡ times (multilinear_value times (map repr (row_in n 0 elements)) (map repr others))
     (multilinear_value times (map repr (row_in n 1 elements)) (map repr others))
+
+-- the root of table 0 or 1
+abbrev pub root_in : ℕ → List ℕ → List ℕ → List ℕ
+root_in zero left right = left
+root_in (suc which) left right = right
 
 -- the nodes open the columns of table 0 or 1 at these places under its root, and its row's code word agrees with them at the point
 abbrev pub OpensTable : {F : Type 0} → (List ℕ → List ℕ) → (F → ℕ) → ℕ → ℕ → (ℕ → ℕ → ℕ) → (ℕ → ℕ) → ℕ → ℕ → List ℕ → List F
@@ -247,6 +252,11 @@ abbrev pub HasVerdict : {F H : Type 0} → (H → List ℕ → List ℕ) → H �
 HasVerdict {F} digest hasher repr left right bytes accepted =
     (n : ℕ) × (elements : List F) × (nodes : List (List ℕ)) × IsFileOf repr bytes n left right elements nodes
     × IsSumVerdict digest hasher repr (file_bytes n left right [] []) n left right elements nodes accepted
+
+-- why a proof is refused, if it is
+abbrev pub refusal_in : {T : Type 0} → Result T Refusal → Option Refusal
+refusal_in (Ok proof) = None
+refusal_in (Err refusal) = Some refusal
 
 -- What is answered on a file of a proof for the tables with these roots: nothing, and it is accepted, if it has these roots, and the verdict
 -- on what it holds is true; else what is wrong.

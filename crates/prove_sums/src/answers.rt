@@ -1,47 +1,42 @@
 // What is answered on a file of a proof.
-ghost use Rattle.std.specs.Prelude.{◌≡◌, true, false, map, IfOk, None, Some};
-ghost use Rattle.prove_sums.specs.declared.refusal.Refusal.TheVariants.{NotProved};
-ghost use Rattle.prove_sums.specs.Verdicts.{IsWordAnswer};
+ghost use Rattle.std.specs.Prelude.{IfOk};
+ghost use Rattle.field_element.specs.Element.{repr_of};
+ghost use Rattle.prove_sums.specs.ProofFiles.{IsFileOf};
+ghost use Rattle.prove_sums.specs.Verdicts.{IsWordAnswer, refusal_in};
 
-use crate::proof_file::decode;
+use crate::proof_file::{Proof, Roots, decode};
 use crate::refusal::Refusal;
 use crate::word_sums::verify;
+use field_element::Ghash128;
 use protocols::ProtocolError;
 use std::alloc::Global;
 use transcripts::ByteHasher32;
 
-/// Why a file of a proof for the tables with these roots is refused, if it is. It fails if memory was refused.
-pub fn answer_to<H: ByteHasher32>(
+/// The proof that a file holds, if it is one for the tables with these roots and is accepted, or why it is refused. It fails if memory was
+/// refused.
+pub fn answer_to<'a, H: ByteHasher32>(
     alloc: Global,
     hasher: &H,
-    left: &[u8; 32],
-    right: &[u8; 32],
-    bytes: &[u8],
-) -> Result<Option<Refusal>, ProtocolError>
-    ensures { IfOk result (λ refusal. IsWordAnswer H.digest hasher.now left.now right.now bytes.now refusal) }
+    roots: &Roots,
+    bytes: &'a [u8],
+) -> Result<Result<Proof<'a, Ghash128>, Refusal>, ProtocolError>
+    ensures answer { IfOk result (λ answer. IsWordAnswer H.digest hasher.now roots.now.left roots.now.right bytes.now (refusal_in answer)) }
+    ensures proof { IfOk result (λ answer. IfOk answer (λ proof. IsFileOf repr_of bytes.now proof.shape.rounds proof.roots.left
+        proof.roots.right proof.elements.items proof.nodes.now)) }
 {
-    let read = match decode(alloc, bytes)? {
-        Ok(read) => read,
-        Err(refusal) => return Ok(Some(refusal)),
+    let proof = match decode(alloc, bytes)? {
+        Ok(proof) => proof,
+        Err(refusal) => return Ok(Err(refusal)),
     };
-    if read.left != *left {
-        return Ok(Some(Refusal::OtherLeft));
+    if proof.roots.left != roots.left {
+        return Ok(Err(Refusal::OtherLeft));
     }
-    if read.right != *right {
-        return Ok(Some(Refusal::OtherRight));
+    if proof.roots.right != roots.right {
+        return Ok(Err(Refusal::OtherRight));
     }
-    let accepted = verify(alloc, hasher, &read)?;
-    Ok(refusal_of(accepted))
-}
-
-// What is answered where all but the verdict is as it has to be.
-fn refusal_of(accepted: bool) -> Option<Refusal>
-    ensures accepted { accepted ≡ true → result ≡ None }
-    ensures refused { accepted ≡ false → result ≡ Some NotProved }
-{
-    if accepted {
-        None
-    } else {
-        Some(Refusal::NotProved)
+    let accepted = verify(alloc, hasher, &proof)?;
+    if !accepted {
+        return Ok(Err(Refusal::NotProved));
     }
+    Ok(Ok(proof))
 }

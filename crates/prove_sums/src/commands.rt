@@ -1,14 +1,15 @@
 // What the program does.
-ghost use Rattle.std.specs.Prelude.{◌≡◌, map, IfOk};
+ghost use Rattle.std.specs.Prelude.{◌≡◌, IfOk};
 ghost use Rattle.field_element.specs.Element.{repr_of};
+ghost use Rattle.prove_sums.specs.Shapes.{sum_in};
 ghost use Rattle.prove_sums.specs.Verdicts.{word_times, word_vector, HoldsTable, IsTable, IsTableRoot, IsTableTree};
 ghost use Rattle.prove_sums.specs.Verdicts.{IsWordCommitment, IsWordProof};
 
 use crate::answers::answer_to;
 use crate::example;
-use crate::proof_file::{decode, encode};
+use crate::proof_file::{Roots, encode};
 use crate::proving::Committed;
-use crate::refusal::Refusal;
+use crate::shapes::Shape;
 use crate::tables::table_of;
 use crate::word_sums::{commit_table, prove, root_of};
 use anyhow::{Context, Result, bail};
@@ -76,22 +77,28 @@ pub fn run(rt: &HostRuntime) -> Result<bool> {
 fn run_prove(rt: &HostRuntime, left: &str, right: &str, to: &str) -> Result<()> {
     let left = fs::read(rt, left).context("reading the left table")?;
     let right = fs::read(rt, right).context("reading the right table")?;
-    let proof = prove_tables(rt.alloc(), &Sha256Hasher, left.as_slice(), right.as_slice())?;
-    fs::write(rt, to, proof.as_slice()).context("writing the proof")?;
-    say_sum(rt, proof.as_slice())
+    let written = prove_tables(rt.alloc(), &Sha256Hasher, left.as_slice(), right.as_slice())?;
+    let bytes = written.bytes.as_slice();
+    fs::write(rt, to, bytes).context("writing the proof")?;
+    say_sum(rt, written.sum, bytes.len())
 }
 
 // Verifies the proof in a file, for the tables with these roots. It returns whether it is accepted.
 fn run_verify(rt: &HostRuntime, from: &str, left: &str, right: &str) -> Result<bool> {
-    let proof = fs::read(rt, from).context("reading the proof")?;
+    let bytes = fs::read(rt, from).context("reading the proof")?;
     let left = root_from(left).context("reading the left root")?;
     let right = root_from(right).context("reading the right root")?;
-    let refusal = answer_to(rt.alloc(), &Sha256Hasher, &left, &right, proof.as_slice())?;
-    match refusal {
-        None => say_sum(rt, proof.as_slice())?,
-        Some(refusal) => println!(rt; "refused: {refusal}")?,
+    let bytes = bytes.as_slice();
+    match answer_to(rt.alloc(), &Sha256Hasher, &Roots { left, right }, bytes)? {
+        Ok(proof) => {
+            say_sum(rt, proof.sum(), bytes.len())?;
+            Ok(true)
+        }
+        Err(refusal) => {
+            println!(rt; "refused: {refusal}")?;
+            Ok(false)
+        }
     }
-    Ok(refusal.is_none())
 }
 
 // The root with these digits.
@@ -102,16 +109,9 @@ fn root_from(digits: &str) -> Result<[u8; 32]> {
     Ok(root)
 }
 
-// Prints the sum of a proof, from its highest digit, and its length.
-fn say_sum(rt: &HostRuntime, proof: &[u8]) -> Result<()> {
-    if let Ok(read) = decode(rt.alloc(), proof)? {
-        if let Some(sum) = read.elements.first() {
-            println!(rt;
-                "the sum is {sum:032x}, and its proof has {} bytes",
-                proof.len()
-            )?;
-        }
-    }
+// Prints a sum, from its highest digit, and how many bytes its proof has.
+fn say_sum(rt: &HostRuntime, sum: Ghash128, size: usize) -> Result<()> {
+    println!(rt; "the sum is {sum:032x}, and its proof has {size} bytes")?;
     Ok(())
 }
 
@@ -120,20 +120,20 @@ fn commit<H: ByteHasher32>(
     alloc: Global,
     hasher: &H,
     bytes: &[u8],
-) -> Result<(usize, Committed<Ghash128>, [u8; 32])>
-    ensures table { IfOk result (λ made. IsTable repr_of bytes.now made.0 made.1.elements.items) }
-    ensures holds { IfOk result (λ made. HoldsTable repr_of 128 word_times word_vector made.0 made.1.elements.items
+) -> Result<(Shape, Committed<Ghash128>, [u8; 32])>
+    ensures table { IfOk result (λ made. IsTable repr_of bytes.now made.0.rounds made.1.elements.items) }
+    ensures holds { IfOk result (λ made. HoldsTable repr_of 128 word_times word_vector made.0.rounds made.1.elements.items
         made.1.held.columns.items made.1.held.tree) }
-    ensures root { IfOk result (λ made. IsTableRoot (H.digest hasher.now) repr_of made.0 made.1.elements.items made.1.held.columns.items
-        made.2) }
-    ensures tree { IfOk result (λ made. IsTableTree (H.digest hasher.now) repr_of made.0 made.1.held.columns.items made.2
+    ensures root { IfOk result (λ made. IsTableRoot (H.digest hasher.now) repr_of made.0.rounds made.1.elements.items
+        made.1.held.columns.items made.2) }
+    ensures tree { IfOk result (λ made. IsTableTree (H.digest hasher.now) repr_of made.0.rounds made.1.held.columns.items made.2
         made.1.held.tree) }
 {
     let table = table_of(alloc, bytes)?;
-    let rounds = table.rounds;
+    let shape = table.shape;
     let committed = commit_table(alloc, hasher, table)?;
     let root = root_of(&committed);
-    Ok((rounds, committed, root))
+    Ok((shape, committed, root))
 }
 
 /// The root that commits to a table.
@@ -144,34 +144,44 @@ pub(crate) fn commit_bytes<H: ByteHasher32>(
 ) -> Result<[u8; 32]>
     ensures { IfOk result (λ root. IsWordCommitment (H.digest hasher.now) table.now root) }
 {
-    let (_rounds, _committed, root) = commit(alloc, hasher, table)?;
+    let (_shape, _committed, root) = commit(alloc, hasher, table)?;
     Ok(root)
 }
 
-/// The bytes of the proof of the sum of two tables.
+/// A proof as it is written.
+#[derive(Drop)]
+pub(crate) struct Written {
+    /// The sum that is proved.
+    pub sum: Ghash128,
+    /// The bytes of the proof.
+    pub bytes: Vec<u8>,
+}
+
+/// The proof of the sum of two tables.
 pub(crate) fn prove_tables<H: ByteHasher32>(
     alloc: Global,
     hasher: &H,
     left: &[u8],
     right: &[u8],
-) -> Result<Vec<u8>>
-    ensures { IfOk result (λ proof. IsWordProof H.digest hasher.now left.now right.now proof.items) }
+) -> Result<Written>
+    ensures { IfOk result (λ written. (is : IsWordProof H.digest hasher.now left.now right.now written.bytes.items)
+        × (repr_of written.sum ≡ sum_in repr_of is.elements)) }
 {
-    let (rounds, first, left_root) = commit(alloc, hasher, left)?;
-    let (others, second, right_root) = commit(alloc, hasher, right)?;
+    let (shape, first, left_root) = commit(alloc, hasher, left)?;
+    let (other, second, right_root) = commit(alloc, hasher, right)?;
+    let (rounds, others) = (shape.rounds, other.rounds);
     if others != rounds {
         bail!("the tables have to have as many words, one as the other")
     }
-    let sent = prove(
-        alloc,
-        hasher,
-        rounds,
-        &left_root,
-        &right_root,
-        &first,
-        &second,
-    )?;
+    let roots = Roots {
+        left: left_root,
+        right: right_root,
+    };
+    let sent = prove(alloc, hasher, &shape, &roots, &first, &second)?;
     let (elements, nodes) = (sent.elements.as_slice(), sent.nodes.as_slice());
-    let proof = encode(alloc, rounds, &left_root, &right_root, elements, nodes)?;
-    Ok(proof)
+    let bytes = encode(alloc, &shape, &roots, elements, nodes)?;
+    Ok(Written {
+        sum: elements[0],
+        bytes,
+    })
 }

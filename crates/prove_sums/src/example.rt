@@ -1,6 +1,7 @@
 // A worked example: two tables of eight words, and what becomes of their proof where it, or a root, is changed.
 use crate::answers::answer_to;
 use crate::commands::{commit_bytes, prove_tables};
+use crate::proof_file::Roots;
 use anyhow::Result;
 use transcripts::Sha256Hasher;
 
@@ -21,16 +22,10 @@ static CHANGES: [(&str, usize); 12] = [
 ];
 
 // Prints the verifier's answer on a proof for the tables with these roots.
-fn say(
-    rt: &HostRuntime,
-    what: &str,
-    left: &[u8; 32],
-    right: &[u8; 32],
-    proof: &[u8],
-) -> Result<()> {
-    match answer_to(rt.alloc(), &Sha256Hasher, left, right, proof)? {
-        None => println!(rt; "{what}: accepted")?,
-        Some(refusal) => println!(rt; "{what}: refused, {refusal}")?,
+fn say(rt: &HostRuntime, what: &str, roots: &Roots, proof: &[u8]) -> Result<()> {
+    match answer_to(rt.alloc(), &Sha256Hasher, roots, proof)? {
+        Ok(_) => println!(rt; "{what}: accepted")?,
+        Err(refusal) => println!(rt; "{what}: refused, {refusal}")?,
     }
     Ok(())
 }
@@ -39,14 +34,13 @@ fn say(
 fn say_changed(
     rt: &HostRuntime,
     what: &str,
-    left: &[u8; 32],
-    right: &[u8; 32],
+    roots: &Roots,
     proof: &mut [u8],
     place: usize,
 ) -> Result<()> {
     if place < proof.len() {
         proof[place] ^= 1;
-        say(rt, what, left, right, proof)?;
+        say(rt, what, roots, proof)?;
         proof[place] ^= 1;
     }
     Ok(())
@@ -58,28 +52,26 @@ pub(crate) fn print(rt: &HostRuntime) -> Result<()> {
         *b"Two tables of eight words, of 16 bytes each, whose products are added. This is the table on the left, and so on: 12345678901234567";
     let right = [7; 128];
     let left = &left[..128];
-    let mut proof = prove_tables(rt.alloc(), &Sha256Hasher, left, &right)?;
-    let proof = proof.as_mut_slice();
+    let mut written = prove_tables(rt.alloc(), &Sha256Hasher, left, &right)?;
+    let proof = written.bytes.as_mut_slice();
     let left = commit_bytes(rt.alloc(), &Sha256Hasher, left)?;
     let right = commit_bytes(rt.alloc(), &Sha256Hasher, &right)?;
-    let (left, right) = (&left, &right);
+    let roots = &Roots { left, right };
+    let turned = &Roots {
+        left: right,
+        right: left,
+    };
     let text = hex::encode(rt.alloc(), &proof[..])?;
     println!(rt; "{text}")?;
-    say(rt, "the proof", left, right, proof)?;
-    say(rt, "the proof for the tables in turn", right, left, proof)?;
+    say(rt, "the proof", roots, proof)?;
+    say(rt, "the proof for the tables in turn", turned, proof)?;
     'changes: for index in 0..CHANGES.len() {
         let (what, place) = CHANGES[index];
-        say_changed(rt, what, left, right, proof, place)?;
+        say_changed(rt, what, roots, proof, place)?;
     }
     let short = proof.len().saturating_sub(1);
-    say(rt, "without its last byte", left, right, &proof[..short])?;
+    say(rt, "without its last byte", roots, &proof[..short])?;
     let shorter = proof.len().saturating_sub(64);
-    say(
-        rt,
-        "without its last numbers",
-        left,
-        right,
-        &proof[..shorter],
-    )?;
+    say(rt, "without its last numbers", roots, &proof[..shorter])?;
     Ok(())
 }

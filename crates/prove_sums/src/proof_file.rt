@@ -1,6 +1,6 @@
 // The bytes of a proof: eight that name the format and the field, one that says how many rounds there are, the roots of the left and of the
 // right table, 32 bytes each, the elements of 16 bytes each, from the lowest, and the nodes of 32 bytes each.
-ghost use Rattle.std.specs.Prelude.{◌≡◌, ◌≢◌, ◌*◌, ◌≤◌, ℕ, List, length, vec_len, IfOk, IfErr};
+ghost use Rattle.std.specs.Prelude.{◌≡◌, ◌≢◌, ℕ, List, vec_len, IfOk, IfErr};
 ghost use Rattle.field_bytes.specs.Streams.{joined_bytes};
 ghost use Rattle.field_element.specs.Element.{repr_of};
 ghost use Rattle.prove_sums.specs.ProofFiles.{file_bytes, IsCutTo, IsFile, IsFileOf, IsNoWordFile, IsOnlyFileOf, IsReadRefusal};
@@ -8,6 +8,7 @@ ghost use Rattle.prove_sums.specs.Shapes.{element_count};
 
 use crate::refusal::Refusal;
 use crate::shapes::{Shape, part};
+use field_base::traits::Field;
 use field_element::Ghash128;
 use protocols::proof_bytes;
 use std::alloc::{AllocError, Global};
@@ -18,29 +19,46 @@ const FRONT: usize = 73;
 /// What a proof begins with: the seventh byte names the field, which is that of GHASH.
 static HEAD: [u8; 8] = *b"sum 2 G\n";
 
-/// What a file of a proof holds.
-#[derive(Drop)]
-pub struct Proof<'a> {
-    /// The number of coordinates of the tables' polynomials, at most 39.
-    pub rounds: usize,
+/// The roots that commit to two tables.
+#[derive(Clone, Copy)]
+pub struct Roots {
     /// The root of the left table.
     pub left: [u8; 32],
     /// The root of the right table.
     pub right: [u8; 32],
+}
+
+/// What a file of a proof holds.
+#[derive(Drop)]
+pub struct Proof<'a, F: Field> {
+    /// The sizes.
+    pub shape: Shape,
+    /// The roots of the tables.
+    pub roots: Roots,
     /// The sum, the messages, the witness, the rows and the columns.
-    pub elements: Vec<Ghash128>,
+    pub elements: Vec<F>,
     /// The nodes that open the columns.
     pub nodes: &'a [[u8; 32]],
-    ghost few: { rounds ≤ 39 },
-    ghost count: { vec_len elements ≡ element_count rounds },
+    ghost count: { vec_len elements ≡ element_count shape.rounds },
+}
+
+impl<F: Field> Proof<'_, F> {
+    ghost use Rattle.prove_sums.specs.Shapes.{sum_in};
+
+    /// The sum that is proved.
+    pub fn sum(&self) -> F
+        ensures { F.repr result ≡ sum_in F.repr self.now.elements.items }
+    {
+        let elements = self.elements.as_slice();
+        elements[0]
+    }
 }
 
 /// The parts of a file, with the bytes of its elements.
 #[derive(Clone, Copy)]
 struct Parts<'a> {
-    rounds: usize,
-    left: [u8; 32],
-    right: [u8; 32],
+    shape: Shape,
+    roots: Roots,
     body: &'a [u8],
     nodes: &'a [[u8; 32]],
 }
@@ -48,22 +66,20 @@ struct Parts<'a> {
 /// The bytes of the proof with these roots, elements and nodes. It fails if memory was refused.
 pub fn encode(
     alloc: Global,
-    rounds: usize,
-    left: &[u8; 32],
-    right: &[u8; 32],
+    shape: &Shape,
+    roots: &Roots,
     elements: &[Ghash128],
     nodes: &[[u8; 32]],
 ) -> Result<Vec<u8>, AllocError>
-    requires { rounds ≤ 39 }
     ensures { IfOk result (λ bytes. bytes.items
-        ≡ file_bytes rounds left.now right.now (joined_bytes 16 repr_of elements.now) nodes.now) }
+        ≡ file_bytes shape.now.rounds roots.now.left roots.now.right (joined_bytes 16 repr_of elements.now) nodes.now) }
 {
     let body = proof_bytes::encode(alloc, elements)?;
     let mut bytes = Vec::new(alloc);
     bytes.extend_from_slice(&HEAD)?;
-    bytes.push(rounds as u8)?;
-    bytes.extend_from_slice(left)?;
-    bytes.extend_from_slice(right)?;
+    bytes.push(shape.rounds as u8)?;
+    bytes.extend_from_slice(&roots.left)?;
+    bytes.extend_from_slice(&roots.right)?;
     bytes.extend_from_slice(body.as_slice())?;
     'nodes: for index in 0..nodes.len() {
         bytes.extend_from_slice(&nodes[index])?;
@@ -73,11 +89,14 @@ pub fn encode(
 
 /// The proof of which these are the bytes, or why there is none. Bytes that `encode` wrote are accepted, and give what they were written
 /// of; what is accepted is what `encode` writes of the result. It fails if memory was refused.
-pub fn decode(alloc: Global, bytes: &[u8]) -> Result<Result<Proof<'_>, Refusal>, AllocError>
-    ensures whole { IfOk result (λ read. IfOk read (λ proof. IsFileOf repr_of bytes.now proof.rounds proof.left proof.right
+pub fn decode(
+    alloc: Global,
+    bytes: &[u8],
+) -> Result<Result<Proof<'_, Ghash128>, Refusal>, AllocError>
+    ensures whole { IfOk result (λ read. IfOk read (λ proof. IsFileOf repr_of bytes.now proof.shape.rounds proof.roots.left proof.roots.right
         proof.elements.items proof.nodes.now)) }
-    ensures own { IfOk result (λ read. IfOk read (λ proof. IsOnlyFileOf repr_of bytes.now proof.rounds proof.left proof.right
-        proof.elements.items proof.nodes.now)) }
+    ensures own { IfOk result (λ read. IfOk read (λ proof. IsOnlyFileOf repr_of bytes.now proof.shape.rounds proof.roots.left
+        proof.roots.right proof.elements.items proof.nodes.now)) }
     ensures refused { IfOk result (λ read. IfErr read (λ refusal. IsNoWordFile bytes.now × IsReadRefusal refusal)) }
 {
     let parts = match cut(bytes) {
@@ -90,9 +109,8 @@ pub fn decode(alloc: Global, bytes: &[u8]) -> Result<Result<Proof<'_>, Refusal>,
         None => return Ok(Err(Refusal::Length)),
     };
     Ok(Ok(Proof {
-        rounds: parts.rounds,
-        left: parts.left,
-        right: parts.right,
+        shape: parts.shape,
+        roots: parts.roots,
         elements,
         nodes: parts.nodes,
     }))
@@ -100,7 +118,8 @@ pub fn decode(alloc: Global, bytes: &[u8]) -> Result<Result<Proof<'_>, Refusal>,
 
 // The parts of a file.
 fn cut(bytes: &[u8]) -> Result<Parts<'_>, Refusal>
-    ensures file { IfOk result (λ parts. IsCutTo bytes.now parts.rounds parts.left parts.right parts.body.now parts.nodes.now) }
+    ensures file { IfOk result (λ parts. IsCutTo bytes.now parts.shape.rounds parts.roots.left parts.roots.right parts.body.now
+        parts.nodes.now) }
     ensures refused { IfErr result (λ _. (rounds : ℕ) (left right body : List ℕ) (nodes : List (List ℕ))
         → IsFile rounds left right body nodes → bytes.now ≢ file_bytes rounds left right body nodes) }
     ensures reason { IfErr result (λ refusal. IsReadRefusal refusal) }
@@ -115,7 +134,8 @@ fn cut(bytes: &[u8]) -> Result<Parts<'_>, Refusal>
     if rounds > 39 {
         return Err(Refusal::Length);
     }
-    let size = 16 * Shape::new(rounds).element_count();
+    let shape = Shape::new(rounds);
+    let size = 16 * shape.element_count();
     if bytes.len() < FRONT + size {
         return Err(Refusal::Length);
     }
@@ -128,9 +148,8 @@ fn cut(bytes: &[u8]) -> Result<Parts<'_>, Refusal>
     right.copy_from_slice(&bytes[41..FRONT]);
     let (nodes, _rest) = bytes[FRONT + size..].as_chunks::<32>();
     Ok(Parts {
-        rounds,
-        left,
-        right,
+        shape,
+        roots: Roots { left, right },
         body: part(bytes, FRONT, size),
         nodes,
     })

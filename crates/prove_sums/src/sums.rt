@@ -1,5 +1,5 @@
 // Sums of the products of two tables, over any field and in any transcript of it.
-ghost use Rattle.std.specs.Prelude.{◌≡◌, ◌+◌, ◌*◌, ◌^◌, ◌≤◌, ◌<◌, [], ◌∷◌, List, length, map, IfOk};
+ghost use Rattle.std.specs.Prelude.{◌≡◌, ◌+◌, ◌*◌, ◌^◌, ◌≤◌, [], ◌∷◌, length, map, IfOk};
 ghost use Rattle.sum_checks.specs.Products.{term_product};
 ghost use Rattle.prove_sums.specs.Verdicts.{interleaved, IsReducedClaim, IsSummed, product_terms};
 

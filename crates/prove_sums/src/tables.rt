@@ -1,8 +1,9 @@
 // Tables of words, as bytes and as elements.
-ghost use Rattle.std.specs.Prelude.{◌≡◌, ◌≤◌, ◌*◌, ◌^◌, length, map, vec_len, IfOk};
+ghost use Rattle.std.specs.Prelude.{◌≡◌, ◌^◌, vec_len, IfOk};
 ghost use Rattle.field_bytes.specs.Streams.{joined_bytes};
 ghost use Rattle.field_element.specs.Element.{repr_of};
 
+use crate::shapes::Shape;
 use anyhow::{Result, bail};
 use field_element::Ghash128;
 use protocols::proof_bytes::decode;
@@ -13,10 +14,9 @@ use std::alloc::Global;
 pub struct Table {
     /// The elements.
     pub elements: Vec<Ghash128>,
-    /// The logarithm of their number.
-    pub rounds: usize,
-    ghost few: { rounds ≤ 39 },
-    ghost size: { vec_len elements ≡ 2 ^ rounds },
+    /// The sizes of a proof for it, of which `rounds` is the logarithm of how many elements there are.
+    pub shape: Shape,
+    ghost size: { vec_len elements ≡ 2 ^ shape.rounds },
 }
 
 /// The table with these bytes. It fails if they are not 2^n words of 16 bytes, n from 0 to 39, or if memory was refused.
@@ -30,5 +30,6 @@ pub fn table_of(alloc: Global, bytes: &[u8]) -> Result<Table>
     if rounds > 39 || elements.len() != 1 << rounds {
         bail!("a table has to be 2^n words of 16 bytes, n from 0 to 39")
     }
-    Ok(Table { elements, rounds })
+    let shape = Shape::new(rounds);
+    Ok(Table { elements, shape })
 }

@@ -1,16 +1,16 @@
 // The verifier of a sum of products of two tables, of which it has the commitments alone.
-ghost use Rattle.std.specs.Prelude.{◌≡◌, ◌↔◌, ◌+◌, ◌*◌, ◌^◌, ◌≤◌, ◌<◌, length, map, IfOk, IsTrue};
-ghost use Rattle.field_slices.specs.Multilinear.{multilinear_value};
+ghost use Rattle.std.specs.Prelude.{◌≡◌, ◌↔◌, ◌+◌, ◌*◌, ◌≤◌, ◌<◌, length, IfOk, IsTrue};
 ghost use Rattle.prove_sums.specs.Shapes.{block_count, columns_size, element_count, levels_of, row_in, rows_in, rows_of, witness_in};
-ghost use Rattle.prove_sums.specs.Verdicts.{DrawsPlaces, IsProductAt, VerifiesSum, OpensTable};
+ghost use Rattle.prove_sums.specs.Verdicts.{DrawsPlaces, IsProductAt, VerifiesSum, OpensTable, root_in};
 
+use crate::proof_file::{Proof, Roots};
 use crate::shapes::{EXPANSION, Shape, part};
 use crate::sums::reduce;
 use field_slices::evaluate_multilinear;
 use protocols::ProtocolError;
 use protocols::merkle_paths::Commitment;
 use protocols::queries::check_queries;
-use protocols::tables::verify_columns;
+use protocols::tables::{ClaimedRow, ColumnOpening, verify_columns};
 use std::alloc::{AllocError, Global};
 use transcript_elements::{ByteLevel, FieldChallenger};
 use transcripts::{ByteHasher32, CanSampleUniformBits, GrindingChallenger};
@@ -18,8 +18,8 @@ use transcripts::{ByteHasher32, CanSampleUniformBits, GrindingChallenger};
 /// The bits of a proof's work.
 pub(crate) const WORK: usize = 16;
 
-/// Whether these elements and nodes prove that the first element is the sum of the products of the tables to which these roots commit. It
-/// fails where the challenger does, or memory is refused.
+/// Whether a proof proves that its first element is the sum of the products of the tables to which its roots commit. It fails where the
+/// challenger does, or memory is refused.
 pub fn verify<
     F: ByteLevel,
     H: ByteHasher32,
@@ -28,28 +28,21 @@ pub fn verify<
     alloc: Global,
     hasher: &H,
     challenger: &mut C,
-    shape: &Shape,
-    left: &[u8; 32],
-    right: &[u8; 32],
-    elements: &[F],
-    nodes: &[[u8; 32]],
+    proof: &Proof<'_, F>,
 ) -> Result<bool, ProtocolError>
-    requires count { length elements.now ≡ element_count shape.now.rounds }
-    requires points { 40 ≤ F.width }
+    requires { 40 ≤ F.width }
     ensures { IfOk result (λ accepted. VerifiesSum C.observes C.gives C.passing C.checks C.gives_bits C.number F.repr (H.digest hasher.now)
-        F.NUM_BYTES F.width F.product (λ i. F.basis (F.cantor i)) shape.now.rounds left.now right.now elements.now nodes.now challenger.old
-        accepted) }
+        F.NUM_BYTES F.width F.product (λ i. F.basis (F.cantor i)) proof.now.shape.rounds proof.now.roots.left proof.now.roots.right
+        proof.now.elements.items proof.now.nodes.now challenger.old accepted) }
 {
+    let shape = &proof.shape;
+    let elements = proof.elements.as_slice();
     let reduced = reduce(alloc, challenger, shape.rounds, elements)?;
     let (works, places) = sample_places(alloc, challenger, shape, elements)?;
     let (point, others) = reduced.point.as_slice().split_at(shape.rows);
     let places = places.as_slice();
-    let first = opens_table(
-        alloc, hasher, shape, 0, left, point, elements, places, nodes,
-    )?;
-    let second = opens_table(
-        alloc, hasher, shape, 1, right, point, elements, places, nodes,
-    )?;
+    let first = opens_table(alloc, hasher, proof, 0, point, places)?;
+    let second = opens_table(alloc, hasher, proof, 1, point, places)?;
     let holds = is_product(shape, elements, others, reduced.claim);
     Ok(all_hold(works, holds, first, second))
 }
@@ -92,44 +85,46 @@ fn sample_places<
 fn opens_table<F: ByteLevel, H: ByteHasher32>(
     alloc: Global,
     hasher: &H,
-    shape: &Shape,
+    proof: &Proof<'_, F>,
     which: usize,
-    root: &[u8; 32],
     point: &[F],
-    elements: &[F],
     places: &[usize],
-    nodes: &[[u8; 32]],
 ) -> Result<bool, AllocError>
     requires which { which < 2 }
     requires points { 40 ≤ F.width }
-    requires count { length elements.now ≡ element_count shape.now.rounds }
-    requires coordinates { length point.now ≡ rows_of shape.now.rounds }
+    requires coordinates { length point.now ≡ rows_of proof.now.shape.rounds }
     ensures { IfOk result (λ opens. IsTrue opens ↔ OpensTable (H.digest hasher.now) F.repr F.NUM_BYTES F.width F.product
-        (λ i. F.basis (F.cantor i)) shape.now.rounds which root.now point.now elements.now places.now nodes.now) }
+        (λ i. F.basis (F.cantor i)) proof.now.shape.rounds which (root_in which proof.now.roots.left proof.now.roots.right) point.now
+        proof.now.elements.items places.now proof.now.nodes.now) }
 {
+    let shape = &proof.shape;
+    let elements = proof.elements.as_slice();
     let front = 2 * shape.rounds + 2 + 2 * shape.row_size();
     let size = shape.columns_size();
     let columns = part(elements, front + which * size, size);
-    let half = nodes.len() / 2;
-    let opening = part(nodes, which * half, half);
+    let half = proof.nodes.len() / 2;
+    let nodes = part(proof.nodes, which * half, half);
     let row = row_of(shape, which, elements);
     let commitment = Commitment {
         depth: EXPANSION + shape.levels,
-        root: *root,
+        root: root_of(&proof.roots, which),
     };
-    let opens = verify_columns(
-        alloc,
-        hasher,
-        commitment,
-        shape.levels,
-        EXPANSION,
-        point,
-        row,
+    let claim = ClaimedRow { point, row };
+    let opening = ColumnOpening {
         places,
         columns,
-        opening,
-    )?;
+        nodes,
+    };
+    let opens = verify_columns(alloc, hasher, commitment, shape.levels, &claim, &opening)?;
     Ok(opens)
+}
+
+// The root of table 0 or 1.
+fn root_of(roots: &Roots, which: usize) -> [u8; 32]
+    requires { which < 2 }
+    ensures { result ≡ root_in which roots.now.left roots.now.right }
+{
+    if which == 0 { roots.left } else { roots.right }
 }
 
 // The row of table 0 or 1.

@@ -2,12 +2,7 @@
 use Rattle.std.specs.Prelude.{Bool, List}
 use Rattle.transcripts.specs.ByteCalls.{after, ByteCall, IsPartlyRun}
 use Rattle.transcripts.specs.declared.byte_challenger.ByteChallenger
-use Rattle.transcripts.specs.declared.guarded.Guarded.{Guarded}
 use Rattle.transcript_elements.specs.declared.challenger.BinaryChallenger.{BinaryChallenger}
-
--- the guarded byte challenger below it
-abbrev pub guarded_of : {F C : Type 0} {c : ByteChallenger.Ghosts C} → BinaryChallenger F C c → Guarded C c
-guarded_of challenger = challenger.guarded
 
 -- the byte challenger that is guarded
 abbrev pub inner_of : {F C : Type 0} {c : ByteChallenger.Ghosts C} → BinaryChallenger F C c → C

@@ -3,7 +3,10 @@
 use additive_transforms::element_point;
 use field_element::BinaryField16;
 use field_slices::evaluate_multilinear;
-use protocols::tables::{column_values, commit_table, open_columns, verify_columns};
+use protocols::merkle_paths::Commitment;
+use protocols::tables::{
+    ClaimedRow, ColumnOpening, column_values, commit_table, open_columns, verify_columns,
+};
 use std::alloc::{AllocError, Global};
 use test_support::next_word;
 use transcript_elements::ByteLevel;
@@ -67,19 +70,39 @@ fn is_opened<F: ByteLevel>(
         Change::Row(index) => increment(row.as_mut_slice(), index),
         Change::Column(index) => increment(opened.columns.as_mut_slice(), index),
     }
-    let accepted = verify_columns(
+    let (columns, nodes) = (opened.columns.as_slice(), opened.nodes.as_slice());
+    let accepted = is_accepted(
         alloc,
-        &Sha256Hasher,
         commitment,
-        2,
-        1,
         first,
         row.as_slice(),
         &places,
-        opened.columns.as_slice(),
-        opened.nodes.as_slice(),
+        columns,
+        nodes,
     )?;
     Ok(accepted == wanted)
+}
+
+// Whether a row is accepted, as the values at a point, by the columns at places, which nodes open.
+fn is_accepted<F: ByteLevel>(
+    alloc: Global,
+    commitment: Commitment,
+    point: &[F],
+    row: &[F],
+    places: &[usize],
+    columns: &[F],
+    nodes: &[[u8; 32]],
+) -> Result<bool, AllocError> {
+    if F::bits() < 3 || commitment.depth != 3 || point.len() != 2 {
+        return Ok(false);
+    }
+    let claim = ClaimedRow { point, row };
+    let opening = ColumnOpening {
+        places,
+        columns,
+        nodes,
+    };
+    verify_columns(alloc, &Sha256Hasher, commitment, 2, &claim, &opening)
 }
 
 // Whether each column of the eight has the honest row accepted, and is refused if one of its elements is changed; and whether a row of

@@ -10,15 +10,15 @@ use Rattle.prove_sums.proofs.commands.commit.Goals as goal
 pub returns-clause-table : goal.returns-clause-table
 returns-clause-table g c =
     let table = c.in_ok-table.table in
-    let size : length table.elements.items ≡ 2 ^ table.rounds = search rules in
-    subst (λ (l : List _). IsTable repr_of c.args.bytes.now table.rounds l) (sym c.in_ok-committed.ensures.table)
-    (record { few = table.few; count = size; written = c.in_ok-table.ensures })
+    let size : length table.elements.items ≡ 2 ^ table.shape.rounds = search rules in
+    subst (λ (l : List _). IsTable repr_of c.args.bytes.now table.shape.rounds l) (sym c.in_ok-committed.ensures.table)
+    (record { few = table.shape.few; count = size; written = c.in_ok-table.ensures })
 
 pub returns-clause-root : goal.returns-clause-root
 returns-clause-root g c =
     let held = c.in_ok-committed.ensures.holds in
     let columns = c.in_ok-committed.committed.held.columns.items in
-    let rounds = c.in_ok-table.table.rounds in
+    let rounds = c.in_ok-table.table.shape.rounds in
     let hash = g.H.ByteHasher32.digest c.args.hasher.now in
     let row : ℕ → List ℕ = λ (p : ℕ). joined_bytes 16 repr_of (row_at (2 ^ rows_of rounds) columns p) in
     record {

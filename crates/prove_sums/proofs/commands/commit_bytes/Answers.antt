@@ -2,11 +2,11 @@ use Rattle.prove_sums.proofs.commands.commit_bytes.Goals as goal
 
 pub returns : goal.returns
 returns g c =
-    let made = c.in_ok-_rounds.ensures in
+    let made = c.in_ok-_shape.ensures in
     record {
-      rounds = c.in_ok-_rounds._rounds;
-      elements = c.in_ok-_rounds._committed.elements.items;
-      columns = c.in_ok-_rounds._committed.held.columns.items;
+      rounds = c.in_ok-_shape._shape.rounds;
+      elements = c.in_ok-_shape._committed.elements.items;
+      columns = c.in_ok-_shape._committed.held.columns.items;
       table = made.table;
       commits = made.root;
     }

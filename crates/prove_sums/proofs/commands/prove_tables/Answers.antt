@@ -1,56 +1,64 @@
-use Rattle.std.proofs.Common.{◌≡◌, ℕ, List, ◌∙◌, ap₂, subst, arith}
+use Rattle.std.proofs.Common.{◌≡◌, ◌<◌, ℕ, List, length, ◌∙◌, ap, ap₂, subst, arith}
 use Rattle.field_bytes.specs.Streams.{joined_bytes}
 use Rattle.field_element.specs.Element.{repr_of}
 use Rattle.prove_sums.specs.ProofFiles.{file_bytes}
+use Rattle.prove_sums.specs.Shapes.{sum_in}
 use Rattle.prove_sums.specs.Verdicts.{HoldsTable, IsTable, IsTableRoot, IsTableTree, word_times, word_vector}
+use Rattle.prove_sums.proofs.SumSteps.{number-at}
 use Rattle.prove_sums.proofs.commands.prove_tables.Goals as goal
 
-pub prove-requires-clause-few : goal.prove-requires-clause-few
-prove-requires-clause-few g c = c.in_ok-rounds.ensures.table.few
+pub prove-requires-clause-left : goal.prove-requires-clause-left
+prove-requires-clause-left g c = c.in_ok-shape.ensures.holds
 
 pub prove-requires-clause-right : goal.prove-requires-clause-right
 prove-requires-clause-right g c =
-    let second = c.in_ok-others.second in
-    subst (λ (n : ℕ). HoldsTable repr_of 128 word_times word_vector n second.elements.items second.held.columns.items second.held.tree)
-    (omega (arith, c.if-others-rounds.false)) c.in_ok-others.ensures.holds
+    let second = c.in_ok-other.second in
+    let same : c.in_ok-other.other.rounds ≡ c.in_ok-shape.shape.rounds = omega (arith, c.if-others-rounds.false) in
+    subst (λ (n : ℕ). HoldsTable repr_of 128 word_times word_vector n second.elements.items second.held.columns.items second.held.tree) same
+    c.in_ok-other.ensures.holds
 
-pub encode-requires : goal.encode-requires
-encode-requires g c = c.in_ok-rounds.ensures.table.few
+pub bounds-elements-0 : goal.bounds-elements-0
+bounds-elements-0 g c =
+    let long = ap length (c.as_slice-elements.ensures.value ∙ c.in_ok-sent.ensures.written) in omega (arith, long)
 
 pub returns : goal.returns
 returns g c =
-    let rounds = c.in_ok-rounds.rounds in
-    let first = c.in_ok-rounds.first in
-    let second = c.in_ok-others.second in
+    let n = c.in_ok-shape.shape.rounds in
+    let first = c.in_ok-shape.first in
+    let second = c.in_ok-other.second in
     let sent = c.in_ok-sent.sent in
-    let left = c.in_ok-rounds.ensures in
-    let right = c.in_ok-others.ensures in
-    let same : c.in_ok-others.others ≡ rounds = omega (arith, c.if-others-rounds.false) in
-    record {
-      rounds = rounds;
-      one = first.elements.items;
-      other = second.elements.items;
-      one_columns = first.held.columns.items;
-      other_columns = second.held.columns.items;
-      one_root = c.in_ok-rounds.left_root;
-      other_root = c.in_ok-others.right_root;
-      one_tree = first.held.tree;
-      other_tree = second.held.tree;
-      elements = sent.elements.items;
-      nodes = sent.nodes.items;
-      left_table = left.table;
-      right_table = subst (λ (n : ℕ). IsTable repr_of c.args.right.now n second.elements.items) same right.table;
-      left_root = left.root;
-      right_root =
-          subst (λ (n : ℕ). IsTableRoot (g.H.ByteHasher32.digest c.args.hasher.now) repr_of n second.elements.items
-          second.held.columns.items c.in_ok-others.right_root) same right.root;
-      left_tree = left.tree;
-      right_tree =
-          subst (λ (n : ℕ). IsTableTree (g.H.ByteHasher32.digest c.args.hasher.now) repr_of n second.held.columns.items c.in_ok-others.right_root
-          second.held.tree) same right.tree;
-      written =
-          c.in_ok-proof.ensures
-          ∙ ap₂ (λ (l : List _) (ns : List (List ℕ)). file_bytes rounds c.in_ok-rounds.left_root c.in_ok-others.right_root
-          (joined_bytes 16 repr_of l) ns) c.as_slice-elements.ensures.value c.as_slice-nodes.ensures.value;
-      honest = c.in_ok-sent.ensures;
-    }
+    let left = c.in_ok-shape.ensures in
+    let right = c.in_ok-other.ensures in
+    let right_root = c.in_ok-other.right_root in
+    let hash = g.H.ByteHasher32.digest c.args.hasher.now in
+    let same : c.in_ok-other.other.rounds ≡ n = omega (arith, c.if-others-rounds.false) in
+    let long = ap length (c.as_slice-elements.ensures.value ∙ c.in_ok-sent.ensures.written) in
+    let some : 0 < length c.as_slice-elements.result.now = omega (arith, long) in (
+      record {
+        rounds = n;
+        one = first.elements.items;
+        other = second.elements.items;
+        one_columns = first.held.columns.items;
+        other_columns = second.held.columns.items;
+        one_root = c.in_ok-shape.left_root;
+        other_root = right_root;
+        one_tree = first.held.tree;
+        other_tree = second.held.tree;
+        elements = sent.elements.items;
+        nodes = sent.nodes.items;
+        left_table = left.table;
+        right_table = subst (λ (m : ℕ). IsTable repr_of c.args.right.now m second.elements.items) same right.table;
+        left_root = left.root;
+        right_root =
+            subst (λ (m : ℕ). IsTableRoot hash repr_of m second.elements.items second.held.columns.items right_root) same right.root;
+        left_tree = left.tree;
+        right_tree = subst (λ (m : ℕ). IsTableTree hash repr_of m second.held.columns.items right_root second.held.tree) same right.tree;
+        written =
+            c.in_ok-bytes.ensures
+            ∙ ap₂ (λ (l : List _) (ns : List (List ℕ)). file_bytes n c.in_ok-shape.left_root right_root (joined_bytes 16 repr_of l) ns)
+            c.as_slice-elements.ensures.value c.as_slice-nodes.ensures.value;
+        honest = c.in_ok-sent.ensures;
+      },
+      number-at repr_of c.as_slice-elements.result.now 0 c.index-elements-0.result some c.index-elements-0.is
+          ∙ ap (sum_in repr_of) c.as_slice-elements.ensures.value,
+    )

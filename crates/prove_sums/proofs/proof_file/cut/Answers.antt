@@ -1,4 +1,4 @@
-use Rattle.std.proofs.Common.{rules, arith, ◌≡◌, ℕ, length, take, ◌+◌, ◌*◌, ◌/◌, refl, sym, ◌∙◌, ap}
+use Rattle.std.proofs.Common.{rules, arith, ◌≡◌, ℕ, length, take, ◌+◌, ◌*◌, ◌/◌, sym, ◌∙◌, ap}
 use Rattle.std.specs.Simd.{first_chunks}
 use Rattle.std.proofs.lemmas.List.{take_rest}
 use Rattle.prove_sums.specs.ProofFiles.{head}
@@ -15,7 +15,7 @@ returns-then-bytes-size-ne0-clause-refused c = λ rounds left right body nodes i
     let bytes = c.args.bytes.now in
     let number = file_rounds bytes rounds left right body nodes is same in
     let fits : 16 * c.element_count-size.result ≡ length body =
-    sixteen c.element_count-size.result (element_count (rounds_of bytes)) (c.element_count-size.ensures.count ∙ ap element_count c.new.ensures)
+    sixteen c.element_count-size.result (element_count (rounds_of bytes)) (c.element_count-size.ensures.count ∙ ap element_count c.new-shape.ensures)
     ∙ ap (λ (n : ℕ). element_count n * 16) number ∙ sym is.body_size in
     let all = file_length bytes rounds left right body nodes is same in
     omega (arith, fits, all, is.even, c.if-bytes-size-ne0.true)
@@ -29,7 +29,7 @@ returns-clause-file c =
     let begins : take 8 bytes ≡ head = search rules in
     let nodes : c.as_chunks.result.0.now ≡ nodes_of bytes size =
     c.as_chunks.ensures.front ∙ ap (λ l. first_chunks 32 (length l / 32) l) (take_rest bytes (73 + size)) in
-    reads bytes (rounds_of bytes) c.copy_from_slice.new.self c.copy_from_slice-2.new.self c.part.result.now c.as_chunks.result.0.now size refl left
-    right c.part.ensures.values nodes
-    (sixteen c.element_count-size.result (element_count (rounds_of bytes)) (c.element_count-size.ensures.count ∙ ap element_count c.new.ensures))
-    (omega (arith, c.if-rounds-gt39.false)) (omega (arith, c.if-bytes-size.false)) (omega (arith, c.if-bytes-size-ne0.false)) begins
+    reads bytes c.new-shape.result.rounds c.copy_from_slice.new.self c.copy_from_slice-2.new.self c.part.result.now c.as_chunks.result.0.now size
+    c.new-shape.ensures left right c.part.ensures.values nodes
+    (sixteen c.element_count-size.result (element_count c.new-shape.result.rounds) c.element_count-size.ensures.count) c.new-shape.result.few
+    (omega (arith, c.if-bytes-size.false)) (omega (arith, c.if-bytes-size-ne0.false)) begins

@@ -19,18 +19,18 @@ invariant_of-result c =
     let parts = c.in-Ok.parts in
     let elements = c.in-Some.elements in
     let count =
-    same-count repr_of parts.body.now elements.items (element_count parts.rounds)
+    same-count repr_of parts.body.now elements.items (element_count parts.shape.rounds)
     (some-read _ c.in_ok-read.read c.in-Some.elements c.in-Some.is c.in_ok-read.ensures.written) c.in-Ok.ensures.file.may_be.body_size in
-    record { few = c.in-Ok.ensures.file.may_be.few; count = search rules }
+    record { count = search rules }
 
 pub returns-clause-whole : goal.returns-clause-whole
 returns-clause-whole c =
     let parts = c.in-Ok.parts in
     let is = some-read _ c.in_ok-read.read c.in-Some.elements c.in-Some.is c.in_ok-read.ensures.written in
     record {
-      may_be = subst (λ (b : List ℕ). IsFile parts.rounds parts.left parts.right b parts.nodes.now) is c.in-Ok.ensures.file.may_be;
+      may_be = subst (λ (b : List ℕ). IsFile parts.shape.rounds parts.roots.left parts.roots.right b parts.nodes.now) is c.in-Ok.ensures.file.may_be;
       written =
-          subst (λ (b : List ℕ). c.args.bytes.now ≡ file_bytes parts.rounds parts.left parts.right b parts.nodes.now) is c.in-Ok.ensures.file.written;
+          subst (λ (b : List ℕ). c.args.bytes.now ≡ file_bytes parts.shape.rounds parts.roots.left parts.roots.right b parts.nodes.now) is c.in-Ok.ensures.file.written;
     }
 
 pub returns-clause-own : goal.returns-clause-own

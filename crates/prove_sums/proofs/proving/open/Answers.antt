@@ -1,7 +1,6 @@
-use Rattle.std.proofs.Common.{◌^◌, ◌*◌, ◌++◌, ◌≡◌, ℕ, List, length, sym, ◌∙◌, ap, subst, arith}
+use Rattle.std.proofs.Common.{◌^◌, ◌++◌, ℕ, List, sym, ◌∙◌, ap, subst, arith}
 use Rattle.merkle_trees.specs.Openings.{AreAscending}
-use Rattle.protocols.specs.Tables.{AreColumnsAt, OpensPlaces}
-use Rattle.prove_sums.specs.Shapes.{rows_of}
+use Rattle.protocols.specs.Tables.{AreColumnsAt}
 use Rattle.prove_sums.proofs.Sizes.{columns-counted}
 use Rattle.prove_sums.proofs.proving.open.Goals as goal
 
