@@ -1,11 +1,13 @@
 // Fields whose elements go into transcripts.
-ghost use Rattle.std.specs.Prelude.{◌≡◌, ◌*◌, ◌++◌, ◌^◌, ◌<◌, ◌↔◌, Bool, false, true, IfErr, IfOk, IsErr};
+ghost use Rattle.std.specs.Prelude.{◌≡◌, ◌*◌, ◌++◌, ◌^◌, ◌<◌, ◌↔◌, Bool, cond, false, true, IfErr, IfOk, IsErr};
 ghost use Rattle.std.specs.Prelude.{List, length, OnErr, OnOk, refl, ℕ, take, Ok};
-ghost use Rattle.std.proofs.Common.{◌∙◌};
+ghost use Rattle.std.proofs.Common.{◌∙◌, lit<};
+ghost use Rattle.field_base.proofs.TowerProducts.{tower_mul-low};
+ghost use Rattle.field_base.specs.Tower.{tower_mul};
 ghost use Rattle.transcripts.specs.GuardedAnswers.{GuardedAnswer};
 ghost use Rattle.field_bytes.specs.BigEndian.{be_bytes};
 ghost use Rattle.transcript_elements.specs.Seeds.{BeginsSeed, IsPrefixFree, ObservesSeed};
-ghost use Rattle.transcript_elements.specs.Tags.{tag_of};
+ghost use Rattle.transcript_elements.specs.Tags.{poly64-two_squared, tag_of, tower-two_squared};
 
 use crate::byte_level::ByteLevel;
 use crate::error::TranscriptError;
@@ -31,6 +33,9 @@ pub trait TranscriptField: ByteLevel {
         ensures { result ≡ tag_of IN_POLYNOMIAL_BASIS Self.width degree basis };
 
     ghost whole_law: { Self.width ≡ 8 * Self.NUM_BYTES };
+
+    // Modulo a polynomial the square of x, the element 2, is x^2, and in the tower it is 3.
+    ghost kind_law: { Self.product 2 2 ≡ cond IN_POLYNOMIAL_BASIS 4 3 };
 
     /// Observes a string of bytes: its length as eight bytes, the lowest first, and then the bytes; each is filled with zeros to
     /// whole elements, and an element's first byte is its lowest. This encoding of seeds is prefix-free. It fails if the transcript
@@ -88,12 +93,16 @@ pub trait TranscriptKernel<R: ShortWord>: LevelKernel<R> + HasPacking<R> {
     ghost IN_POLYNOMIAL_BASIS: { Bool };
 
     ghost whole_law: { Self.width ≡ R.bits };
+
+    ghost kind_law: { Self.product 2 2 ≡ cond IN_POLYNOMIAL_BASIS 4 3 };
 }
 
 impl<R: ShortWord, K: TranscriptKernel<R>> TranscriptField for Element<R, K> {
     ghost IN_POLYNOMIAL_BASIS = { K.IN_POLYNOMIAL_BASIS };
 
     ghost whole_law = { K.whole_law ∙ R.size_law };
+
+    ghost kind_law = { K.kind_law };
 
     fn algebra_tag(degree: usize, basis: [u8; 32]) -> TypeTag {
         if K::IN_POLYNOMIAL_BASIS {
@@ -115,26 +124,38 @@ impl<R: ShortWord, K: TranscriptKernel<R>> TranscriptField for Element<R, K> {
 /// A level of the tower whose elements have as many bits as their words.
 pub trait WholeLevel<R: ShortWord>: Level<R> {
     ghost whole_law: { 2 ^ Self.LEVEL ≡ R.bits };
+
+    ghost kind_law: { tower_mul Self.LEVEL 2 2 ≡ 3 };
 }
 
 impl WholeLevel<u8> for Bits8 {
     ghost whole_law = { refl };
+
+    ghost kind_law = { tower_mul-low 2 1 2 2 (lit< tt) (lit< tt) ∙ tower-two_squared };
 }
 
 impl WholeLevel<u16> for Bits16 {
     ghost whole_law = { refl };
+
+    ghost kind_law = { tower_mul-low 3 1 2 2 (lit< tt) (lit< tt) ∙ tower-two_squared };
 }
 
 impl WholeLevel<u32> for Bits32 {
     ghost whole_law = { refl };
+
+    ghost kind_law = { tower_mul-low 4 1 2 2 (lit< tt) (lit< tt) ∙ tower-two_squared };
 }
 
 impl WholeLevel<u64> for Bits64 {
     ghost whole_law = { refl };
+
+    ghost kind_law = { tower_mul-low 5 1 2 2 (lit< tt) (lit< tt) ∙ tower-two_squared };
 }
 
 impl WholeLevel<u128> for Bits128 {
     ghost whole_law = { refl };
+
+    ghost kind_law = { tower_mul-low 6 1 2 2 (lit< tt) (lit< tt) ∙ tower-two_squared };
 }
 
 impl<R: ShortWord, L: WholeLevel<R>> TranscriptKernel<R> for Tower<L>
@@ -146,6 +167,8 @@ where
     ghost IN_POLYNOMIAL_BASIS = { false };
 
     ghost whole_law = { L.whole_law };
+
+    ghost kind_law = { L.kind_law };
 }
 
 impl TranscriptKernel<u64> for Poly64Kernel {
@@ -154,4 +177,6 @@ impl TranscriptKernel<u64> for Poly64Kernel {
     ghost IN_POLYNOMIAL_BASIS = { true };
 
     ghost whole_law = { refl };
+
+    ghost kind_law = { poly64-two_squared };
 }
