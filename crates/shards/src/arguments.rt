@@ -19,6 +19,9 @@ are called. A file is split in stripes, of which each shard has a piece with a d
 shard that is damaged in one stripe serves in all others. The digests have no key: they tell of
 damage, and of no forger.
 
+Files are written under names that end in .part, while FILE.lock is locked: of two runs that write
+files of one name at once, one fails. Only regular files are read.
+
 The exit status is 0, 1 after an error, and 2 where the words are wrong. What it says of shards
 stands in the help of verify.";
 
@@ -34,11 +37,12 @@ output is known to be that file only once the exit status is 0.";
 
 const VERIFY_MORE: &str =
     "The exit status is 0 where all shards are whole, 1 where some are missing or damaged and enough are
-left, and 2 where too few are left, or where they are not those of the file.";
+left, 2 where too few are left, or where they are not those of the file, and 3 where there are no
+shards, or enough of several files.";
 
 const REPAIR_MORE: &str =
     "In the place of a shard only that shard, damaged, or what is no shard is overwritten, unless --force
-is given.";
+is given; what cannot be read is not known to be damaged.";
 
 const FILE: &str = "The file that was split, which need not be there";
 

@@ -1,7 +1,8 @@
 // Splitting and joining.
 use crate::arguments::Words;
 use crate::faults::{require_enough, too_few};
-use crate::finding::{Found, find_shards, length_of, mode_of};
+use crate::finding::{Found, find_shards, length_of, mode_of, require_regular};
+use crate::lock::Lock;
 use crate::output_files::{NewFiles, NewShards};
 use crate::progress::{Progress, clear};
 use anyhow::{Context, Result, bail};
@@ -18,6 +19,16 @@ const CHUNK: usize = 1 << 20;
 /// Writes the shards of a file: FILE.0, FILE.1, .., beside it or in a folder. The file is read twice: its identity, which each head and
 /// each piece is bound to, has to be known before the first is written.
 pub(crate) fn split_file(rt: &HostRuntime, words: &Words<'_>, file: &str) -> Result<()> {
+    require_regular(rt, file)?;
+    let base = base_of(rt, file, words.folder)?;
+    let lock = Lock::of(rt, base.as_str())?;
+    let work = split_locked(rt, words, file, base);
+    lock.release();
+    work
+}
+
+// The same where this run alone writes shards of that name.
+fn split_locked(rt: &HostRuntime, words: &Words<'_>, file: &str, base: String) -> Result<()> {
     let (length, identity) = identify(rt, file, words.is_quiet)?;
     let mode = mode_of(rt, file)?;
     let (data, parity) = (words.data_shards, words.parity_shards);
@@ -30,8 +41,7 @@ pub(crate) fn split_file(rt: &HostRuntime, words: &Words<'_>, file: &str) -> Res
         None => bail!("cannot split {file}: {}", limit_of(code)),
     };
     let (total, size) = (layout.total(), layout.file_length());
-    let base = base_of(rt, file, words.folder)?;
-    let files = NewFiles::new(rt, mode, words.is_forced);
+    let files = NewFiles::new(rt, mode, words.is_forced, words.is_forced);
     let progress = Progress::new(words.is_quiet, size.saturating_mul(total as u64));
     let mut new = NewShards::new(rt, files, base, total, progress)?;
     for index in 0..total {
@@ -87,8 +97,16 @@ pub(crate) fn join_file(rt: &HostRuntime, words: &Words<'_>, file: &str) -> Resu
         return join_to(rt, &found, &mut io::writer(rt));
     }
     require_free(rt, words, file)?;
+    let lock = Lock::of(rt, file)?;
+    let work = join_locked(rt, words, file);
+    lock.release();
+    work
+}
+
+// The same where this run alone writes that file.
+fn join_locked(rt: &HostRuntime, words: &Words<'_>, file: &str) -> Result<()> {
     let found = find_shards(rt, words, file)?;
-    let mut new = NewFiles::new(rt, found.mode(rt)?, words.is_forced);
+    let mut new = NewFiles::new(rt, found.mode(rt)?, words.is_forced, words.is_forced);
     let work = write_joined(rt, &mut new, &found, file);
     new.end(work)?;
     let (layout, count) = (found.seen.layout, found.seen.count);
@@ -101,7 +119,7 @@ pub(crate) fn join_file(rt: &HostRuntime, words: &Words<'_>, file: &str) -> Resu
 
 // Fails where a file is at that place, and is not to be overwritten.
 fn require_free(rt: &HostRuntime, words: &Words<'_>, file: &str) -> Result<()> {
-    NewFiles::new(rt, 0o600, words.is_forced).require_free(file)
+    NewFiles::new(rt, 0o600, words.is_forced, words.is_forced).require_free(file)
 }
 
 // Writes a file beside its place.

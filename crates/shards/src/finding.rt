@@ -42,7 +42,7 @@ impl<'a> OldFiles<'a> {
     fn turn_to(&mut self, place: usize) {
         if self.place != place && place < self.paths.len() {
             self.place = place;
-            self.open = File::open(self.rt, self.paths[place].as_str()).ok();
+            self.open = opened(self.rt, self.paths[place].as_str());
         }
     }
 }
@@ -187,9 +187,24 @@ fn require_no_shard(rt: &HostRuntime, file: &str, chosen: Option<&Seen>) -> Resu
     Ok(())
 }
 
+/// Fails where what is to be read is no regular file: a pipe could keep the program waiting, and a folder has no bytes.
+pub(crate) fn require_regular(rt: &HostRuntime, path: &str) -> Result<()> {
+    match fs::metadata(rt, path) {
+        Ok(about) if about.is_file() => Ok(()),
+        Ok(_about) => bail!("cannot read {path}: it is no regular file"),
+        Err(error) => bail!("cannot read {path}: {error}"),
+    }
+}
+
+// Opens a regular file to be read.
+fn opened(rt: &HostRuntime, path: &str) -> Option<File> {
+    require_regular(rt, path).ok()?;
+    File::open(rt, path).ok()
+}
+
 // As many bytes as a head has, or as a file has, from its beginning.
 fn begin_of(rt: &HostRuntime, path: &str) -> Option<Vec<u8>> {
-    let file = File::open(rt, path).ok()?;
+    let file = opened(rt, path)?;
     let mut bytes = Vec::new(rt.alloc());
     let mut begin = file.take(HEAD as u64);
     begin.read_to_end(&mut bytes).ok()?;

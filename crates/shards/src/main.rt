@@ -5,6 +5,7 @@ mod arguments;
 mod commands;
 mod faults;
 mod finding;
+mod lock;
 mod output_files;
 mod progress;
 mod repair;

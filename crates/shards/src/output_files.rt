@@ -1,49 +1,60 @@
 // Files that are written beside their places, and put there when all of them are whole: under a name that ends in `.part`, synced, with
-// the mode that is asked for, and then renamed.
+// the mode that is asked for, and then linked or, where a file may be replaced, renamed.
+use crate::lock::is_at;
 use crate::progress::Progress;
 use anyhow::{Context, Result, bail};
 use shard_files::ShardFiles;
-use std::fs::{File, OpenOptions, Permissions};
-use std::io::Write;
+use std::fs::{File, Metadata, OpenOptions, Permissions};
+use std::io::{ErrorKind, Write};
 use std::os::unix::fs::{OpenOptionsExt, PermissionsExt};
 use std::path::Path;
 use std::{fs, io};
 
-/// New files. What is there already is not overwritten, unless that is asked for.
+/// New files of a name that this run has locked. What is there already is not overwritten, unless that is asked for.
 #[derive(Drop)]
 pub(crate) struct NewFiles<'a> {
     rt: &'a HostRuntime,
     mode: u32,
+    /// Whether a file at a target is replaced.
+    replaces: bool,
+    /// Whether a file of the name under which one is written at first is replaced.
     is_forced: bool,
     targets: Vec<String>,
+    /// What the files beside their places were when they were made.
+    made: Vec<Metadata>,
     placed: usize,
 }
 
 impl<'a> NewFiles<'a> {
     /// No file yet. Each is to have this mode.
-    pub(crate) fn new(rt: &'a HostRuntime, mode: u32, is_forced: bool) -> NewFiles<'a> {
+    pub(crate) fn new(
+        rt: &'a HostRuntime,
+        mode: u32,
+        replaces: bool,
+        is_forced: bool,
+    ) -> NewFiles<'a> {
         NewFiles {
             rt,
             mode: mode & 0o777,
+            replaces,
             is_forced,
             targets: Vec::new(rt.alloc()),
+            made: Vec::new(rt.alloc()),
             placed: 0,
         }
     }
 
-    /// Fails where a file is at that place, and is not to be overwritten.
+    /// Fails where something is at that place that is not to be overwritten: a file, unless they are replaced, or else what is neither a file
+    /// nor a link.
     pub(crate) fn require_free(&self, target: &str) -> Result<()> {
-        if !self.is_forced && fs::symlink_metadata(self.rt, target).is_ok() {
-            bail!("{target} is there already; --force overwrites it")
-        }
-        Ok(())
+        require_free(self.rt, target, self.replaces)
     }
 
     /// Opens a new file beside its place. Only its owner may read it as yet.
     pub(crate) fn begin(&mut self, target: String) -> Result<File> {
         self.require_free(target.as_str())?;
         let part = part_of(self.rt, target.as_str())?;
-        self.require_free(part.as_str())?;
+        require_free(self.rt, part.as_str(), self.is_forced)?;
         if self.is_forced {
             let _ = fs::remove_file(self.rt, part.as_str());
         }
@@ -52,6 +63,10 @@ impl<'a> NewFiles<'a> {
         let file = options
             .open(self.rt, part.as_str())
             .context(format_args!("cannot write {part}"))?;
+        let made = file
+            .metadata()
+            .context(format_args!("cannot write {part}"))?;
+        self.made.push(made)?;
         self.targets.push(target)?;
         Ok(file)
     }
@@ -67,13 +82,29 @@ impl<'a> NewFiles<'a> {
     /// Puts all files at their places.
     pub(crate) fn place(&mut self) -> Result<()> {
         for i in 0..self.targets.len() {
-            place_one(self.rt, self.targets[i].as_str())?;
+            self.place_one(self.targets[i].as_str(), self.made.as_slice().get(i))?;
             self.placed = i + 1;
         }
         if let Some(target) = self.targets.first() {
             sync_folder(self.rt, target.as_str());
         }
         Ok(())
+    }
+
+    // Puts a file at its place, where it is the one that was made, and nothing that is not to be replaced came there since.
+    fn place_one(&self, target: &str, made: Option<&Metadata>) -> Result<()> {
+        let part = part_of(self.rt, target)?;
+        let is_own = match made {
+            Some(made) => is_at(self.rt, part.as_str(), made),
+            None => false,
+        };
+        if !is_own {
+            bail!("another program changed {part}")
+        }
+        if self.replaces {
+            return renamed(self.rt, part.as_str(), target);
+        }
+        linked(self.rt, part.as_str(), target)
     }
 
     /// Removes what was begun: the files beside their places, and those at their places that were not there before.
@@ -84,7 +115,7 @@ impl<'a> NewFiles<'a> {
                 if let Ok(part) = part_of(self.rt, target) {
                     let _ = fs::remove_file(self.rt, part.as_str());
                 }
-            } else if !self.is_forced {
+            } else if !self.replaces {
                 let _ = fs::remove_file(self.rt, target);
             }
         }
@@ -222,10 +253,42 @@ impl ShardFiles for NewShards<'_> {
     }
 }
 
-// Puts a file at its place.
-fn place_one(rt: &HostRuntime, target: &str) -> Result<()> {
-    let part = part_of(rt, target)?;
-    fs::rename(rt, part.as_str(), target).context(format_args!("cannot write {target}"))
+// Fails where something is at that place that may not be replaced.
+fn require_free(rt: &HostRuntime, path: &str, replaces: bool) -> Result<()> {
+    match fs::symlink_metadata(rt, path) {
+        Ok(about) => {
+            if !replaces {
+                bail!("{path} is there already; --force overwrites it")
+            }
+            if !about.is_file() && !about.is_symlink() {
+                bail!("{path} is no file that can be replaced")
+            }
+            Ok(())
+        }
+        Err(_error) => Ok(()),
+    }
+}
+
+// Puts a file at a place, in the place of what is there.
+fn renamed(rt: &HostRuntime, part: &str, target: &str) -> Result<()> {
+    fs::rename(rt, part, target).context(format_args!("cannot write {target}"))
+}
+
+// Puts a file at a place where nothing is. Where the system has no links, one that comes there just then is replaced.
+fn linked(rt: &HostRuntime, part: &str, target: &str) -> Result<()> {
+    match fs::hard_link(rt, part, target) {
+        Ok(()) => {
+            let _ = fs::remove_file(rt, part);
+            Ok(())
+        }
+        Err(error) if error.kind() == ErrorKind::AlreadyExists => {
+            bail!("{target} is there already; --force overwrites it")
+        }
+        Err(_error) => {
+            require_free(rt, target, false)?;
+            renamed(rt, part, target)
+        }
+    }
 }
 
 // The name under which a file is written at first.

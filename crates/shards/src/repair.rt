@@ -2,6 +2,7 @@
 use crate::arguments::Words;
 use crate::faults::{Faults, require_enough, too_few};
 use crate::finding::{Found, find_shards, name_of, paths_of, scan_of, seen_at, tell};
+use crate::lock::Lock;
 use crate::output_files::{NewFiles, NewShards};
 use crate::progress::{Progress, clear};
 use anyhow::{Result, bail};
@@ -11,9 +12,15 @@ use std::fs;
 use std::process::ExitCode;
 
 /// Says of each shard whether it is whole, and in which stripes it is not. The status is 1 where shards are missing or damaged and enough
-/// are left, and 2 where too few are, or where they are not those of the file.
+/// are left, 2 where too few are, or where they are not those of the file, and 3 where the files are no one set of shards.
 pub(crate) fn verify_file(rt: &HostRuntime, words: &Words<'_>, file: &str) -> Result<ExitCode> {
-    let found = find_shards(rt, words, file)?;
+    let found = match find_shards(rt, words, file) {
+        Ok(found) => found,
+        Err(error) => {
+            let _ = eprintln!(rt; "shards: {error:#}");
+            return Ok(ExitCode::from(3));
+        }
+    };
     let faults = faults_of(rt, &found)?;
     let layout = found.seen.layout;
     let (total, enough) = (layout.total(), layout.origin.data_shards);
@@ -91,6 +98,14 @@ fn tell_runs(rt: &HostRuntime, faults: &Faults, total: usize, stripes: u64) -> R
 
 /// Writes the shards again that are missing or damaged: to FILE.0, FILE.1, .., as they were split.
 pub(crate) fn repair_file(rt: &HostRuntime, words: &Words<'_>, file: &str) -> Result<()> {
+    let lock = Lock::of(rt, file)?;
+    let work = repair_locked(rt, words, file);
+    lock.release();
+    work
+}
+
+// The same where this run alone writes shards of that name.
+fn repair_locked(rt: &HostRuntime, words: &Words<'_>, file: &str) -> Result<()> {
     let found = find_shards(rt, words, file)?;
     require_enough(&found)?;
     let faults = faults_of(rt, &found)?;
@@ -110,7 +125,7 @@ pub(crate) fn repair_file(rt: &HostRuntime, words: &Words<'_>, file: &str) -> Re
 // Writes shards of a file.
 fn write_lost(rt: &HostRuntime, words: &Words<'_>, found: &Found<'_>, lost: &[bool]) -> Result<()> {
     let file = found.file;
-    let files = NewFiles::new(rt, found.mode(rt)?, true);
+    let files = NewFiles::new(rt, found.mode(rt)?, true, words.is_forced);
     let base = format!(in rt.alloc(); "{file}")?;
     // What is read tells how far it is.
     let progress = Progress::new(true, 0);
@@ -163,7 +178,10 @@ fn require_damaged(rt: &HostRuntime, found: &Found<'_>, index: usize) -> Result<
     for place in 0..found.paths.len() {
         if found.paths[place].as_str() == target.as_str() {
             match found.scan.findings.as_slice().get(place) {
-                Some(Finding::Damaged | Finding::Unread) => return Ok(()),
+                Some(Finding::Damaged) => return Ok(()),
+                Some(Finding::Unread) => {
+                    bail!("{target} cannot be read, which is no damage; --force overwrites it")
+                }
                 Some(Finding::Shard(of, number)) if *of == found.chosen && *number == index => {
                     return Ok(());
                 }

@@ -1,0 +1,137 @@
+"""Cases of the program `shards` beside other programs and other runs of itself, and of files that are not its own; lost-shards runs them."""
+
+import os
+import subprocess
+import time
+
+from shard_program import FILE, PROGRAM, STRIPED, joins, names, read, require, shards, split, write
+
+
+def started(*words):
+    """A run of the program, which goes on."""
+    return subprocess.Popen([PROGRAM, *words], stdout=subprocess.DEVNULL, stderr=subprocess.PIPE, text=True)
+
+
+def two_at_once(draws):
+    """Of two runs that split files of one name into one folder at once, each that ends with 0 leaves a whole set, and nothing is left beside."""
+    os.mkdir("out")
+    contents = {}
+    for name in ("a", "b"):
+        os.mkdir(name)
+        contents[name] = draws.randbytes(2_000_000)
+        write(f"{name}/{FILE}", contents[name])
+    for turn in range(30):
+        words = ["--force"] * (turn % 3 > 0)
+        runs = {name: started("split", f"{name}/{FILE}", *counts, "--out", "out", *words) for name, counts in (("a", ("4", "2")), ("b", ("6", "3")))}
+        ended = {name: (run.communicate(timeout=300)[1], run.returncode) for name, run in runs.items()}
+        done = [contents[name] for name, (_, status) in ended.items() if status == 0]
+        require(done, f"no run ended with 0: {ended}")
+        require(shards("join", f"out/{FILE}", "--force")[0] == 0 and read(f"out/{FILE}") in done, f"the set is not whole: {ended}")
+        os.remove(f"out/{FILE}")
+        require(not any(name.endswith((".part", ".lock")) for name in os.listdir("out")), f"left behind: {sorted(os.listdir('out'))}")
+        if turn % 3 == 2:
+            for name in os.listdir("out"):
+                os.remove(f"out/{name}")
+
+
+def split_beside_repair_and_join(draws):
+    """A repair and a join beside a split of the same name: what ends with 0 has done what it says."""
+    old, new = draws.randbytes(3_000_000), draws.randbytes(3_000_000)
+    for words in (["repair", FILE], ["join", FILE, "--force"]):
+        for wait in (0, 2, 5, 10, 20, 40):
+            for name in names():
+                os.remove(name)
+            split(old, 4, 2)
+            os.remove(f"{FILE}.1")
+            write("kept", new)
+            os.link("kept", FILE)
+            other = started(*words)
+            time.sleep(wait / 1000)
+            status, _, said = shards("split", FILE, "4", "2", "--force")
+            other.communicate(timeout=300)
+            require(0 in (status, other.returncode), f"both failed: {said}")
+            if status == 0 and words[0] == "repair":
+                require(shards("join", FILE, "--force")[0] == 0 and read(FILE) in (old, new), "split: the set is not whole")
+            require(not any(name.endswith((".part", ".lock")) for name in names()), f"left behind: {names()}")
+
+
+def waits_for(path):
+    """Waits until a file is there."""
+    for _ in range(20_000):
+        if os.path.exists(path):
+            return
+        time.sleep(0.001)
+    require(False, f"{path} did not come")
+
+
+def what_appears_stays(draws):
+    """A file that another program puts at a place while the program works is not overwritten without --force."""
+    content = draws.randbytes(STRIPED)
+    write(FILE, content)
+    with started("split", FILE, "4", "2") as run:
+        waits_for(f"{FILE}.0.part")
+        write(f"{FILE}.3", b"precious")
+        said = run.communicate(timeout=300)[1]
+    require(run.returncode == 1 and f"{FILE}.3" in said and read(f"{FILE}.3") == b"precious", f"split: status {run.returncode}, {said}")
+    require(names() == [FILE, f"{FILE}.3"], f"left behind: {names()}")
+    os.remove(f"{FILE}.3")
+    split(content, 4, 2)
+    with started("join", FILE) as run:
+        waits_for(f"{FILE}.part")
+        write(FILE, b"precious")
+        said = run.communicate(timeout=300)[1]
+    require(run.returncode == 1 and read(FILE) == b"precious", f"join: status {run.returncode}, {said}")
+    require(not any(name.endswith((".part", ".lock")) for name in names()), f"left behind: {names()}")
+
+
+def files_of_the_user(draws):
+    """What the program did not write is not removed: files of the names that it writes under at first, and links."""
+    content = draws.randbytes(3000)
+    split(content, 3, 2)
+    os.remove(f"{FILE}.1")
+    for name in (f"{FILE}.1.part", f"{FILE}.lock"):
+        write(name, b"precious")
+        for words in (["repair", FILE], ["repair", FILE, "--force"][: 2 + name.endswith(".lock")]):
+            status, _, said = shards(*words)
+            require(status == 1 and name in said and read(name) == b"precious", f"{words}: status {status}, {said.strip()}")
+        os.remove(name)
+    os.symlink("nowhere", f"{FILE}.1")
+    for named in ([], [f"{FILE}.{index}" for index in range(5)]):
+        status, _, said = shards("repair", FILE, *named)
+        require(status == 1 and f"{FILE}.1" in said and os.path.islink(f"{FILE}.1"), f"repair {named}: status {status}, {said.strip()}")
+    os.remove(f"{FILE}.1")
+    os.mkdir(f"{FILE}.1")
+    os.remove(f"{FILE}.0")
+    status, _, said = shards("repair", FILE, "--force")
+    require(status == 1 and f"{FILE}.1" in said and f"{FILE}.0" not in names(), f"repair onto a folder: status {status}, {said.strip()}")
+    os.rmdir(f"{FILE}.1")
+    # A lock that a killed run left is taken.
+    write(f"{FILE}.lock", b"")
+    require(shards("repair", FILE)[0] == 0, "repair beside an old lock")
+    require(names() == [f"{FILE}.{index}" for index in range(5)], f"left behind: {names()}")
+    joins(content)
+
+
+def what_is_no_set(draws):
+    """`verify` ends with 3 where there are no shards, or enough of two files."""
+    require(shards("verify", FILE)[0] == 3, "verify of nothing")
+    for length in (700, 900):
+        split(draws.randbytes(length), 2, 1)
+        for index in range(3):
+            os.rename(f"{FILE}.{index}", f"{length}.{index}")
+    named = [f"{length}.{index}" for length in (700, 900) for index in range(3)]
+    require(shards("verify", FILE, *named)[0] == 3, "verify of two sets")
+
+
+def pipes(draws):
+    """Nothing waits for a pipe: only regular files are read."""
+    split(draws.randbytes(700), 2, 1)
+    os.remove(f"{FILE}.0")
+    os.mkfifo(f"{FILE}.0")
+    require(shards("verify", FILE)[0] == 1, "verify beside a pipe")
+    require(shards("join", FILE)[0] == 0, "join beside a pipe")
+    os.remove(FILE)
+    os.mkfifo(FILE)
+    for words in (["split", FILE, "2", "1", "--force"], ["split", ".", "2", "1"]):
+        status, _, said = shards(*words)
+        require(status == 1 and "no regular file" in said, f"{words}: status {status}, {said.strip()}")
