@@ -14,7 +14,7 @@
  * A comment begins with the name of what the function writes. Where it says nothing of lengths, every length will do.
  *
  * Statuses. Every function but bf_version returns a status. On a status that is not BF_OK everything that the function could
- * write is as before the call, but for space. The first status applies, in the order in which a function's comment names them.
+ * write is as before the call, but for space and places. The first status applies, in the order in which a function's comment names them.
  *
  * Fields. For each field F, by its name in the sections below:
  *
