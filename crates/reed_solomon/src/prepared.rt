@@ -25,7 +25,8 @@ impl ReedSolomon {
     }
 
     /// Writes the tables of its parity, by which `encode_prepared` and `verify_prepared` work. `tables` has to have `tables_length` bytes.
-    /// Tables that begin at a multiple of 16 are read faster.
+    /// Of the tables that fill the shards of parity up to a multiple of four nothing is said. Tables that begin at a multiple of 16 are read
+    /// faster.
     pub fn prepare(&self, tables: &mut [u8])
         requires { length tables.old ≡ tables_length self.now.data_shards self.now.parity_shards }
         ensures { HaveParityTables self.now.data_shards self.now.parity_shards tables.new }

@@ -106,9 +106,9 @@ impl TransformCode {
     }
 
     /// Writes the shards of parity. `data` and `parity` have their shards, of one size, one after the other; a word is an element of the
-    /// level `L`, by as many bits as that has. What `space` has before and afterwards does not matter: it takes two words for each of
-    /// `coefficient_count`. Where it has so many several times, as many columns are encoded at once, up to 32, which is much faster. The
-    /// error is the first that applies.
+    /// level `L`, by as many bits as that has, and of the bits above these in a word of parity nothing is said. What `space` has before and
+    /// afterwards does not matter: it takes two words for each of `coefficient_count`. Where it has so many several times, as many columns
+    /// are encoded at once, up to 32, which is much faster. The error is the first that applies.
     pub fn encode<R: StoredBytes, L: Level<R>>(
         &self,
         space: &mut [R],
@@ -156,11 +156,12 @@ impl TransformCode {
 
     /// Restores the missing shards: shard i, of the data and then of the parity, is missing where `present[i]` is false, no more are than
     /// there are of parity, and what their words are does not matter. The shards become those of the code word that the ones at hand agree
-    /// with, by as many bits of a word as the level has; where they agree with none, since a word is wrong, the missing ones become
-    /// anything. The shards at hand stay. What `space` has does not matter: it takes five words for each of `point_count`, with which four
-    /// columns are restored at once, and one more of each for each further column, up to 32 in all. The level has to have as many points. A
-    /// column takes two transforms, the second of as many points as reach the last missing shard, and all columns together some of
-    /// `point_count` points for each power of two below that, from 32 on. The error is the first that applies.
+    /// with, by as many bits of a word as the level has: of the bits above these in a restored word nothing is said. Where they agree with
+    /// none, since a word is wrong, the missing ones become anything. The shards at hand stay. What `space` has does not matter: it takes
+    /// five words for each of `point_count`, with which four columns are restored at once, and one more of each for each further column, up
+    /// to 32 in all. The level has to have as many points. A column takes two transforms, the second of as many points as reach the last
+    /// missing shard, and all columns together some of `point_count` points for each power of two below that, from 32 on. The error is the
+    /// first that applies.
     pub fn reconstruct<R: StoredBytes, L: Level<R>>(
         &self,
         space: &mut [R],
