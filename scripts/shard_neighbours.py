@@ -82,6 +82,27 @@ def what_appears_stays(draws):
         said = run.communicate(timeout=300)[1]
     require(run.returncode == 1 and read(FILE) == b"precious", f"join: status {run.returncode}, {said}")
     require(not any(name.endswith((".part", ".lock")) for name in names()), f"left behind: {names()}")
+    os.remove(FILE)
+    stays_beside_a_repair(draws)
+
+
+def stays_beside_a_repair(draws):
+    """A file that comes to the place of a missing shard, or in place of a damaged one, while `repair` works stays, and then nothing is written."""
+    whole = {name: read(name) for name in names()}
+    own = sorted(whole)
+    for place, turn in ((own[1], "come"), (own[4], "written"), (own[4], "renamed")):
+        os.remove(own[1])
+        write(own[4], whole[own[4]][:-1] + bytes([whole[own[4]][-1] ^ draws.randrange(1, 256)]))
+        with started("repair", FILE) as run:
+            waits_for(f"{own[1]}.part")
+            write("new" if turn == "renamed" else place, b"precious")
+            if turn == "renamed":
+                os.rename("new", place)
+            said = run.communicate(timeout=300)[1]
+        require(run.returncode == 1 and place in said and read(place) == b"precious", f"repair, {turn}: status {run.returncode}, {said}")
+        require(names() == [name for name in own if name in (place, *own[:1], *own[2:])], f"repair, {turn}: {names()}")
+        status, _, said = shards("repair", FILE)
+        require(status == 0 and {name: read(name) for name in names()} == whole, f"repair after {turn}: status {status}, {said}")
 
 
 def files_of_the_user(draws):

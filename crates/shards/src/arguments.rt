@@ -42,7 +42,8 @@ shards, or enough of several files.";
 
 const REPAIR_MORE: &str =
     "In the place of a shard only that shard, damaged, or what is no shard is overwritten, unless --force
-is given; what cannot be read is not known to be damaged.";
+is given; what cannot be read is not known to be damaged, and what comes there or is changed while
+the shards are written stays.";
 
 const FILE: &str = "The file that was split, which need not be there";
 

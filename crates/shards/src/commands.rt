@@ -41,9 +41,9 @@ fn split_locked(rt: &HostRuntime, words: &Words<'_>, file: &str, base: String) -
         None => bail!("cannot split {file}: {}", limit_of(code)),
     };
     let (total, size) = (layout.total(), layout.file_length());
-    let files = NewFiles::new(rt, mode, words.is_forced, words.is_forced);
+    let files = NewFiles::new(rt, mode, words.is_forced);
     let progress = Progress::new(words.is_quiet, size.saturating_mul(total as u64));
-    let mut new = NewShards::new(rt, files, base, total, progress)?;
+    let mut new = NewShards::new(rt, files, base, vec![in rt.alloc(); None; total]?, progress)?;
     for index in 0..total {
         new.require_free(index)?;
     }
@@ -106,7 +106,7 @@ pub(crate) fn join_file(rt: &HostRuntime, words: &Words<'_>, file: &str) -> Resu
 // The same where this run alone writes that file.
 fn join_locked(rt: &HostRuntime, words: &Words<'_>, file: &str) -> Result<()> {
     let found = find_shards(rt, words, file)?;
-    let mut new = NewFiles::new(rt, found.mode(rt)?, words.is_forced, words.is_forced);
+    let mut new = NewFiles::new(rt, found.mode(rt)?, words.is_forced);
     let work = write_joined(rt, &mut new, &found, file);
     new.end(work)?;
     let (layout, count) = (found.seen.layout, found.seen.count);
@@ -119,7 +119,7 @@ fn join_locked(rt: &HostRuntime, words: &Words<'_>, file: &str) -> Result<()> {
 
 // Fails where a file is at that place, and is not to be overwritten.
 fn require_free(rt: &HostRuntime, words: &Words<'_>, file: &str) -> Result<()> {
-    NewFiles::new(rt, 0o600, words.is_forced, words.is_forced).require_free(file)
+    NewFiles::new(rt, 0o600, words.is_forced).require_free(file)
 }
 
 // Writes a file beside its place.
@@ -130,7 +130,7 @@ fn write_joined(
     file: &str,
 ) -> Result<()> {
     require_enough(found)?;
-    let mut out = new.begin(format!(in rt.alloc(); "{file}")?)?;
+    let mut out = new.begin(format!(in rt.alloc(); "{file}")?, None)?;
     join_to(rt, found, &mut out)?;
     new.finish(&out, file)
 }

@@ -1,6 +1,7 @@
 // The files of shards: which are looked at, which file they are of, and why others are not taken.
 use crate::arguments::Words;
 use crate::progress::{Progress, note};
+use crate::stamp::Stamp;
 use anyhow::{Result, bail};
 use shard_files::{Choice, Finding, HEAD, MOST_SHARDS, Scan, Seen, ShardSource};
 use std::fs;
@@ -80,6 +81,8 @@ pub(crate) struct Found<'a> {
     pub(crate) file: &'a str,
     pub(crate) is_quiet: bool,
     pub(crate) paths: Vec<String>,
+    /// What stood at each path before it was looked at.
+    stamps: Vec<Option<Stamp>>,
     /// The place of the first of its shards.
     first: usize,
     /// Which of the files that were seen it is.
@@ -95,6 +98,14 @@ impl Found<'_> {
         let all = length.saturating_mul(self.seen.count as u64);
         let progress = Progress::new(self.is_quiet, all);
         OldFiles::new(rt, self.file, self.paths.as_slice(), progress)
+    }
+
+    /// What stood at a path before it was looked at.
+    pub(crate) fn stamp(&self, place: usize) -> Option<Stamp> {
+        match self.stamps.as_slice().get(place) {
+            Some(stamp) => *stamp,
+            None => None,
+        }
     }
 
     /// The mode of the first of its shards.
@@ -130,6 +141,7 @@ pub(crate) fn find_shards<'a>(
     file: &'a str,
 ) -> Result<Found<'a>> {
     let paths = paths_of(rt, words, file)?;
+    let stamps = stamps_of(rt, paths.as_slice())?;
     let scan = scan_of(rt, paths.as_slice())?;
     let chosen = choose(rt, words, file, &scan)?;
     let first = tell_others(rt, paths.as_slice(), chosen, &scan)?;
@@ -141,11 +153,21 @@ pub(crate) fn find_shards<'a>(
         file,
         is_quiet: words.is_quiet,
         paths,
+        stamps,
         first,
         chosen,
         seen: scan.seen[chosen],
         scan,
     })
+}
+
+// What stands at each path.
+fn stamps_of(rt: &HostRuntime, paths: &[String]) -> Result<Vec<Option<Stamp>>> {
+    let mut stamps = Vec::new(rt.alloc());
+    for path in paths {
+        stamps.push(Stamp::at(rt, path.as_str()))?;
+    }
+    Ok(stamps)
 }
 
 /// What the files at these paths are, by the bytes that they begin with.

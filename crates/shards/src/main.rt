@@ -9,6 +9,7 @@ mod lock;
 mod output_files;
 mod progress;
 mod repair;
+mod stamp;
 
 use crate::arguments::{Task, Words, plain_word};
 use crate::commands::{join_file, split_file};

@@ -2,6 +2,7 @@
 // the mode that is asked for, and then linked or, where a file may be replaced, renamed.
 use crate::lock::is_at;
 use crate::progress::Progress;
+use crate::stamp::Stamp;
 use anyhow::{Context, Result, bail};
 use shard_files::ShardFiles;
 use std::fs::{File, Metadata, OpenOptions, Permissions};
@@ -15,46 +16,47 @@ use std::{fs, io};
 pub(crate) struct NewFiles<'a> {
     rt: &'a HostRuntime,
     mode: u32,
-    /// Whether a file at a target is replaced.
-    replaces: bool,
-    /// Whether a file of the name under which one is written at first is replaced.
+    /// Whether any file that stands at a place, or has the name under which one is written at first, is replaced.
     is_forced: bool,
-    targets: Vec<String>,
-    /// What the files beside their places were when they were made.
-    made: Vec<Metadata>,
+    parts: Vec<Part>,
     placed: usize,
+}
+
+/// A file that is written beside its place.
+#[derive(Drop)]
+struct Part {
+    /// Its place.
+    target: String,
+    /// What it was when it was made.
+    made: Metadata,
+    /// What it is to replace.
+    old: Option<Stamp>,
 }
 
 impl<'a> NewFiles<'a> {
     /// No file yet. Each is to have this mode.
-    pub(crate) fn new(
-        rt: &'a HostRuntime,
-        mode: u32,
-        replaces: bool,
-        is_forced: bool,
-    ) -> NewFiles<'a> {
+    pub(crate) fn new(rt: &'a HostRuntime, mode: u32, is_forced: bool) -> NewFiles<'a> {
         NewFiles {
             rt,
             mode: mode & 0o777,
-            replaces,
             is_forced,
-            targets: Vec::new(rt.alloc()),
-            made: Vec::new(rt.alloc()),
+            parts: Vec::new(rt.alloc()),
             placed: 0,
         }
     }
 
-    /// Fails where something is at that place that is not to be overwritten: a file, unless they are replaced, or else what is neither a file
+    /// Fails where something is at that place that is not to be overwritten: a file, unless that is asked for, or else what is neither a file
     /// nor a link.
     pub(crate) fn require_free(&self, target: &str) -> Result<()> {
-        require_free(self.rt, target, self.replaces)
+        require_free(self.rt, target, self.is_forced)
     }
 
-    /// Opens a new file beside its place. Only its owner may read it as yet.
-    pub(crate) fn begin(&mut self, target: String) -> Result<File> {
-        self.require_free(target.as_str())?;
+    /// Opens a new file beside its place, where nothing may be but what it is to replace. Only its owner may read it as yet.
+    pub(crate) fn begin(&mut self, target: String, old: Option<Stamp>) -> Result<File> {
+        require_free(self.rt, target.as_str(), self.is_forced || old.is_some())?;
         let part = part_of(self.rt, target.as_str())?;
         require_free(self.rt, part.as_str(), self.is_forced)?;
+        self.parts.reserve(1)?;
         if self.is_forced {
             let _ = fs::remove_file(self.rt, part.as_str());
         }
@@ -66,8 +68,7 @@ impl<'a> NewFiles<'a> {
         let made = file
             .metadata()
             .context(format_args!("cannot write {part}"))?;
-        self.made.push(made)?;
-        self.targets.push(target)?;
+        self.parts.push(Part { target, made, old })?;
         Ok(file)
     }
 
@@ -81,42 +82,43 @@ impl<'a> NewFiles<'a> {
 
     /// Puts all files at their places.
     pub(crate) fn place(&mut self) -> Result<()> {
-        for i in 0..self.targets.len() {
-            self.place_one(self.targets[i].as_str(), self.made.as_slice().get(i))?;
+        for i in 0..self.parts.len() {
+            self.place_one(&self.parts[i])?;
             self.placed = i + 1;
         }
-        if let Some(target) = self.targets.first() {
-            sync_folder(self.rt, target.as_str());
+        if let Some(first) = self.parts.first() {
+            sync_folder(self.rt, first.target.as_str());
         }
         Ok(())
     }
 
-    // Puts a file at its place, where it is the one that was made, and nothing that is not to be replaced came there since.
-    fn place_one(&self, target: &str, made: Option<&Metadata>) -> Result<()> {
+    // Puts a file at its place, where it is the one that was made. What is there is replaced if it is what was to be replaced, or any file is.
+    fn place_one(&self, own: &Part) -> Result<()> {
+        let target = own.target.as_str();
         let part = part_of(self.rt, target)?;
-        let is_own = match made {
-            Some(made) => is_at(self.rt, part.as_str(), made),
-            None => false,
-        };
-        if !is_own {
+        if !is_at(self.rt, part.as_str(), &own.made) {
             bail!("another program changed {part}")
         }
-        if self.replaces {
+        let is_old = match own.old {
+            Some(old) => old.is_at(self.rt, target),
+            None => false,
+        };
+        if self.is_forced || is_old {
             return renamed(self.rt, part.as_str(), target);
         }
         linked(self.rt, part.as_str(), target)
     }
 
-    /// Removes what was begun: the files beside their places, and those at their places that were not there before.
+    /// Removes what was begun: the files beside their places, and those at their places that replaced nothing.
     pub(crate) fn remove(&mut self) {
-        for i in 0..self.targets.len() {
-            let target = self.targets[i].as_str();
+        for i in 0..self.parts.len() {
+            let own = &self.parts[i];
             if i >= self.placed {
-                if let Ok(part) = part_of(self.rt, target) {
-                    let _ = fs::remove_file(self.rt, part.as_str());
+                if let Ok(part) = part_of(self.rt, own.target.as_str()) {
+                    remove_own(self.rt, part.as_str(), &own.made);
                 }
-            } else if !self.replaces {
-                let _ = fs::remove_file(self.rt, target);
+            } else if !self.is_forced && own.old.is_none() {
+                remove_own(self.rt, own.target.as_str(), &own.made);
             }
         }
     }
@@ -141,6 +143,8 @@ pub(crate) struct NewShards<'a> {
     files: NewFiles<'a>,
     /// The names of the shards without their numbers.
     base: String,
+    /// Of each shard what its file is to replace.
+    old: Vec<Option<Stamp>>,
     open: Option<File>,
     /// The number of the shard whose file is open, or was written last.
     index: usize,
@@ -151,21 +155,23 @@ pub(crate) struct NewShards<'a> {
 }
 
 impl<'a> NewShards<'a> {
-    /// No file of so many shards yet.
+    /// No file yet of shards, of each of which it is known what its file is to replace.
     pub(crate) fn new(
         rt: &'a HostRuntime,
         files: NewFiles<'a>,
         base: String,
-        total: usize,
+        old: Vec<Option<Stamp>>,
         progress: Progress,
     ) -> Result<NewShards<'a>> {
+        let is_begun = vec![in rt.alloc(); false; old.len()]?;
         Ok(NewShards {
             rt,
             files,
             base,
+            old,
             open: None,
             index: 0,
-            is_begun: vec![in rt.alloc(); false; total]?,
+            is_begun,
             fault: None,
             progress,
         })
@@ -196,7 +202,11 @@ impl<'a> NewShards<'a> {
         let target = self.target(index)?;
         if index < self.is_begun.len() && !self.is_begun[index] {
             self.is_begun[index] = true;
-            self.open = Some(self.files.begin(target)?);
+            let old = match self.old.as_slice().get(index) {
+                Some(old) => *old,
+                None => None,
+            };
+            self.open = Some(self.files.begin(target, old)?);
         } else {
             let mut options = OpenOptions::new();
             options.append(true);
@@ -266,6 +276,13 @@ fn require_free(rt: &HostRuntime, path: &str, replaces: bool) -> Result<()> {
             Ok(())
         }
         Err(_error) => Ok(()),
+    }
+}
+
+// Removes a file where it is the one that was made.
+fn remove_own(rt: &HostRuntime, path: &str, made: &Metadata) {
+    if is_at(rt, path, made) {
+        let _ = fs::remove_file(rt, path);
     }
 }
 

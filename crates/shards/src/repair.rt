@@ -5,6 +5,7 @@ use crate::finding::{Found, find_shards, name_of, paths_of, scan_of, seen_at, te
 use crate::lock::Lock;
 use crate::output_files::{NewFiles, NewShards};
 use crate::progress::{Progress, clear};
+use crate::stamp::Stamp;
 use anyhow::{Result, bail};
 use sha2::{Digest, Sha256};
 use shard_files::{Finding, MATRIX, Scan, Seen, gather, repair_shards};
@@ -125,20 +126,13 @@ fn repair_locked(rt: &HostRuntime, words: &Words<'_>, file: &str) -> Result<()> 
 // Writes shards of a file.
 fn write_lost(rt: &HostRuntime, words: &Words<'_>, found: &Found<'_>, lost: &[bool]) -> Result<()> {
     let file = found.file;
-    let files = NewFiles::new(rt, found.mode(rt)?, true, words.is_forced);
+    let count = lost.iter().filter(|is_lost| **is_lost).count();
+    let old = old_of(rt, words, found, lost)?;
+    let files = NewFiles::new(rt, found.mode(rt)?, words.is_forced);
     let base = format!(in rt.alloc(); "{file}")?;
     // What is read tells how far it is.
     let progress = Progress::new(true, 0);
-    let mut new = NewShards::new(rt, files, base, lost.len(), progress)?;
-    let mut count = 0u64;
-    for index in 0..lost.len() {
-        if lost[index] {
-            count = count.saturating_add(1);
-            if !words.is_forced {
-                require_damaged(rt, found, index)?;
-            }
-        }
-    }
+    let mut new = NewShards::new(rt, files, base, old, progress)?;
     let work = repair_to(rt, found, lost, &mut new);
     new.end(work)?;
     let total = found.seen.layout.total();
@@ -168,22 +162,41 @@ fn repair_to(
     new.finish()
 }
 
-// Fails where at the place of a shard that is written again there is what may not be overwritten: a whole shard of another number or
-// of another file, or a file that was not looked at.
-fn require_damaged(rt: &HostRuntime, found: &Found<'_>, index: usize) -> Result<()> {
+// What each shard that is written again is to replace, if anything. Whatever there is is replaced where that is asked for.
+fn old_of(
+    rt: &HostRuntime,
+    words: &Words<'_>,
+    found: &Found<'_>,
+    lost: &[bool],
+) -> Result<Vec<Option<Stamp>>> {
+    let mut old = Vec::new(rt.alloc());
+    for index in 0..lost.len() {
+        let replaced = if lost[index] && !words.is_forced {
+            damaged_at(rt, found, index)?
+        } else {
+            None
+        };
+        old.push(replaced)?;
+    }
+    Ok(old)
+}
+
+// What stood at the place of a shard that is written again when it was looked at, if anything. It fails where there is what may not be
+// overwritten: a whole shard of another number or of another file, or a file that was not looked at.
+fn damaged_at(rt: &HostRuntime, found: &Found<'_>, index: usize) -> Result<Option<Stamp>> {
     let target = format!(in rt.alloc(); "{}.{index}", found.file)?;
     if fs::symlink_metadata(rt, target.as_str()).is_err() {
-        return Ok(());
+        return Ok(None);
     }
     for place in 0..found.paths.len() {
         if found.paths[place].as_str() == target.as_str() {
             match found.scan.findings.as_slice().get(place) {
-                Some(Finding::Damaged) => return Ok(()),
+                Some(Finding::Damaged) => return Ok(found.stamp(place)),
                 Some(Finding::Unread) => {
                     bail!("{target} cannot be read, which is no damage; --force overwrites it")
                 }
                 Some(Finding::Shard(of, number)) if *of == found.chosen && *number == index => {
-                    return Ok(());
+                    return Ok(found.stamp(place));
                 }
                 _ => {}
             }
