@@ -1,10 +1,11 @@
 """Cases of the program `shards` beside other programs and other runs of itself, and of files that are not its own; lost-shards runs them."""
 
+import hashlib
 import os
 import subprocess
 import time
 
-from shard_program import FILE, PROGRAM, STRIPED, joins, names, read, require, shards, split, write
+from shard_program import FILE, PROGRAM, STRIPED, gives_up, joins, names, read, require, shards, split, write
 
 
 def started(*words):
@@ -142,6 +143,39 @@ def what_is_no_set(draws):
             os.rename(f"{FILE}.{index}", f"{length}.{index}")
     named = [f"{length}.{index}" for length in (700, 900) for index in range(3)]
     require(shards("verify", FILE, *named)[0] == 3, "verify of two sets")
+
+
+def head_of(identity):
+    """The head of a shard of a file of one byte, by the code of transforms, with as many others as there may be."""
+    fields = b"".join(it.to_bytes(size, "little") for it, size in ((2, 4), (32768, 4), (32768, 4), (0, 4), (1, 8), (2, 8)))
+    head = b"shards 3" + fields + hashlib.sha256(identity.to_bytes(4, "little")).digest()
+    return head + hashlib.sha256(head).digest()
+
+
+def faults_of_a_search(draws):
+    """`verify` ends with 2, and not as if there were no set or enough were left, where memory is refused, where the system does not say what
+    is there, where nothing can be told, and where the words name a shard in place of its file."""
+    split(draws.randbytes(700), 2, 1)
+    own = [f"{FILE}.{index}" for index in range(3)]
+    status, _, said = shards("verify", *own)
+    require(status == 2 and "is itself a shard" in said, f"verify of a shard: status {status}, {said.strip()}")
+    with open("/dev/full", "wb") as full:
+        for lost in ([], own[:1]):
+            require(shards("verify", FILE, *own[len(lost):], stdout=full)[0] == 2, "verify where nothing can be told")
+    os.symlink("loop.0", "loop.0")
+    status, _, said = shards("verify", "loop")
+    require(status == 2 and "cannot look for shards of loop" in said, f"verify of what cannot be looked at: status {status}, {said.strip()}")
+    gives_up("cannot look for shards of loop", file="loop")
+    for name in ("x" * 255, f"{FILE}.0/none", "none/none"):
+        status, _, said = shards("verify", name)
+        require(status == 3 and "no shards" in said, f"verify of {name[:20]}: status {status}, {said.strip()}")
+    # Each file has 65,536 flags, some 20 MB in all.
+    for number in range(300):
+        write(f"many.{number}", head_of(number))
+    for kilobytes in (12_000, 16_000, 20_000, 30_000):
+        words = ["bash", "-c", f'ulimit -v {kilobytes}; exec "$0" "$@"', PROGRAM, "verify", "many"]
+        ran = subprocess.run(words, capture_output=True, text=True, timeout=300, check=False)
+        require(ran.returncode == 2 and "memory" in ran.stderr, f"verify in {kilobytes} KB: status {ran.returncode}, {ran.stderr.strip()[:200]}")
 
 
 def pipes(draws):

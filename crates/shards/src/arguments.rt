@@ -22,8 +22,8 @@ damage, and of no forger.
 Files are written under names that end in .part, while FILE.lock is locked: of two runs that write
 files of one name at once, one fails. Only regular files are read.
 
-The exit status is 0, 1 after an error, and 2 where the words are wrong. What it says of shards
-stands in the help of verify.";
+The exit status is 0, 1 after an error, and 2 where the words are wrong or cannot be read. That of
+verify has meanings of its own, which stand in its help.";
 
 const SPLIT_USAGE: &str = "shards split [OPTIONS] <FILE> <DATA> <PARITY>
        shards split [OPTIONS] <FILE> --data <DATA> --parity <PARITY>";
@@ -37,8 +37,8 @@ output is known to be that file only once the exit status is 0.";
 
 const VERIFY_MORE: &str =
     "The exit status is 0 where all shards are whole, 1 where some are missing or damaged and enough are
-left, 2 where too few are left, or where they are not those of the file, and 3 where there are no
-shards, or enough of several files.";
+left, 2 where too few are left, or where they are not those of the file, or after an error, and 3
+where there are no shards, or enough of several files.";
 
 const REPAIR_MORE: &str =
     "In the place of a shard only that shard, damaged, or what is no shard is overwritten, unless --force

@@ -1,7 +1,7 @@
 // Splitting and joining.
 use crate::arguments::Words;
 use crate::faults::{require_enough, too_few};
-use crate::finding::{Found, find_shards, length_of, mode_of, require_regular};
+use crate::finding::{Found, length_of, mode_of, require_regular, require_shards};
 use crate::lock::Lock;
 use crate::output_files::{NewFiles, NewShards};
 use crate::progress::{Progress, clear};
@@ -93,7 +93,7 @@ fn identify(rt: &HostRuntime, file: &str, is_quiet: bool) -> Result<(u64, [u8; 3
 /// Writes a file from its shards, as far as they are whole: to its place, or to standard output.
 pub(crate) fn join_file(rt: &HostRuntime, words: &Words<'_>, file: &str) -> Result<()> {
     if file == "-" {
-        let found = find_shards(rt, words, file)?;
+        let found = require_shards(rt, words, file)?;
         return join_to(rt, &found, &mut io::writer(rt));
     }
     require_free(rt, words, file)?;
@@ -105,7 +105,7 @@ pub(crate) fn join_file(rt: &HostRuntime, words: &Words<'_>, file: &str) -> Resu
 
 // The same where this run alone writes that file.
 fn join_locked(rt: &HostRuntime, words: &Words<'_>, file: &str) -> Result<()> {
-    let found = find_shards(rt, words, file)?;
+    let found = require_shards(rt, words, file)?;
     let mut new = NewFiles::new(rt, found.mode(rt)?, words.is_forced);
     let work = write_joined(rt, &mut new, &found, file);
     new.end(work)?;

@@ -4,10 +4,10 @@ use crate::progress::{Progress, note};
 use crate::stamp::Stamp;
 use anyhow::{Result, bail};
 use shard_files::{Choice, Finding, HEAD, MOST_SHARDS, Scan, Seen, ShardSource};
-use std::fs;
 use std::fs::File;
-use std::io::{Read, Seek, SeekFrom};
+use std::io::{ErrorKind, Read, Seek, SeekFrom};
 use std::os::unix::fs::PermissionsExt;
+use std::{fs, io};
 
 /// Files that are read in turn, of which one is open at a time.
 #[derive(Drop)]
@@ -134,22 +134,27 @@ pub(crate) fn length_of(rt: &HostRuntime, path: &str) -> u64 {
 }
 
 /// Looks at the files that are named behind the file, or at FILE.0, FILE.1, .. where none is, and chooses the file of which there are
-/// enough shards. It tells of each file that is not taken.
+/// enough shards. It tells of each file that is not taken. The inner error says why there is no one set of shards; the outer one is a fault of
+/// the system or in the words.
 pub(crate) fn find_shards<'a>(
     rt: &HostRuntime,
     words: &Words<'_>,
     file: &'a str,
-) -> Result<Found<'a>> {
+) -> Result<Result<Found<'a>, String>> {
     let paths = paths_of(rt, words, file)?;
     let stamps = stamps_of(rt, paths.as_slice())?;
     let scan = scan_of(rt, paths.as_slice())?;
-    let chosen = choose(rt, words, file, &scan)?;
+    let chosen = match choice_of(rt, words, &scan)? {
+        Choice::Only(chosen) | Choice::TooFew(chosen) => chosen,
+        Choice::Nothing => scan.seen.len(),
+        Choice::Several => return Ok(Err(several(rt, file, &scan)?)),
+    };
     let first = tell_others(rt, paths.as_slice(), chosen, &scan)?;
     require_no_shard(rt, file, scan.seen.as_slice().get(chosen))?;
     if chosen >= scan.seen.len() {
-        bail!("{file}: no shards")
+        return Ok(Err(format!(in rt.alloc(); "{file}: no shards")?));
     }
-    Ok(Found {
+    Ok(Ok(Found {
         file,
         is_quiet: words.is_quiet,
         paths,
@@ -158,7 +163,19 @@ pub(crate) fn find_shards<'a>(
         chosen,
         seen: scan.seen[chosen],
         scan,
-    })
+    }))
+}
+
+/// The same, where it is an error that there is no one set of shards.
+pub(crate) fn require_shards<'a>(
+    rt: &HostRuntime,
+    words: &Words<'_>,
+    file: &'a str,
+) -> Result<Found<'a>> {
+    match find_shards(rt, words, file)? {
+        Ok(found) => Ok(found),
+        Err(why) => bail!("{why}"),
+    }
 }
 
 // What stands at each path.
@@ -253,18 +270,44 @@ pub(crate) fn paths_of(rt: &HostRuntime, words: &Words<'_>, file: &str) -> Resul
         paths.push(format!(in rt.alloc(); "{shard}")?)?;
     }
     if paths.is_empty() {
-        for index in 0..MOST_SHARDS {
-            let path = format!(in rt.alloc(); "{file}.{index}")?;
-            if fs::metadata(rt, path.as_str()).is_ok() {
-                paths.push(path)?;
-            }
-        }
+        add_numbered(rt, file, &mut paths)?;
     }
     Ok(paths)
 }
 
-// The number of the file that is to be restored, or how many there are where it is none of them.
-fn choose(rt: &HostRuntime, words: &Words<'_>, file: &str, scan: &Scan) -> Result<usize> {
+// Adds the names FILE.0, FILE.1, .. that are there. It fails where none is, as far as the system tells, and it does not tell it of one: in a
+// folder that may not be searched there may be shards.
+fn add_numbered(rt: &HostRuntime, file: &str, paths: &mut Vec<String>) -> Result<()> {
+    let mut fault = None;
+    for index in 0..MOST_SHARDS {
+        let path = format!(in rt.alloc(); "{file}.{index}")?;
+        match is_there(rt, path.as_str()) {
+            Ok(true) => paths.push(path)?,
+            Ok(false) => {}
+            Err(error) => fault = Some(error),
+        }
+    }
+    match fault {
+        Some(error) if paths.is_empty() => bail!("cannot look for shards of {file}: {error}"),
+        _ => Ok(()),
+    }
+}
+
+// Whether a file is there, where the system tells. None has a name that is too long, or lies in what is no folder.
+fn is_there(rt: &HostRuntime, path: &str) -> io::Result<bool> {
+    match fs::metadata(rt, path) {
+        Ok(_about) => Ok(true),
+        Err(error) => match error.kind() {
+            ErrorKind::NotFound | ErrorKind::InvalidFilename | ErrorKind::NotADirectory => {
+                Ok(false)
+            }
+            _ => Err(error),
+        },
+    }
+}
+
+// The file that is to be restored, among those whose identity begins as the words say.
+fn choice_of(rt: &HostRuntime, words: &Words<'_>, scan: &Scan) -> Result<Choice> {
     let mut wanted = Vec::new(rt.alloc());
     for seen in scan.seen.as_slice() {
         let name = name_of(rt, seen)?;
@@ -273,19 +316,20 @@ fn choose(rt: &HostRuntime, words: &Words<'_>, file: &str, scan: &Scan) -> Resul
             None => true,
         })?;
     }
-    match scan.choice(wanted.as_slice()) {
-        Choice::Only(chosen) | Choice::TooFew(chosen) => Ok(chosen),
-        Choice::Nothing => Ok(scan.seen.len()),
-        Choice::Several => {
-            for seen in scan.seen.as_slice() {
-                if seen.has_enough() {
-                    let name = name_of(rt, seen)?;
-                    note(rt, file, name.as_str());
-                }
-            }
-            bail!("{file}: there are enough shards of more than one file; --identity says which")
+    Ok(scan.choice(wanted.as_slice()))
+}
+
+// Tells of which files there are enough shards, and says that there are several.
+fn several(rt: &HostRuntime, file: &str, scan: &Scan) -> Result<String> {
+    for seen in scan.seen.as_slice() {
+        if seen.has_enough() {
+            let name = name_of(rt, seen)?;
+            note(rt, file, name.as_str());
         }
     }
+    Ok(format!(in rt.alloc();
+        "{file}: there are enough shards of more than one file; --identity says which"
+    )?)
 }
 
 /// Tells why a file is not taken.

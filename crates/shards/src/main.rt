@@ -14,7 +14,7 @@ mod stamp;
 use crate::arguments::{Task, Words, plain_word};
 use crate::commands::{join_file, split_file};
 use crate::repair::{repair_file, tell_file, verify_file};
-use anyhow::{Context, Result, bail};
+use anyhow::{Context, Result, anyhow};
 use clap::error::ErrorKind;
 use std::alloc::AllocError;
 use std::env;
@@ -29,18 +29,31 @@ fn main(rt: HostRuntime) -> ExitCode {
         File::open(&rt, "/dev/null"),
         File::open(&rt, "/dev/null"),
     );
-    run(&rt).unwrap_or_else(|error| {
-        let _ = eprintln!(rt; "shards: {error:#}");
-        ExitCode::FAILURE
-    })
+    run(&rt).unwrap_or_else(|error| failed(&rt, &error, 1))
 }
 
-// Does what the words of the command line say.
-fn run(rt: &HostRuntime) -> Result<ExitCode> {
+// Tells of an error.
+fn failed(rt: &HostRuntime, error: &anyhow::Error, status: u8) -> ExitCode {
+    let _ = eprintln!(rt; "shards: {error:#}");
+    ExitCode::from(status)
+}
+
+// The words of the command line, as `clap` is given them.
+fn words_of(rt: &HostRuntime) -> Result<Vec<String>> {
     let mut words = Vec::new(rt.alloc());
     for word in env::args(rt).context("cannot read the command line")? {
         words.push(plain_word(rt.alloc(), word)?)?;
     }
+    Ok(words)
+}
+
+// Does what the words of the command line say. Where they cannot be read the status is 2, as where they are wrong: 1 says of `verify` that
+// enough shards are left.
+fn run(rt: &HostRuntime) -> Result<ExitCode> {
+    let words = match words_of(rt) {
+        Ok(words) => words,
+        Err(error) => return Ok(failed(rt, &error, 2)),
+    };
     let mut said = match Words::of(rt.alloc(), words.as_slice()) {
         Ok(said) => said,
         Err(error) => return tell(rt, &error),
@@ -51,7 +64,9 @@ fn run(rt: &HostRuntime) -> Result<ExitCode> {
     match said.task {
         Task::Split => split_file(rt, &said, file)?,
         Task::Join => join_file(rt, &said, file)?,
-        Task::Verify => return verify_file(rt, &said, file),
+        Task::Verify => {
+            return Ok(verify_file(rt, &said, file).unwrap_or_else(|error| failed(rt, &error, 2)));
+        }
         Task::Repair => repair_file(rt, &said, file)?,
         Task::Info => tell_file(rt, &said, file)?,
     }
@@ -61,7 +76,7 @@ fn run(rt: &HostRuntime) -> Result<ExitCode> {
 // Prints the help or the version that the words ask for, or what is wrong with them.
 fn tell(rt: &HostRuntime, error: &clap::Error) -> Result<ExitCode> {
     if error.kind() == ErrorKind::OutOfMemory {
-        bail!(AllocError)
+        return Ok(failed(rt, &anyhow!(AllocError), 2));
     }
     if error.use_stderr() {
         let _ = error.print(rt);

@@ -1,7 +1,9 @@
 // Looking at shards, and writing those again that are missing or damaged.
 use crate::arguments::Words;
 use crate::faults::{Faults, require_enough, too_few};
-use crate::finding::{Found, find_shards, name_of, paths_of, scan_of, seen_at, tell};
+use crate::finding::{
+    Found, find_shards, name_of, paths_of, require_shards, scan_of, seen_at, tell,
+};
 use crate::lock::Lock;
 use crate::output_files::{NewFiles, NewShards};
 use crate::progress::{Progress, clear};
@@ -15,15 +17,19 @@ use std::process::ExitCode;
 /// Says of each shard whether it is whole, and in which stripes it is not. The status is 1 where shards are missing or damaged and enough
 /// are left, 2 where too few are, or where they are not those of the file, and 3 where the files are no one set of shards.
 pub(crate) fn verify_file(rt: &HostRuntime, words: &Words<'_>, file: &str) -> Result<ExitCode> {
-    let found = match find_shards(rt, words, file) {
-        Ok(found) => found,
-        Err(error) => {
-            let _ = eprintln!(rt; "shards: {error:#}");
-            return Ok(ExitCode::from(3));
+    match find_shards(rt, words, file)? {
+        Ok(found) => verify_found(rt, &found),
+        Err(why) => {
+            let _ = eprintln!(rt; "shards: {why}");
+            Ok(ExitCode::from(3))
         }
-    };
-    let faults = faults_of(rt, &found)?;
-    let layout = found.seen.layout;
+    }
+}
+
+// The same of shards that were found.
+fn verify_found(rt: &HostRuntime, found: &Found<'_>) -> Result<ExitCode> {
+    let faults = faults_of(rt, found)?;
+    let (file, layout) = (found.file, found.seen.layout);
     let (total, enough) = (layout.total(), layout.origin.data_shards);
     tell_runs(rt, &faults, total, layout.stripe_count())?;
     if faults.is_whole() {
@@ -107,7 +113,7 @@ pub(crate) fn repair_file(rt: &HostRuntime, words: &Words<'_>, file: &str) -> Re
 
 // The same where this run alone writes shards of that name.
 fn repair_locked(rt: &HostRuntime, words: &Words<'_>, file: &str) -> Result<()> {
-    let found = find_shards(rt, words, file)?;
+    let found = require_shards(rt, words, file)?;
     require_enough(&found)?;
     let faults = faults_of(rt, &found)?;
     if faults.too_few.is_some() {
