@@ -1,4 +1,7 @@
 // Shards that are missing or damaged, by stripes.
+ghost use Rattle.std.specs.Prelude.{◌≡◌, length, IfOk};
+ghost use Rattle.shard_files.specs.Stripes.{shard_total};
+
 use crate::finding::Found;
 use anyhow::{Result, bail};
 use shard_files::{Group, Layout};
@@ -15,14 +18,17 @@ pub(crate) struct Run {
 /// What was found wrong with the shards of a file.
 #[derive(Drop)]
 pub(crate) struct Faults {
-    layout: Layout,
+    pub(crate) layout: Layout,
     pub(crate) runs: Vec<Run>,
     /// Of each shard one more than the place of its last run, or 0 where it has none.
     last: Vec<usize>,
+    /// Of each shard whether it is missing or damaged.
+    lost: Vec<bool>,
     /// The first stripe in which too few shards are whole.
     pub(crate) too_few: Option<u64>,
     /// Whether somewhere the parity is not that of the data, or the data are not those of the file.
     pub(crate) is_false: bool,
+    ghost flags: { length lost.items ≡ shard_total layout.origin },
 }
 
 impl Faults {
@@ -32,6 +38,7 @@ impl Faults {
             layout,
             runs: Vec::new(alloc),
             last: vec![in alloc; 0usize; layout.total()]?,
+            lost: no_flags(alloc, layout.total())?,
             too_few: None,
             is_false: false,
         })
@@ -65,9 +72,10 @@ impl Faults {
 
     // Adds that a shard is not at hand in a stripe.
     fn add_one(&mut self, stripe: u64, index: usize) -> Result<(), AllocError> {
-        if index >= self.last.len() {
+        if index >= self.last.len() || index >= self.lost.len() {
             return Ok(());
         }
+        self.lost[index] = true;
         let count = self.last[index];
         if 0 < count && count <= self.runs.len() {
             let run = self.runs[count - 1];
@@ -85,15 +93,34 @@ impl Faults {
         Ok(())
     }
 
-    /// Whether nothing was found wrong.
-    pub(crate) fn is_whole(&self) -> bool {
-        self.runs.is_empty() && !self.is_false
+    /// Adds that somewhere the parity is not that of the data, or the data are not those of the file.
+    pub(crate) fn add_false(&mut self) {
+        self.is_false = true;
+    }
+
+    /// How many shards are missing or damaged.
+    pub(crate) fn count(&self) -> usize {
+        self.lost.iter().filter(|is_lost| **is_lost).count()
     }
 
     /// Whether a shard is missing or damaged.
     pub(crate) fn is_lost(&self, index: usize) -> bool {
-        index < self.last.len() && self.last[index] > 0
+        index < self.lost.len() && self.lost[index]
     }
+
+    /// Of each shard whether it is missing or damaged.
+    pub(crate) fn lost(&self) -> &[bool]
+        ensures { length result.now ≡ shard_total self.now.layout.origin }
+    {
+        self.lost.as_slice()
+    }
+}
+
+// Flags of so many shards, none of which is set.
+fn no_flags(alloc: Global, total: usize) -> Result<Vec<bool>, AllocError>
+    ensures { IfOk result (λ flags. length flags.items ≡ total) }
+{
+    vec![in alloc; false; total]
 }
 
 /// Fails where fewer shards were seen than the data have.

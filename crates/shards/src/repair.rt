@@ -32,7 +32,7 @@ fn verify_found(rt: &HostRuntime, found: &Found<'_>) -> Result<ExitCode> {
     let (file, layout) = (found.file, found.seen.layout);
     let (total, enough) = (layout.total(), layout.origin.data_shards);
     tell_runs(rt, &faults, total, layout.stripe_count())?;
-    if faults.is_whole() {
+    if faults.count() == 0 && !faults.is_false {
         println!(rt; "all {total} shards are whole")?;
         return Ok(ExitCode::SUCCESS);
     }
@@ -66,7 +66,7 @@ fn faults_of(rt: &HostRuntime, found: &Found<'_>) -> Result<Faults> {
         let mut group = gather(rt.alloc(), &mut source, layout, stripe)?;
         faults.add(stripe, &group)?;
         if group.count() == layout.total() && !group.has_parity(rt.alloc())? {
-            faults.is_false = true;
+            faults.add_false();
         }
         if faults.too_few.is_none() {
             group.restore(rt.alloc())?;
@@ -75,7 +75,7 @@ fn faults_of(rt: &HostRuntime, found: &Found<'_>) -> Result<Faults> {
     }
     clear(rt, found.is_quiet);
     if faults.too_few.is_none() && !layout.origin.names(hasher) {
-        faults.is_false = true;
+        faults.add_false();
     }
     Ok(faults)
 }
@@ -122,26 +122,26 @@ fn repair_locked(rt: &HostRuntime, words: &Words<'_>, file: &str) -> Result<()> 
     if faults.is_false {
         bail!("{file}: the parity is not that of the data, or the data are not those of the file")
     }
-    let mut lost = Vec::new(rt.alloc());
-    for index in 0..found.seen.layout.total() {
-        lost.push(faults.is_lost(index))?;
-    }
-    write_lost(rt, words, &found, lost.as_slice())
+    write_lost(rt, words, &found, &faults)
 }
 
 // Writes shards of a file.
-fn write_lost(rt: &HostRuntime, words: &Words<'_>, found: &Found<'_>, lost: &[bool]) -> Result<()> {
-    let file = found.file;
-    let count = lost.iter().filter(|is_lost| **is_lost).count();
-    let old = old_of(rt, words, found, lost)?;
+fn write_lost(
+    rt: &HostRuntime,
+    words: &Words<'_>,
+    found: &Found<'_>,
+    faults: &Faults,
+) -> Result<()> {
+    let (file, count, layout) = (found.file, faults.count(), faults.layout);
+    let old = old_of(rt, words, found, faults)?;
     let files = NewFiles::new(rt, found.mode(rt)?, words.is_forced);
     let base = format!(in rt.alloc(); "{file}")?;
     // What is read tells how far it is.
     let progress = Progress::new(true, 0);
     let mut new = NewShards::new(rt, files, base, old, progress)?;
-    let work = repair_to(rt, found, lost, &mut new);
+    let work = repair_to(rt, found, faults, &mut new);
     new.end(work)?;
-    let total = found.seen.layout.total();
+    let total = layout.total();
     let _ = println!(rt; "{count} of {total} shards are written again");
     Ok(())
 }
@@ -150,19 +150,16 @@ fn write_lost(rt: &HostRuntime, words: &Words<'_>, found: &Found<'_>, lost: &[bo
 fn repair_to(
     rt: &HostRuntime,
     found: &Found<'_>,
-    lost: &[bool],
+    faults: &Faults,
     new: &mut NewShards<'_>,
 ) -> Result<()> {
-    let (file, layout) = (found.file, found.seen.layout);
-    if lost.len() != layout.total() {
-        bail!("{file}: no code has so many shards")
-    }
-    let repaired = repair_shards(rt.alloc(), &mut found.source(rt), layout, lost, new);
+    let mut source = found.source(rt);
+    let repaired = repair_shards(rt.alloc(), &mut source, faults.layout, faults.lost(), new);
     clear(rt, found.is_quiet);
     if let Err(error) = repaired {
         match new.fault() {
             Some(fault) => return Err(fault),
-            None => bail!("cannot repair the shards of {file}: {error}"),
+            None => bail!("cannot repair the shards of {}: {error}", found.file),
         }
     }
     new.finish()
@@ -173,11 +170,11 @@ fn old_of(
     rt: &HostRuntime,
     words: &Words<'_>,
     found: &Found<'_>,
-    lost: &[bool],
+    faults: &Faults,
 ) -> Result<Vec<Option<Stamp>>> {
     let mut old = Vec::new(rt.alloc());
-    for index in 0..lost.len() {
-        let replaced = if lost[index] && !words.is_forced {
+    for index in 0..faults.layout.total() {
+        let replaced = if faults.is_lost(index) && !words.is_forced {
             damaged_at(rt, found, index)?
         } else {
             None
