@@ -106,6 +106,29 @@ def stays_beside_a_repair(draws):
         require(status == 0 and {name: read(name) for name in names()} == whole, f"repair after {turn}: status {status}, {said}")
 
 
+def bytes_behind(draws):
+    """A shard that each of its files has bytes behind is told, and written again; its file is joined as if they were not there."""
+    for length in (0, 5000):
+        for name in names():
+            os.remove(name)
+        content = draws.randbytes(length)
+        split(content, 4, 2)
+        whole = [read(f"{FILE}.{index}") for index in range(6)]
+        for index in (1, 4):
+            write(f"{FILE}.{index}", whole[index] + b"\n")
+        write("copy", whole[4])
+        own = [f"{FILE}.{index}" for index in range(6)]
+        for named, told in (([], (1, 4)), ([*own, "copy"], (1,)), (["copy", *own], (1,))):
+            wanted = "".join(f"shard {index} has bytes behind its end\n" for index in told)
+            status, said, _ = shards("verify", FILE, *named)
+            require(status == 1 and said == wanted, f"verify of {length} bytes, {named}: status {status}, {said}")
+        joins(content)
+        os.remove(FILE)
+        status, said, _ = shards("repair", FILE)
+        require(status == 0 and said.startswith("2 of 6"), f"repair of {length} bytes: status {status}, {said}")
+        require([read(name) for name in own] == whole and shards("verify", FILE)[0] == 0, f"repair of {length} bytes wrote other shards")
+
+
 def files_of_the_user(draws):
     """What the program did not write is not removed: files of the names that it writes under at first, and links."""
     content = draws.randbytes(3000)

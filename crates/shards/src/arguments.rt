@@ -38,7 +38,8 @@ output is known to be that file only once the exit status is 0.";
 const VERIFY_MORE: &str =
     "The exit status is 0 where all shards are whole, 1 where some are missing or damaged and enough are
 left, 2 where too few are left, or where they are not those of the file, or after an error, and 3
-where there are no shards, or enough of several files.";
+where there are no shards, or enough of several files. Bytes behind the end of a shard are damage,
+though what stands before them is taken.";
 
 const REPAIR_MORE: &str =
     "In the place of a shard only that shard, damaged, or what is no shard is overwritten, unless --force

@@ -22,7 +22,9 @@ pub(crate) struct Faults {
     pub(crate) runs: Vec<Run>,
     /// Of each shard one more than the place of its last run, or 0 where it has none.
     last: Vec<usize>,
-    /// Of each shard whether it is missing or damaged.
+    /// Of each shard whether it has bytes behind its last piece.
+    long: Vec<bool>,
+    /// Of each shard whether anything is wrong with it.
     lost: Vec<bool>,
     /// The first stripe in which too few shards are whole.
     pub(crate) too_few: Option<u64>,
@@ -38,10 +40,22 @@ impl Faults {
             layout,
             runs: Vec::new(alloc),
             last: vec![in alloc; 0usize; layout.total()]?,
+            long: no_flags(alloc, layout.total())?,
             lost: no_flags(alloc, layout.total())?,
             too_few: None,
             is_false: false,
         })
+    }
+
+    /// Adds which shards have bytes behind their last piece, by how many bytes their files have.
+    pub(crate) fn add_long(&mut self, lengths: &[u64]) {
+        let end = self.layout.file_length();
+        for index in 0..lengths.len() {
+            if lengths[index] > end && index < self.long.len() && index < self.lost.len() {
+                self.long[index] = true;
+                self.lost[index] = true;
+            }
+        }
     }
 
     /// Adds which shards of an empty file, which has no stripes, are not at hand.
@@ -98,17 +112,22 @@ impl Faults {
         self.is_false = true;
     }
 
-    /// How many shards are missing or damaged.
+    /// With how many shards something is wrong.
     pub(crate) fn count(&self) -> usize {
         self.lost.iter().filter(|is_lost| **is_lost).count()
     }
 
-    /// Whether a shard is missing or damaged.
+    /// Whether a shard has bytes behind its last piece.
+    pub(crate) fn is_long(&self, index: usize) -> bool {
+        index < self.long.len() && self.long[index]
+    }
+
+    /// Whether something is wrong with a shard.
     pub(crate) fn is_lost(&self, index: usize) -> bool {
         index < self.lost.len() && self.lost[index]
     }
 
-    /// Of each shard whether it is missing or damaged.
+    /// Of each shard whether something is wrong with it.
     pub(crate) fn lost(&self) -> &[bool]
         ensures { length result.now ≡ shard_total self.now.layout.origin }
     {

@@ -108,6 +108,28 @@ impl Found<'_> {
         }
     }
 
+    /// Of each shard how many bytes the shortest file has that has it, or 0 where none has.
+    pub(crate) fn lengths(&self, rt: &HostRuntime) -> Result<Vec<u64>> {
+        let mut lengths = vec![in rt.alloc(); 0u64; self.seen.layout.total()]?;
+        for place in 0..self.paths.len() {
+            if let Some(index) = self.index_at(place) {
+                let length = length_of(rt, self.paths[place].as_str());
+                if index < lengths.len() && (lengths[index] == 0 || length < lengths[index]) {
+                    lengths[index] = length;
+                }
+            }
+        }
+        Ok(lengths)
+    }
+
+    // The number of the shard at a path, where it is one of these.
+    fn index_at(&self, place: usize) -> Option<usize> {
+        match self.scan.findings.as_slice().get(place) {
+            Some(Finding::Shard(of, index)) if *of == self.chosen => Some(*index),
+            _ => None,
+        }
+    }
+
     /// The mode of the first of its shards.
     pub(crate) fn mode(&self, rt: &HostRuntime) -> Result<u32> {
         match self.paths.as_slice().get(self.first) {

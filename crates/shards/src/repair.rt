@@ -56,6 +56,7 @@ fn verify_found(rt: &HostRuntime, found: &Found<'_>) -> Result<ExitCode> {
 fn faults_of(rt: &HostRuntime, found: &Found<'_>) -> Result<Faults> {
     let layout = found.seen.layout;
     let mut faults = Faults::new(rt.alloc(), layout)?;
+    faults.add_long(found.lengths(rt)?.as_slice());
     if layout.stripe_count() == 0 {
         faults.add_heads(found)?;
         return Ok(faults);
@@ -80,7 +81,7 @@ fn faults_of(rt: &HostRuntime, found: &Found<'_>) -> Result<Faults> {
     Ok(faults)
 }
 
-// Tells of each shard in which stripes it is damaged, or that it is in none whole.
+// Tells of each shard in which stripes it is damaged, or that it is in none whole, and whether it has bytes behind its end.
 fn tell_runs(rt: &HostRuntime, faults: &Faults, total: usize, stripes: u64) -> Result<()> {
     for index in 0..total {
         if !faults.is_lost(index) {
@@ -98,6 +99,9 @@ fn tell_runs(rt: &HostRuntime, faults: &Faults, total: usize, stripes: u64) -> R
             } else {
                 println!(rt; "shard {index} is damaged in stripes {first} to {last}")?;
             }
+        }
+        if faults.is_long(index) {
+            println!(rt; "shard {index} has bytes behind its end")?;
         }
     }
     Ok(())
