@@ -48,7 +48,7 @@ the shards are written stays.";
 
 const FILE: &str = "The file that was split, which need not be there";
 
-const QUIET: &str = "Tells nothing of progress";
+const QUIET: &str = "Tells nothing of progress, which is told on a terminal alone";
 
 /// What is to be done.
 #[derive(Clone, Copy)]

@@ -132,14 +132,18 @@ fn write_joined(
     require_enough(found)?;
     let mut out = new.begin(format!(in rt.alloc(); "{file}")?, None)?;
     join_to(rt, found, &mut out)?;
-    new.finish(&out, file)
+    Progress::new(found.is_quiet, 1).start(rt, file, "synced");
+    let finished = new.finish(&out, file);
+    clear(rt, found.is_quiet);
+    finished
 }
 
 // Writes the bytes of a file.
 fn join_to<W: Write>(rt: &HostRuntime, found: &Found<'_>, writer: &mut W) -> Result<()> {
     require_enough(found)?;
     let (file, layout) = (found.file, found.seen.layout);
-    let written = write_content(rt.alloc(), &mut found.source(rt), layout, writer);
+    let mut source = found.source(rt, found.is_quiet);
+    let written = write_content(rt.alloc(), &mut source, layout, writer);
     clear(rt, found.is_quiet);
     match written {
         Ok(()) => Ok(()),

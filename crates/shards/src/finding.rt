@@ -93,10 +93,10 @@ pub(crate) struct Found<'a> {
 
 impl Found<'_> {
     /// The files that were looked at, to be read.
-    pub(crate) fn source<'b>(&'b self, rt: &'b HostRuntime) -> OldFiles<'b> {
+    pub(crate) fn source<'b>(&'b self, rt: &'b HostRuntime, is_quiet: bool) -> OldFiles<'b> {
         let length = self.seen.layout.file_length();
         let all = length.saturating_mul(self.seen.count as u64);
-        let progress = Progress::new(self.is_quiet, all);
+        let progress = Progress::new(is_quiet, all);
         OldFiles::new(rt, self.file, self.paths.as_slice(), progress)
     }
 

@@ -45,6 +45,11 @@ impl<'a> NewFiles<'a> {
         }
     }
 
+    /// How many files were begun.
+    pub(crate) fn count(&self) -> usize {
+        self.parts.len()
+    }
+
     /// Fails where something is at that place that is not to be overwritten: a file, unless that is asked for, or else what is neither a file
     /// nor a link.
     pub(crate) fn require_free(&self, target: &str) -> Result<()> {
@@ -230,14 +235,24 @@ impl<'a> NewShards<'a> {
 
     /// Gives each file its mode, and waits until it is on the disk.
     pub(crate) fn finish(&mut self) -> Result<()> {
+        self.progress.start(self.rt, self.base.as_str(), "synced");
+        let share = self.progress.share(self.files.count());
         for index in 0..self.is_begun.len() {
             if index < self.is_begun.len() && self.is_begun[index] {
-                let target = self.target(index)?;
-                self.turn_to(index)?;
-                if let Some(file) = &self.open {
-                    self.files.finish(file, target.as_str())?;
-                }
+                self.finish_one(index)?;
+                self.progress
+                    .add(self.rt, self.base.as_str(), "synced", share);
             }
+        }
+        Ok(())
+    }
+
+    // Gives the file of a shard its mode, and waits until it is on the disk.
+    fn finish_one(&mut self, index: usize) -> Result<()> {
+        let target = self.target(index)?;
+        self.turn_to(index)?;
+        if let Some(file) = &self.open {
+            self.files.finish(file, target.as_str())?;
         }
         Ok(())
     }

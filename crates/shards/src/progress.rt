@@ -24,6 +24,22 @@ impl Progress {
         }
     }
 
+    /// Begins anew with what is done next to the same bytes, and tells so at once.
+    pub(crate) fn start(&mut self, rt: &HostRuntime, file: &str, what: &str) {
+        self.done = 0;
+        self.told = 0;
+        self.begun = None;
+        if !self.is_quiet {
+            self.begun = Instant::now(rt).ok();
+            let _ = eprint!(rt; "{file}: {what} 0 %\x1b[K\r");
+        }
+    }
+
+    /// How many of the bytes each of so many equal parts has.
+    pub(crate) fn share(&self, parts: usize) -> usize {
+        (self.total / (parts as u64).max(1)) as usize
+    }
+
     /// Counts so many bytes more, and tells of them once a second.
     pub(crate) fn add(&mut self, rt: &HostRuntime, file: &str, what: &str, bytes: usize) {
         self.done = self.done.saturating_add(bytes as u64);

@@ -61,7 +61,7 @@ fn faults_of(rt: &HostRuntime, found: &Found<'_>) -> Result<Faults> {
         faults.add_heads(found)?;
         return Ok(faults);
     }
-    let mut source = found.source(rt);
+    let mut source = found.source(rt, found.is_quiet);
     let mut hasher = Sha256::new();
     for stripe in 0..layout.stripe_count() {
         let mut group = gather(rt.alloc(), &mut source, layout, stripe)?;
@@ -140,26 +140,26 @@ fn write_lost(
     let old = old_of(rt, words, found, faults)?;
     let files = NewFiles::new(rt, found.mode(rt)?, words.is_forced);
     let base = format!(in rt.alloc(); "{file}")?;
-    // What is read tells how far it is.
-    let progress = Progress::new(true, 0);
+    let size = layout.file_length().saturating_mul(count as u64);
+    let progress = Progress::new(found.is_quiet, size);
     let mut new = NewShards::new(rt, files, base, old, progress)?;
     let work = repair_to(rt, found, faults, &mut new);
+    clear(rt, found.is_quiet);
     new.end(work)?;
     let total = layout.total();
     let _ = println!(rt; "{count} of {total} shards are written again");
     Ok(())
 }
 
-// Writes shards of a file beside their places.
+// Writes shards of a file beside their places. What is written tells how far it is.
 fn repair_to(
     rt: &HostRuntime,
     found: &Found<'_>,
     faults: &Faults,
     new: &mut NewShards<'_>,
 ) -> Result<()> {
-    let mut source = found.source(rt);
+    let mut source = found.source(rt, true);
     let repaired = repair_shards(rt.alloc(), &mut source, faults.layout, faults.lost(), new);
-    clear(rt, found.is_quiet);
     if let Err(error) = repaired {
         match new.fault() {
             Some(fault) => return Err(fault),
