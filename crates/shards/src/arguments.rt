@@ -29,11 +29,14 @@ const SPLIT_USAGE: &str = "shards split [OPTIONS] <FILE> <DATA> <PARITY>
        shards split [OPTIONS] <FILE> --data <DATA> --parity <PARITY>";
 
 const SPLIT_MORE: &str = "Example: shards split archive.tar 10 4
-writes archive.tar.0 to archive.tar.13, any ten of which restore archive.tar";
+writes archive.tar.0 to archive.tar.13, any ten of which restore archive.tar
+
+Each shard is synced by itself. On a disk that takes some milliseconds, and minutes for tens of
+thousands of shards.";
 
 const JOIN_MORE: &str =
-    "FILE is written only where its SHA-256 is that of the file that was split. What is written to standard
-output is known to be that file only once the exit status is 0.";
+    "FILE is written only where its SHA-256 is the one that its shards name. What is written to standard
+output is known to have it only once the exit status is 0.";
 
 const VERIFY_MORE: &str =
     "The exit status is 0 where all shards are whole, 1 where some are missing or damaged and enough are
