@@ -7,6 +7,7 @@ mod KnownCodes
 mod Layouts
 mod Lost
 mod MatrixWords
+mod OneSplit
 mod Pieces
 mod Positions
 pub mod PresentCounts

@@ -1,5 +1,6 @@
--- What is split begins with its bytes, and is a code word.
+-- What is split begins with its bytes, with zeros behind them, and is a code word.
 use Rattle.std.proofs.Common.{◌≡◌, ℕ, ◌+◌, ◌*◌, ◌<◌, ◌≤◌, List, length, get_or, take, ◌∙◌, subst, arith}
+use Rattle.std.proofs.Math.ListN.{get_or-eq_default}
 use Rattle.std.proofs.Math.Nat.{mul-le-mul_right}
 use Rattle.std.proofs.lemmas.List.{ext_get_or, get_or-take, length-take-le}
 use Rattle.shard_files.specs.Splits.{IsSplit}
@@ -18,14 +19,18 @@ split_of_encoded origin content filled shards long fits same kept word =
     record {
       begins = ext_get_or 0 (take (length content) shards) content taken
           (λ i below. byte i (subst (λ (n : ℕ). i < n) taken below));
+      padded = λ i behind below. kept i below ∙ same i (omega (arith, below, width)) ∙ get_or-eq_default content 0 behind;
       code_word = word;
     }
   where
     most : (a b : ℕ) → a ≤ a + b
     most a b = omega arith
 
+    width : stripe_width origin ≤ length shards
+    width = let more = mul-le-mul_right origin.size (most origin.data_shards origin.parity_shards) in omega (arith, more, long)
+
     room : length content ≤ length shards
-    room = let more = mul-le-mul_right origin.size (most origin.data_shards origin.parity_shards) in omega (arith, more, long, fits)
+    room = omega (arith, width, fits)
 
     taken : length (take (length content) shards) ≡ length content
     taken = length-take-le (length content) shards room

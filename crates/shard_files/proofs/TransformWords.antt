@@ -88,7 +88,7 @@ one_size k m half words parity some some_parity wide words_are parity_are =
 -- ---- bytes and words
 
 -- two words of the same bytes are one element
-same_element : (one other : List ℕ) (place word more : ℕ) → IsWordAt one place word → IsWordAt other place more
+pub same_element : (one other : List ℕ) (place word more : ℕ) → IsWordAt one place word → IsWordAt other place more
     → get_or one place 0 ≡ get_or other place 0 → get_or one (place + 1) 0 ≡ get_or other (place + 1) 0 → element word ≡ element more
 same_element one other place word more first second lower higher =
     combine word more (sym first.lower ∙ lower ∙ second.lower) (sym first.higher ∙ higher ∙ second.higher)
@@ -127,7 +127,7 @@ data_bytes k size half first even is =
 -- ---- columns of shards, from shard `from` on
 
 module _ (half : ℕ) where
-  column_room : (i count column : ℕ) → i < count → column < half → i * half + column < count * half
+  pub column_room : (i count column : ℕ) → i < count → column < half → i * half + column < count * half
   column_room i count column inside below = omega (arith, shard_room i count half (count * half) inside refl, below)
 
   -- byte `column` of a word of shard i, and the word
@@ -262,12 +262,12 @@ module _ (k m half levels : ℕ) (padded : IsPadded k levels) where
       }
 
   -- the words of a code word
-  abbrev HasWords : List ℕ → Type 0
+  abbrev pub HasWords : List ℕ → Type 0
   HasWords shards =
       (words : List ℕ) × (parity : List ℕ) × AreShardWords k m half shards words parity
       × AreCodedColumns element 0 4 levels k m half words parity
 
-  words_are : (size : ℕ) (shards : List ℕ) → size ≡ 2 * half → AreTransformWords k m size shards → HasWords shards
+  pub words_are : (size : ℕ) (shards : List ℕ) → size ≡ 2 * half → AreTransformWords k m size shards → HasWords shards
   words_are size shards even word =
       let half_is : word.half ≡ half = omega (arith, even, word.even) in
       let levels_is : word.levels ≡ levels = same_levels k word.levels levels word.padded padded in (
@@ -311,30 +311,14 @@ module _ (k m half levels : ℕ) (padded : IsPadded k levels) where
           (are.parity_are (t * half + column) (omega (arith, are.parity_long, within)))
           (given.2.parity_are (t * half + column) (omega (arith, given.2.parity_long, within))) refl refl
 
-  -- what is restored from shards of a code word is that word
-  module _ (law : LostSymbolsReturn element 0 4) (size : ℕ) (even : size ≡ 2 * half) (present : List Bool)
-      (old new whole words parity now now_parity : List ℕ) (are : AreShardWords k m half old words parity)
-      (now_are : AreShardWords k m half new now now_parity)
-      (restored : AreRestoredColumns element 0 4 levels k m half present half words parity now now_parity)
-      (word : AreTransformWords k m size whole) (agree : AgreeWherePresent (k + m) size present old whole)
+  -- shards of the same symbols have the same bytes
+  module _ (size : ℕ) (even : size ≡ 2 * half) (new whole now now_parity words parity : List ℕ)
+      (now_are : AreShardWords k m half new now now_parity) (are : AreShardWords k m half whole words parity)
+      (same : HaveSameSymbols element 0 k half now words × HaveSameSymbols element 0 m half now_parity parity)
       (long : length new ≡ (k + m) * size) (whole_long : length whole ≡ (k + m) * size)
     where
-      given : HasWords whole
-      given = words_are size whole even word
-
-      agrees : AgreeWherePresent (k + m) (2 * half) present old whole
-      agrees = subst (λ (n : ℕ). AgreeWherePresent (k + m) n present old whole) even agree
-
       no_shard : 0 ≡ 0 * half
       no_shard = omega arith
-
-      same : HaveSameSymbols element 0 k half now given.0 × HaveSameSymbols element 0 m half now_parity given.1
-      same =
-          law levels k m half present given.0 given.1 words parity now now_parity given.3
-          (agree_at_hand half 0 k 0 no_shard old whole words given.0 are.long given.2.long are.are given.2.are (k + m) present (omega arith) agrees)
-          (agree_at_hand half k m (k * half) refl old whole parity given.1 are.parity_long given.2.parity_long are.parity_are given.2.parity_are
-          (k + m) present (omega arith) agrees)
-          restored
 
       -- both bytes of a word
       word_is : (place : ℕ) → place < (k + m) * half
@@ -343,11 +327,11 @@ module _ (k m half levels : ℕ) (padded : IsPadded k levels) where
           elim (cases_lt place (k * half)) [
             | inl before ↦ subst (λ (n : ℕ). (get_or new (2 * n) 0 ≡ get_or whole (2 * n) 0) × (get_or new (2 * n + 1) 0 ≡ get_or whole (2 * n + 1) 0))
                 (none_before place)
-                (bytes_of_symbols half 0 k 0 no_shard new whole now given.0 now_are.long given.2.long now_are.are given.2.are same.0 place before)
+                (bytes_of_symbols half 0 k 0 no_shard new whole now words now_are.long are.long now_are.are are.are same.0 place before)
             | inr behind ↦ subst (λ (n : ℕ). (get_or new (2 * n) 0 ≡ get_or whole (2 * n) 0) × (get_or new (2 * n + 1) 0 ≡ get_or whole (2 * n + 1) 0))
                 (all_before (k * half) place behind)
-                (bytes_of_symbols half k m (k * half) refl new whole now_parity given.1 now_are.parity_long given.2.parity_long now_are.parity_are
-                given.2.parity_are same.1 (place - k * half) (rest behind))
+                (bytes_of_symbols half k m (k * half) refl new whole now_parity parity now_are.parity_long are.parity_long now_are.parity_are
+                are.parity_are same.1 (place - k * half) (rest behind))
           ]
         where
           none_before : (n : ℕ) → 0 + n ≡ n
@@ -379,7 +363,35 @@ module _ (k m half levels : ℕ) (padded : IsPadded k levels) where
           odd_place : (n : ℕ) → 1 ≤ n % 2 → 2 * (n / 2) + 1 ≡ n
           odd_place n is = omega (arith, is)
 
-      pub restored_whole : new ≡ whole
-      restored_whole =
+      pub whole_is : new ≡ whole
+      whole_is =
           ext_get_or 0 new whole (long ∙ sym whole_long)
           (λ n below. byte_is n (subst (λ (s : ℕ). n < (k + m) * s) even (subst (λ (l : ℕ). n < l) long below)))
+
+  -- what is restored from shards of a code word is that word
+  module _ (law : LostSymbolsReturn element 0 4) (size : ℕ) (even : size ≡ 2 * half) (present : List Bool)
+      (old new whole words parity now now_parity : List ℕ) (are : AreShardWords k m half old words parity)
+      (now_are : AreShardWords k m half new now now_parity)
+      (restored : AreRestoredColumns element 0 4 levels k m half present half words parity now now_parity)
+      (word : AreTransformWords k m size whole) (agree : AgreeWherePresent (k + m) size present old whole)
+      (long : length new ≡ (k + m) * size) (whole_long : length whole ≡ (k + m) * size)
+    where
+      given : HasWords whole
+      given = words_are size whole even word
+
+      agrees : AgreeWherePresent (k + m) (2 * half) present old whole
+      agrees = subst (λ (n : ℕ). AgreeWherePresent (k + m) n present old whole) even agree
+
+      no_shards : 0 ≡ 0 * half
+      no_shards = omega arith
+
+      same_symbols : HaveSameSymbols element 0 k half now given.0 × HaveSameSymbols element 0 m half now_parity given.1
+      same_symbols =
+          law levels k m half present given.0 given.1 words parity now now_parity given.3
+          (agree_at_hand half 0 k 0 no_shards old whole words given.0 are.long given.2.long are.are given.2.are (k + m) present (omega arith) agrees)
+          (agree_at_hand half k m (k * half) refl old whole parity given.1 are.parity_long given.2.parity_long are.parity_are given.2.parity_are
+          (k + m) present (omega arith) agrees)
+          restored
+
+      pub restored_whole : new ≡ whole
+      restored_whole = whole_is size even new whole now now_parity given.0 given.1 now_are given.2 same_symbols long whole_long

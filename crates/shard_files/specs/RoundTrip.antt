@@ -1,9 +1,11 @@
--- What split writes, with any shards lost or damaged as long as enough are left in each stripe, is what join writes the file from.
-use Rattle.std.specs.Prelude.{◌≡◌, ℕ, ◌+◌, ◌<◌, ◌≤◌, Bool, List, [], length, take, drop, slice_index_or, Some}
+-- What split writes, with any shards lost or damaged as long as enough are left in each stripe, is what join writes the file from; and one
+-- file is split in one way alone, so that shards of two splits by one origin are joined together.
+use Rattle.std.specs.Prelude.{◌≡◌, ℕ, ◌+◌, ◌*◌, ◌<◌, ◌≤◌, Bool, List, [], length, take, drop, slice_index_or, Some}
 use Rattle.reed_solomon.specs.Shards.{IsPresent, present_count}
 use Rattle.shard_files.specs.Files.{AreShards, shard_file}
 use Rattle.shard_files.specs.Groups.{GivesPiece, GivesFile, Holdings, numbered, shard_at}
 use Rattle.shard_files.specs.Heads.{IsOrigin}
+use Rattle.shard_files.specs.Splits.{IsSplit}
 use Rattle.shard_files.specs.Stripes.{IsPossible, piece_start, shard_total, stripe_total}
 use Rattle.shard_files.specs.declared.head.Origin.{Origin}
 
@@ -33,3 +35,14 @@ abbrev pub ShardsReturn : Type 0
 ShardsReturn = (origin : Origin) (content : List ℕ) (wholes : List (List ℕ)) (files : Holdings) → IsPossible origin → IsOrigin origin
     → AreShards origin content wholes → ((stripe : ℕ) → stripe < stripe_total origin → EnoughAreLeft origin wholes files stripe)
     → DamageIsSeen origin wholes files → GivesFile origin files content (λ stripe. slice_index_or wholes stripe [])
+
+-- bytes are split in one way: all shards of a stripe are determined by its bytes and by the origin
+abbrev pub SplitsAreOne : Type 0
+SplitsAreOne = (origin : Origin) (content one other : List ℕ) → IsPossible origin
+    → length one ≡ shard_total origin * origin.size → length other ≡ shard_total origin * origin.size
+    → IsSplit origin content one → IsSplit origin content other → one ≡ other
+
+-- and so are all shards of a file
+abbrev pub FilesAreOne : Type 0
+FilesAreOne = (origin : Origin) (content : List ℕ) (wholes others : List (List ℕ)) → IsPossible origin
+    → AreShards origin content wholes → AreShards origin content others → wholes ≡ others

@@ -1,7 +1,10 @@
 // Laws; these functions compute nothing.
 ghost use Rattle.std.specs.Prelude.{ℕ, ◌*◌, ◌<◌, ◌≤◌};
-ghost use Rattle.shard_files.specs.RoundTrip.{ShardsReturn};
+ghost use Rattle.shard_files.specs.RoundTrip.{FilesAreOne, ShardsReturn, SplitsAreOne};
 ghost use Rattle.shard_files.specs.Stripes.{part_count};
+
+use reed_solomon::changes_are_seen;
+use transform_codes::shards_determine;
 
 /// Computes nothing; its contract is the law that the files which `write_shards` writes, with any of them lost or damaged as long as in
 /// each stripe as many shards are left as the data have, and no damage has a right digest, are files from which `write_content` writes the
@@ -9,6 +12,17 @@ ghost use Rattle.shard_files.specs.Stripes.{part_count};
 pub fn shards_return()
     ensures { ShardsReturn }
 {}
+
+/// Computes nothing; its contract is the law that bytes are split in one way alone: all shards that two splits of a stripe give by one
+/// origin are equal, byte by byte, those of parity too, and so are all shards of a file. What the heads of shards say is all that tells of
+/// which file they are, so that shards of two splits that say the same are taken together; they are shards of one split.
+pub fn splits_are_one()
+    ensures stripes { SplitsAreOne }
+    ensures files { FilesAreOne }
+{
+    changes_are_seen();
+    shards_determine();
+}
 
 /// Computes nothing; its contract is the law that `part_count`, by which the size of a stripe is chosen, is the least number of parts, one
 /// at least, that hold so many bytes.

@@ -23,7 +23,7 @@ pub use crate::code::{MATRIX, MOST_SHARDS, StripeCode, TRANSFORM, default_code, 
 pub use crate::error::{JoinError, RepairError, SplitError};
 pub use crate::group::Group;
 pub use crate::head::{HEAD, Head, Origin, older_format};
-pub use crate::laws::{parts_are_fewest, shards_return};
+pub use crate::laws::{parts_are_fewest, shards_return, splits_are_one};
 pub use crate::layout::Layout;
 pub use crate::reading::{ShardSource, gather, restored, write_content};
 pub use crate::repair::repair_shards;
