@@ -4,7 +4,7 @@ use Rattle.sha2.specs.Sha256.{sha256}
 use Rattle.reed_solomon.specs.Shards.{IsPresent, present_count}
 use Rattle.shard_files.specs.Heads.{head_digest, head_file}
 use Rattle.shard_files.specs.Pieces.{piece_bytes}
-use Rattle.shard_files.specs.Splits.{IsSplit}
+use Rattle.shard_files.specs.Splits.{BeginWith, IsSplit}
 use Rattle.shard_files.specs.Stripes.{piece_start, shard_total, stripe_content, stripe_total}
 use Rattle.shard_files.specs.declared.head.Head.{Head}
 use Rattle.shard_files.specs.declared.head.Origin.{Origin}
@@ -81,6 +81,12 @@ pub record GivesEnough (origin : Origin) (files : Holdings) (stripe : ℕ) (whol
   pub enough : origin.data_shards ≤ present_count left
   pub there : (index : ℕ) → IsPresent left index
       → (place : ℕ) × (place < files.places) × GivesPiece files place (numbered origin index) stripe (shard_at origin.size whole index)
+
+-- bytes of the length that the origin names stand, stripe by stripe, at the start of shards of which files give enough
+pub record AreGiven (origin : Origin) (files : Holdings) (content : List ℕ) (wholes : List (List ℕ)) : Type 0 where
+  pub length_is : length content ≡ origin.length
+  pub begins : (stripe : ℕ) → stripe < stripe_total origin → BeginWith (stripe_content origin stripe content) (slice_index_or wholes stripe [])
+  pub given : (stripe : ℕ) → stripe < stripe_total origin → GivesEnough origin files stripe (slice_index_or wholes stripe [])
 
 -- files give enough shards of a stripe: content was split into `whole`, what they give as shards of this origin is of that, and as many
 -- of the shards as the data have are given

@@ -70,11 +70,12 @@ impl StripeCode {
         })
     }
 
-    /// Writes the shards of parity. It fails where memory is refused. All shards are of the code's size.
+    /// Writes the shards of parity. It fails where memory is refused, and takes none by matrices. All shards are of the code's size.
     pub fn encode(&self, alloc: Global, shards: &mut [u8]) -> Result<(), AllocError>
         requires { length shards.old ≡ (self.now.data_shards + self.now.parity_shards) * self.now.size }
         ensures encoded { IsOk result
             → IsStripeWord self.now.number self.now.data_shards self.now.parity_shards self.now.size shards.new }
+        ensures sure { self.now.number ≡ 1 → IsOk result }
         ensures kept { (i : ℕ) → i < self.now.data_shards * self.now.size → slice_index shards.new i ≡ slice_index shards.old i }
         ensures long { length shards.new ≡ length shards.old }
     {
@@ -87,8 +88,8 @@ impl StripeCode {
     }
 
     /// Restores the missing shards, and leaves the others: shard i is missing where `present[i]` is false, and what its bytes are does not
-    /// matter. It fails where memory is refused, and then all are as they were. All shards are of the code's size, there is a flag for each,
-    /// and as many are at hand as the data have.
+    /// matter. It fails where memory is refused, and then all are as they were; by matrices it takes none. All shards are of the code's size,
+    /// there is a flag for each, and as many are at hand as the data have.
     pub fn restore(
         &self,
         alloc: Global,
@@ -103,6 +104,7 @@ impl StripeCode {
             → AgreeWherePresent total self.now.size present.now shards.old whole → shards.new ≡ whole }
         ensures kept { IsOk result
             → AgreeWherePresent (self.now.data_shards + self.now.parity_shards) self.now.size present.now shards.new shards.old }
+        ensures sure { self.now.number ≡ 1 → IsOk result }
         ensures same { OnErr result (shards.new ≡ shards.old) }
         ensures long { length shards.new ≡ length shards.old }
     {
@@ -114,11 +116,13 @@ impl StripeCode {
         }
     }
 
-    /// Whether the parity is that of the data. It fails where memory is refused. All shards are of the code's size.
+    /// Whether the parity is that of the data. It fails where memory is refused, and takes none by matrices. All shards are of the code's
+    /// size.
     pub fn verify(&self, alloc: Global, shards: &[u8]) -> Result<bool, AllocError>
         requires { length shards.now ≡ (self.now.data_shards + self.now.parity_shards) * self.now.size }
-        ensures { IfOk result (λ is_whole. IsTrue is_whole
+        ensures told { IfOk result (λ is_whole. IsTrue is_whole
             ↔ IsStripeWord self.now.number self.now.data_shards self.now.parity_shards self.now.size shards.now) }
+        ensures sure { self.now.number ≡ 1 → IsOk result }
     {
         if self.number == MATRIX {
             Ok(verify_by_matrix(self, shards))

@@ -127,7 +127,7 @@ impl Group {
     }
 
     /// Restores the missing shards, and leaves those at hand. It fails where fewer are at hand than the data have, or else where memory is
-    /// refused; then all are as they were.
+    /// refused, of which the code by matrices takes none; then all are as they were.
     pub fn restore(&mut self, alloc: Global) -> Result<(), JoinError>
         ensures kept { (self.new.layout.origin ≡ self.old.layout.origin) × (self.new.present ≡ self.old.present) }
         ensures enough { IsOk result → self.old.layout.origin.data_shards ≤ present_count self.old.present.items }
@@ -139,6 +139,8 @@ impl Group {
         ensures refused { IfErr result (λ error.
             ((error ≡ TooFew) × (present_count self.old.present.items < self.old.layout.origin.data_shards))
             ⊎ ((error ≡ Memory) × (self.old.layout.origin.data_shards ≤ present_count self.old.present.items))) }
+        ensures sure { self.old.layout.origin.code ≡ 1
+            → self.old.layout.origin.data_shards ≤ present_count self.old.present.items → IsOk result }
         ensures same { OnErr result (self.new.shards.items ≡ self.old.shards.items) }
     {
         if self.count() < self.layout.origin.data_shards as usize {
@@ -157,6 +159,7 @@ impl Group {
             → HasEnough self.old.layout.origin content whole self.old.shards.items self.old.present.items
             → IsOk result → self.new.shards.items ≡ whole }
         ensures refused { IfErr result (λ error. error ≡ Memory) }
+        ensures sure { self.old.layout.origin.code ≡ 1 → IsOk result }
         ensures same { OnErr result (self.new.shards.items ≡ self.old.shards.items) }
     {
         let code = self.layout.code;
@@ -175,11 +178,12 @@ impl Group {
         &self.shards.as_slice()[..length]
     }
 
-    /// Whether the parity is that of the data. It fails where memory is refused.
+    /// Whether the parity is that of the data. It fails where memory is refused, of which the code by matrices takes none.
     pub fn has_parity(&self, alloc: Global) -> Result<bool, JoinError>
         ensures answer { let origin = self.now.layout.origin in IfOk result (λ is_whole. IsTrue is_whole
             ↔ IsStripeWord origin.code origin.data_shards origin.parity_shards origin.size self.now.shards.items) }
         ensures refused { IfErr result (λ error. error ≡ Memory) }
+        ensures sure { self.now.layout.origin.code ≡ 1 → IsOk result }
     {
         match self.layout.code.verify(alloc, self.shards.as_slice()) {
             Ok(is_whole) => Ok(is_whole),

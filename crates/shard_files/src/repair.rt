@@ -1,8 +1,11 @@
 // Shards of a file that are written again, stripe by stripe.
-ghost use Rattle.std.specs.Prelude.{◌≡◌, ℕ, List, [], ◌+◌, ◌^◌, ◌<◌, ◌≤◌, length, slice_index_or, take, IfErr, OnOk};
+ghost use Rattle.std.specs.Prelude.{◌≡◌, ◌≢◌, ◌⊎◌, ℕ, List, [], ◌+◌, ◌^◌, ◌<◌, ◌≤◌, length, slice_index_or, take, IfErr, OnOk};
+ghost use Rattle.sha2.specs.Sha256.{sha256};
+ghost use Rattle.shard_files.specs.declared.error.JoinError.TheVariants.{OtherBytes, TooFew};
+ghost use Rattle.shard_files.specs.declared.error.RepairError.TheVariants.{Join};
 ghost use Rattle.shard_files.specs.Faults.{IsRepairFault, IsWriteFault};
 ghost use Rattle.shard_files.specs.Files.{AppendsToLost, HoldFile, shard_file};
-ghost use Rattle.shard_files.specs.Groups.{AreHeadDigests, GivesEnough, GivesFile, Holdings, numbered, shard_at};
+ghost use Rattle.shard_files.specs.Groups.{AreGiven, AreHeadDigests, GivesEnough, GivesFile, Holdings, numbered, shard_at};
 ghost use Rattle.shard_files.specs.Heads.{head_digest, head_file};
 ghost use Rattle.shard_files.specs.Pieces.{piece_bytes};
 ghost use Rattle.shard_files.specs.Stripes.{shard_total, stripe_length, stripe_total};
@@ -18,7 +21,8 @@ use std::alloc::Global;
 
 /// Restores the shards of a file from those alone that stand behind heads of the layout's origin, and writes those that are lost, as
 /// `write_shards` wrote them. There is a flag for each shard. It fails where too few shards are given in a stripe, where what is restored
-/// has not the identity that the origin names, where a file cannot be written, or where memory is refused.
+/// has not the identity that the origin names, where a file cannot be written, or where memory is refused; what was added to files till then
+/// is no shard.
 pub fn repair_shards<S: ShardSource, F: ShardFiles>(
     alloc: Global,
     source: &mut S,
@@ -36,6 +40,12 @@ pub fn repair_shards<S: ShardSource, F: ShardFiles>(
         → length wholes ≡ stripe_total layout.origin → GivesFile layout.origin held content (λ stripe. slice_index_or wholes stripe [])
         → F.holds files.old before → OnOk result ((now : ℕ → List ℕ) × F.holds files.new now
         × AppendsToLost (length lost.now) lost.now (shard_file layout.origin wholes) before now) }
+    ensures refused { IfErr result (λ error. IsRepairFault error ⊎ (error ≡ Join TooFew) ⊎ ((error ≡ Join OtherBytes)
+        × ((content : List ℕ) × (wholes : List (List ℕ)) × (sha256 content ≢ layout.origin.identity)
+        × ((held : Holdings) → S.holds source.old held → AreGiven layout.origin held content wholes)))) }
+    ensures enough { (held : Holdings) (wholes : ℕ → List ℕ) → S.holds source.old held
+        → ((stripe : ℕ) → stripe < stripe_total layout.origin → GivesEnough layout.origin held stripe (wholes stripe))
+        → IfErr result (λ error. error ≢ Join TooFew) }
     ensures granted { (held : Holdings) (content : List ℕ) (wholes : ℕ → List ℕ) → S.holds source.old held
         → GivesFile layout.origin held content wholes → IfErr result IsRepairFault }
 {

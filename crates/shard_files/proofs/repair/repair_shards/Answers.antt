@@ -1,4 +1,4 @@
-use Rattle.std.proofs.Common.{◌≡◌, ◌+◌, ◌*◌, ◌<◌, ◌∷◌, ◌++◌, ℕ, List, [], length, get_or, take, sym, ◌∙◌, ap, ap₂, subst, arith}
+use Rattle.std.proofs.Common.{◌≡◌, inl, inr, ◌+◌, ◌*◌, ◌<◌, ◌≤◌, ◌∷◌, ◌++◌, ℕ, List, [], length, get_or, take, refl, sym, ◌∙◌, ap, ap₂, subst, arith}
 use Rattle.std.proofs.lemmas.Bool.{true≢false}
 use Rattle.std.proofs.lemmas.Result.{err_from_is_err_and}
 use Rattle.sha2.specs.Sha256.{sha256}
@@ -8,8 +8,11 @@ use Rattle.shard_files.specs.Heads.{head_digest, head_file}
 use Rattle.shard_files.specs.Pieces.{piece_bytes}
 use Rattle.shard_files.specs.Splits.{BeginWith}
 use Rattle.shard_files.specs.Stripes.{shard_total, stripe_content, stripe_total, stripe_width}
+use Rattle.shard_files.specs.declared.error.JoinError.{JoinError}
+use Rattle.shard_files.specs.declared.error.RepairError.TheVariants.{Join}
 use Rattle.shard_files.specs.declared.head.Origin.{Origin}
-use Rattle.shard_files.proofs.Joined.{joined_content, none_yet, take_all}
+use Rattle.shard_files.proofs.Faults.{not_few_join}
+use Rattle.shard_files.proofs.Joined.{joined_content, none_yet, take_all, whole_length}
 use Rattle.shard_files.proofs.Lost.{file_taken, lost_same, lost_twice}
 use Rattle.shard_files.proofs.Positions.{content_length, ends_at}
 use Rattle.shard_files.proofs.Repaired.{all_long, begin_with, first_bytes, first_long}
@@ -161,3 +164,40 @@ returns-then-not-names-clause-granted g c =
     (done.4 held source_held).2 content wholes gives
     ∙ take_all (c.loop-stripe.stripe * stripe_width origin) content (omega (arith, all, gives.length_is)) in
     absurd (true≢false (sym ((c.names.ensures done.0 done.2).1 (ap sha256 is ∙ gives.identity_is)) ∙ c.if-not-names.true))
+
+pub returns-in_err-group-clause-refused : goal.returns-in_err-group-clause-refused
+returns-in_err-group-clause-refused g c =
+    let error = err_from_is_err_and c.from_residual-in_err-group.result c.from_residual-in_err-group.ensures.1 in
+    rw (error.1, error.2) (elim c.in_err-group.ensures.refused [
+      | inl few ↦ inr (inl (ap (λ (e : JoinError). Join e) few))
+      | inr memory ↦ inl memory
+    ])
+
+pub returns-then-not-names-clause-refused : goal.returns-then-not-names-clause-refused
+returns-then-not-names-clause-refused g c =
+    let origin = c.args.layout.origin in
+    let stripe = c.loop-stripe.stripe in
+    let done = c.loop-stripe.invariant.0 in
+    let least : stripe_total origin ≤ stripe = omega (arith, c.loop-stripe-test.false, c.stripe_count-stripe-end.ensures) in
+    inr (inr (
+      refl,
+      (
+        done.0,
+        done.1,
+        λ same. true≢false (sym ((c.names.ensures done.0 done.2).1 same) ∙ c.if-not-names.true),
+        λ held source_held. record {
+          length_is = whole_length stripe (stripe_width origin) origin.length (length done.0) (ends_at origin c.args.layout.possible stripe least) done.3.long;
+          begins = λ s within. done.3.split s (omega (arith, within, least));
+          given = λ s within. (done.4 held source_held).1 s (omega (arith, within, least));
+        },
+      ),
+    ))
+
+pub returns-in_err-group-clause-enough : goal.returns-in_err-group-clause-enough
+returns-in_err-group-clause-enough g c =
+    λ held wholes source_held gives.
+    let stripe = c.loop-stripe.stripe in
+    let within : stripe < stripe_total c.args.layout.origin = omega (arith, c.loop-stripe-test.true, c.stripe_count-stripe-end.ensures) in
+    let error = err_from_is_err_and c.from_residual-in_err-group.result c.from_residual-in_err-group.ensures.1 in
+    rw (error.1, error.2) (not_few_join c.in_err-group.field-0.0
+    (c.in_err-group.ensures.granted held (wholes stripe) (c.loop-stripe.invariant.0.4 held source_held).0 (gives stripe within)))

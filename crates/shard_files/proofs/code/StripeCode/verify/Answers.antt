@@ -3,16 +3,16 @@ use Rattle.shard_files.specs.Codes.{AreTransformWords, IsStripeWord}
 use Rattle.shard_files.proofs.KnownCodes.{if_ok, is_transform, matrix_word, transform_word}
 use Rattle.shard_files.proofs.code.StripeCode.verify.Goals as goal
 
-pub returns-then-self-eq-MATRIX : goal.returns-then-self-eq-MATRIX
-returns-then-self-eq-MATRIX c =
+pub returns-then-self-eq-MATRIX-clause-told : goal.returns-then-self-eq-MATRIX-clause-told
+returns-then-self-eq-MATRIX-clause-told c =
     let code = c.args.self.now in (
       λ is. inl (c.if-self-eq-MATRIX.true, c.verify_by_matrix.ensures.0 is),
       λ word. c.verify_by_matrix.ensures.1
           (matrix_word code.number code.data_shards code.parity_shards code.size c.args.shards.now c.if-self-eq-MATRIX.true word),
     )
 
-pub returns-else-self-eq-MATRIX : goal.returns-else-self-eq-MATRIX
-returns-else-self-eq-MATRIX c =
+pub returns-else-self-eq-MATRIX-clause-told : goal.returns-else-self-eq-MATRIX-clause-told
+returns-else-self-eq-MATRIX-clause-told c =
     let code = c.args.self.now in
     let shards = c.args.shards.now in
     let other = c.if-self-eq-MATRIX.false in

@@ -11,4 +11,7 @@ verify-requires c =
 pub returns-in-Ok-clause-answer : goal.returns-in-Ok-clause-answer
 returns-in-Ok-clause-answer c =
     let group = c.args.self.now in
-    told_whole group.layout group.shards.items c.as_slice.result.now c.as_slice.ensures.value c.in-Ok.ensures
+    told_whole group.layout group.shards.items c.as_slice.result.now c.as_slice.ensures.value c.in-Ok.ensures.told
+
+pub returns-in-Err-clause-sure : goal.returns-in-Err-clause-sure
+returns-in-Err-clause-sure c = λ matrix. c.in-Err.ensures.sure (c.args.self.now.layout.made.0 ∙ matrix)

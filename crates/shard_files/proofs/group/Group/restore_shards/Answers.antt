@@ -42,3 +42,6 @@ returns-in-Err-clause-same c =
     let new = c.restore.new.shards in
     let long = c.restore.ensures.long ∙ ap length c.as_mut_slice-shards.ensures.value ∙ sym group.shards.ok.0 in
     take_at new _ group.shards.len long ∙ c.in-Err.ensures.same ∙ c.as_mut_slice-shards.ensures.value
+
+pub returns-in-Err-clause-sure : goal.returns-in-Err-clause-sure
+returns-in-Err-clause-sure c = λ matrix. c.in-Err.ensures.sure (c.args.self.now.layout.made.0 ∙ matrix)
