@@ -60,7 +60,7 @@ module _ (size index : ℕ) (shard old : List ℕ) (sized : length shard ≡ siz
             (drop-put_mid (index * size) size old shard (other * size) (before index other size (omega (arith, high, apart))) (omega (arith, room)) sized)
       ]
 
-same_or_not : (a b : ℕ) → (a ≡ b) ⊎ (a ≢ b)
+pub same_or_not : (a b : ℕ) → (a ≡ b) ⊎ (a ≢ b)
 same_or_not a b =
     elim (cases_lt a b) [
       | inl low ↦ inr (omega (arith, low))

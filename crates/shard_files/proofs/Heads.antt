@@ -149,3 +149,14 @@ head_written head fields long size digest a b c d e f fields_are long_is size_is
     (Appends-trans a d e (begin ++ to_le_bytes w64 head.origin.length ++ to_le_bytes w64 head.origin.size) head.origin.identity
     (Appends-trans a c d (begin ++ to_le_bytes w64 head.origin.length) (to_le_bytes w64 head.origin.size)
     (Appends-trans a b c begin (to_le_bytes w64 head.origin.length) first second) third) four) last
+
+-- ---- heads of the same bytes
+
+index_read : (head : Head) → IsHead head → from_le_bytes w32 (take 4 (drop 20 (head_file head))) ≡ head.index
+index_read head is =
+    ap (λ (l : List ℕ). from_le_bytes w32 (take 4 (drop 20 l))) (parts head) ∙ from_le_bytes-to_le_bytes_4 head.index is.index_fits
+
+-- they are of one number
+pub same_index : (one other : Head) → IsHead one → IsHead other → head_file one ≡ head_file other → one.index ≡ other.index
+same_index one other first second same =
+    sym (index_read one first) ∙ ap (λ (l : List ℕ). from_le_bytes w32 (take 4 (drop 20 l))) same ∙ index_read other second

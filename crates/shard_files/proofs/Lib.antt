@@ -2,6 +2,7 @@ mod Appended
 mod Faults
 mod Groups
 mod Heads
+mod InMemory
 mod Joined
 mod KnownCodes
 mod Layouts

@@ -16,13 +16,13 @@ use Rattle.shard_files.proofs.Written.{piece_of, piece_there}
 module _ (origin : Origin) (content : List ℕ) (wholes : List (List ℕ)) (files : Holdings) (possible : IsPossible origin) (fits : IsOrigin origin)
     (are : AreShards origin content wholes)
   where
-    head_there : (index : ℕ) → index < shard_total origin → take 104 (shard_file origin wholes index) ≡ head_file (numbered origin index)
+    pub head_there : (index : ℕ) → index < shard_total origin → take 104 (shard_file origin wholes index) ≡ head_file (numbered origin index)
     unfolding shard_file
     head_there index inside =
         take_at (head_file (numbered origin index)) (pieces_from (numbered origin index) 0 wholes) 104
         (bytes_count (head_file (numbered origin index)) (numbered origin index) refl fits.identity_size)
 
-    piece_at : (index stripe : ℕ) → index < shard_total origin → stripe < stripe_total origin
+    pub piece_at : (index stripe : ℕ) → index < shard_total origin → stripe < stripe_total origin
         → take (32 + origin.size) (drop (piece_start origin stripe) (shard_file origin wholes index))
         ≡ piece_of (numbered origin index) stripe (get_or wholes stripe [])
     unfolding shard_file

@@ -41,9 +41,10 @@ pub record IsAppended (index : ℕ) (bytes : List ℕ) (before after : ℕ → L
   pub grown : after index ≡ before index ++ bytes
   pub others : (other : ℕ) → other ≢ index → after other ≡ before other
 
--- to the file of each of the first `count` numbers its bytes were added
-abbrev pub AppendsToEach : ℕ → (ℕ → List ℕ) → (ℕ → List ℕ) → (ℕ → List ℕ) → Type 0
-AppendsToEach count bytes before after = (index : ℕ) → index < count → after index ≡ before index ++ bytes index
+-- to the file of each of the first `count` numbers its bytes were added, and none to any other
+pub record AppendsToEach (count : ℕ) (bytes : ℕ → List ℕ) (before after : ℕ → List ℕ) : Type 0 where
+  pub grown : (index : ℕ) → index < count → after index ≡ before index ++ bytes index
+  pub others : (index : ℕ) → count ≤ index → after index ≡ before index
 
 -- to the file of each of the first `count` numbers that is lost its bytes were added, and none to any other
 pub record AppendsToLost (count : ℕ) (lost : List Bool) (bytes : ℕ → List ℕ) (before after : ℕ → List ℕ) : Type 0 where

@@ -3,6 +3,7 @@ pub mod Faults
 pub mod Files
 pub mod Groups
 pub mod Heads
+pub mod Memory
 pub mod Pieces
 pub mod RoundTrip
 pub mod Splits

@@ -203,6 +203,13 @@ fn rest_of(bytes: &[u8], count: usize) -> &[u8]
     }
 }
 
+/// Whether a flag is set; none is past the end.
+pub(crate) fn is_set(flags: &[bool], index: usize) -> bool
+    ensures { result ≡ slice_index_or flags.now index false }
+{
+    index < flags.len() && flags[index]
+}
+
 // Flags of so many shards, none of which is at hand.
 fn absent(alloc: Global, total: usize) -> Result<Vec<bool>, AllocError>
     ensures { IfOk result (λ flags. flags.items ≡ replicate total false) }

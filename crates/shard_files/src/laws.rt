@@ -1,5 +1,6 @@
 // Laws; these functions compute nothing.
 ghost use Rattle.std.specs.Prelude.{ℕ, ◌*◌, ◌<◌, ◌≤◌};
+ghost use Rattle.shard_files.specs.Memory.{LossesLeaveEnough};
 ghost use Rattle.shard_files.specs.RoundTrip.{FilesAreOne, ShardsReturn, SplitsAreOne};
 ghost use Rattle.shard_files.specs.Stripes.{part_count};
 
@@ -11,6 +12,13 @@ use transform_codes::shards_determine;
 /// file.
 pub fn shards_return()
     ensures { ShardsReturn }
+{}
+
+/// Computes nothing; its contract is the law that files in memory, of which no more are lost than there are shards of parity and no byte is
+/// changed, are enough to join and to repair from: a file that is not there gives no shard, and each other gives its own alone. Nothing is
+/// assumed of digests.
+pub fn losses_leave_enough()
+    ensures { LossesLeaveEnough }
 {}
 
 /// Computes nothing; its contract is the law that bytes are split in one way alone: all shards that two splits of a stripe give by one

@@ -1,7 +1,8 @@
-use Rattle.std.proofs.Common.{arith}
+use Rattle.std.proofs.Common.{◌≡◌, arith}
 use Rattle.shard_files.specs.Groups.{numbered}
 use Rattle.shard_files.specs.Heads.{head_file}
-use Rattle.shard_files.proofs.Appended.{appends_more, appends_none}
+use Rattle.shard_files.specs.Stripes.{shard_total}
+use Rattle.shard_files.proofs.Appended.{appends_all, appends_more, appends_none}
 use Rattle.shard_files.proofs.writing.put_heads.Goals as goal
 
 pub loop-index-init : goal.loop-index-init
@@ -17,5 +18,7 @@ loop-index-preserved g c =
 pub returns-clause-put : goal.returns-clause-put
 returns-clause-put g c =
     λ before held.
+    let origin = c.args.layout.now.origin in
     let all = c.loop-index.invariant before held in
-    (all.0, all.1, λ index below. all.2.grown index (omega (arith, below, c.loop-index-test.false, c.total-index-end.ensures)))
+    let done : c.loop-index.index ≡ shard_total origin = omega (arith, c.loop-index-test.false, c.loop-index.auto.index-end, c.total-index-end.ensures) in
+    (all.0, all.1, appends_all c.loop-index.index (shard_total origin) (λ index. head_file (numbered origin index)) before all.0 done all.2)

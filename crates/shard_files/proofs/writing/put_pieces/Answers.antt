@@ -1,9 +1,10 @@
-use Rattle.std.proofs.Common.{ℕ, List, subst, arith}
+use Rattle.std.proofs.Common.{◌≡◌, ℕ, List, subst, arith}
 use Rattle.shard_files.specs.Files.{IsAppended}
 use Rattle.shard_files.specs.Groups.{numbered, shard_at}
 use Rattle.shard_files.specs.Heads.{head_digest}
 use Rattle.shard_files.specs.Pieces.{piece_bytes}
-use Rattle.shard_files.proofs.Appended.{appends_more, appends_none}
+use Rattle.shard_files.specs.Stripes.{shard_total}
+use Rattle.shard_files.proofs.Appended.{appends_all, appends_more, appends_none}
 use Rattle.shard_files.proofs.writing.put_pieces.Goals as goal
 
 pub loop-index-init : goal.loop-index-init
@@ -29,5 +30,8 @@ loop-index-preserved g c =
 pub returns-clause-put : goal.returns-clause-put
 returns-clause-put g c =
     λ before held.
+    let origin = c.args.layout.now.origin in
+    let bytes : ℕ → List ℕ = λ n. piece_bytes (head_digest (numbered origin n)) c.args.stripe (shard_at origin.size c.args.shards.now n) in
     let all = c.loop-index.invariant before held in
-    (all.0, all.1, λ index below. all.2.grown index (omega (arith, below, c.loop-index-test.false, c.total-index-end.ensures)))
+    let done : c.loop-index.index ≡ shard_total origin = omega (arith, c.loop-index-test.false, c.loop-index.auto.index-end, c.total-index-end.ensures) in
+    (all.0, all.1, appends_all c.loop-index.index (shard_total origin) bytes before all.0 done all.2)

@@ -1,10 +1,12 @@
-use Rattle.std.proofs.Common.{◌<◌, inr, List, ℕ, [], ◌∷◌, ◌++◌, refl, sym, ◌∙◌, ap, append_assoc, subst, arith}
+use Rattle.std.proofs.Common.{◌<◌, inr, [], ◌∷◌, ◌++◌, refl, sym, subst, arith}
 use Rattle.std.specs.Io.KnownBytes.{Consumes}
 use Rattle.std.proofs.KnownBytes.{Consumes-nil, Consumes-trans}
 use Rattle.shard_files.specs.Files.{shard_file}
 use Rattle.shard_files.specs.Groups.{AreHeadDigests, numbered}
+use Rattle.shard_files.specs.Heads.{head_file}
 use Rattle.shard_files.specs.Splits.{IsSplit}
 use Rattle.shard_files.specs.Stripes.{shard_total, stripe_total}
+use Rattle.shard_files.proofs.Appended.{appends_same, appends_twice}
 use Rattle.shard_files.proofs.Written.{file_more, file_none, moved_other, piece_of, split_all, split_more, split_none}
 use Rattle.shard_files.proofs.writing.write_shards.Goals as goal
 
@@ -17,8 +19,12 @@ loop-stripe-init g c =
       c.new-hasher.ensures,
       split_none (IsSplit origin) origin,
       λ before held.
-          let put = c.in_ok-put_heads.ensures.put before held in
-          (put.0, put.1, λ index below. put.2 index below ∙ ap (λ (l : List ℕ). before index ++ l) (sym (file_none origin index))),
+          let put = c.in_ok-put_heads.ensures.put before held in (
+            put.0,
+            put.1,
+            appends_same (shard_total origin) (λ index. head_file (numbered origin index)) (shard_file origin []) before put.0
+                (λ index below. file_none origin index) put.2,
+          ),
     )
 
 pub write_stripe-requires-clause-heads : goal.write_stripe-requires-clause-heads
@@ -44,12 +50,11 @@ loop-stripe-preserved g c =
           let put = wrote.7 so_far.0 so_far.1 in (
             put.0,
             put.1,
-            λ index below.
-                put.2 index below
-                ∙ ap (λ (l : List ℕ). l ++ piece_of (numbered origin index) stripe wrote.1) (so_far.2 index below)
-                ∙ append_assoc (before index) (shard_file origin old.1 index) (piece_of (numbered origin index) stripe wrote.1)
-                ∙ ap (λ (l : List ℕ). before index ++ l)
-                (sym (file_more (IsSplit origin) origin c.args.layout.possible stripe within old.0 wrote.0 wrote.1 old.1 old.4 wrote.2 wrote.3 wrote.4 index)),
+            appends_twice (shard_total origin) (shard_file origin old.1) (λ index. piece_of (numbered origin index) stripe wrote.1)
+                (shard_file origin (old.1 ++ wrote.1 ∷ [])) before so_far.0 put.0
+                (λ index below.
+                file_more (IsSplit origin) origin c.args.layout.possible stripe within old.0 wrote.0 wrote.1 old.1 old.4 wrote.2 wrote.3 wrote.4 index)
+                so_far.2 put.2,
           ),
     )
 

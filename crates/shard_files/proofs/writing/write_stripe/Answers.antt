@@ -1,9 +1,11 @@
-use Rattle.std.proofs.Common.{◌≡◌, ◌++◌, ℕ, List, ◌∙◌, subst}
+use Rattle.std.proofs.Common.{◌++◌, ℕ, List, ◌∙◌, subst}
 use Rattle.sha2.specs.Hashers.{Holds256}
+use Rattle.shard_files.specs.Files.{AppendsToEach}
 use Rattle.shard_files.specs.Groups.{numbered, shard_at}
 use Rattle.shard_files.specs.Heads.{head_digest}
 use Rattle.shard_files.specs.Pieces.{piece_bytes}
 use Rattle.shard_files.specs.Splits.{IsSplit}
+use Rattle.shard_files.specs.Stripes.{shard_total}
 use Rattle.shard_files.proofs.writing.write_stripe.Goals as goal
 
 pub returns-clause-written : goal.returns-clause-written
@@ -22,8 +24,8 @@ returns-clause-written g c =
           let put = c.in_ok-put_pieces.ensures.put before held in (
             put.0,
             put.1,
-            λ index below.
-                subst (λ (l : List ℕ). put.0 index ≡ before index ++ piece_bytes (head_digest (numbered origin index)) c.args.stripe (shard_at origin.size l index))
-                c.as_slice-3.ensures.value (put.2 index below),
+            subst (λ (l : List ℕ). AppendsToEach (shard_total origin)
+                (λ index. piece_bytes (head_digest (numbered origin index)) c.args.stripe (shard_at origin.size l index)) before put.0)
+                c.as_slice-3.ensures.value put.2,
           ),
     )
