@@ -28,6 +28,10 @@ fn cut_rows(matrix: &mut [u64], shape: Shape, column: usize)
     ensures entries { (i j : ℕ) → i < shape.rows → j < 64 * shape.words
         → bit_entry shape.words matrix.new i j ≡ kept_before column (bit_entry shape.words matrix.old i) j }
 {
+    // Without columns there may be more rows than memory has places.
+    if shape.words == 0 {
+        return;
+    }
     for row in 0..shape.rows {
         cut_row(matrix, shape, row, column);
     }

@@ -27,6 +27,10 @@ pub fn multiply_into(
     ensures product { IsMatrixProduct (tower_mul 0) rows inner (64 * words_for columns) (bit_entry (words_for inner) left.now)
         (bit_entry (words_for columns) right.now) (bit_entry (words_for columns) target.new) }
 {
+    // Without rows there may be more columns than memory has places.
+    if rows == 0 {
+        return;
+    }
     let words = columns.div_ceil(64);
     multiply_words(target, left, right, rows, inner, words);
 }

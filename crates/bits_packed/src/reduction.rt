@@ -16,7 +16,8 @@ use crate::rows::{Shape, add_entry, add_row, entry, place};
 
 /// Brings a matrix of `rows` rows of `columns` bits to reduced row echelon form, and returns its rank, which is the number of rows that
 /// are not 0. Place i of `pivots`, which has to have as many places as there are rows, is then the column of the leading entry of row i,
-/// for each i below the rank. Bits behind the columns go through the same sums of rows, so they are 0 where they were. It takes no memory.
+/// for each i below the rank; the places from the rank on stay. Bits behind the columns go through the same sums of rows, so they are 0
+/// where they were. It takes no memory.
 pub fn row_reduce(matrix: &mut [u64], rows: usize, columns: usize, pivots: &mut [usize]) -> usize
     requires shape { length matrix.old ≡ rows * words_for columns }
     requires room { length pivots.old ≡ rows }
@@ -65,6 +66,10 @@ pub(crate) fn reduce_words(
     let mut rank = 0;
     let strips = count.div_ceil(64);
     for index in 0..strips {
+        // No row is left that could have a pivot, so that further columns need none.
+        if rank == shape.rows {
+            return rank;
+        }
         let from = 64 * index;
         let to = strip_end(count, from);
         rank = reduce_strip(matrix, shape, rank, from, to, pivots);
@@ -98,8 +103,9 @@ fn reduce_strip(
     requires few { to ≤ from + 64 }
     requires within { to ≤ 64 * shape.words }
     requires reduced { IsReducedEchelon shape.rows from rank (slice_index pivots.old) (bit_entry shape.words matrix.old) }
-    ensures { AreRowsReduced (bit_entry shape.words) (tower_mul 0) shape.rows (64 * shape.words) to result matrix.old matrix.new
+    ensures reduced { AreRowsReduced (bit_entry shape.words) (tower_mul 0) shape.rows (64 * shape.words) to result matrix.old matrix.new
         pivots.old pivots.new }
+    ensures grows { rank ≤ result }
 {
     let mut places = [shape.rows; 64];
     let mut found = rank;
@@ -131,6 +137,8 @@ fn reduce_column(
     ensures places { ArePivotPlaces shape.rows result (column % 64 + 1) (slice_index places.new) }
     ensures reduced { IsReducedEchelon shape.rows (column + 1) result (slice_index pivots.new)
         (present_bit shape.rows shape.words column places.new matrix.new) }
+    ensures grows { rank ≤ result }
+    ensures rest { (i : ℕ) → result ≤ i → slice_index pivots.new i ≡ slice_index pivots.old i }
     ensures space { HaveSameRowSpace (tower_mul 0) shape.rows (64 * shape.words)
         (present_bit shape.rows shape.words column places.old matrix.old)
         (present_bit shape.rows shape.words column places.new matrix.new) }

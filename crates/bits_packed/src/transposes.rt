@@ -17,6 +17,10 @@ pub fn transpose_into(target: &mut [u64], source: &[u64], rows: usize, columns: 
         → bit_entry (words_for rows) target.new i j ≡ bit_entry (words_for columns) source.now j i }
     ensures behind { (i j : ℕ) → i < columns → rows ≤ j → j < 64 * words_for rows → bit_entry (words_for rows) target.new i j ≡ 0 }
 {
+    // Without columns there may be more rows than memory has places.
+    if columns == 0 {
+        return;
+    }
     let from = Shape {
         rows,
         words: columns.div_ceil(64),

@@ -313,6 +313,19 @@ echelon_skip rows column rank pivot A zeros so_far = record {
       below_more (λ k. A i k ≡ 0) column (λ k before. so_far.zero_rows i k past within before) (zeros i past within) j inside;
 }
 
+-- where each row has its pivot the form is that of any more columns
+pub echelon_full : (rows column count rank : ℕ) (pivot : ℕ → ℕ) (A : ℕ → ℕ → ℕ) → rank ≡ rows → column ≤ count
+    → IsReducedEchelon rows column rank pivot A → IsReducedEchelon rows count rank pivot A
+echelon_full rows column count rank pivot A full more so_far = record {
+  rank_fits = so_far.rank_fits;
+  pivots_fit = λ i below. let fits = so_far.pivots_fit i below in omega (arith, fits, more);
+  pivots_rise = so_far.pivots_rise;
+  leading = so_far.leading;
+  zeros_before = so_far.zeros_before;
+  alone = so_far.alone;
+  zero_rows = λ i j past within inside. absurd (omega (arith, full, past, within));
+}
+
 -- a column with a pivot adds a row
 module _ (rows column rank : ℕ) (pivot pivot_next : ℕ → ℕ) (A B : ℕ → ℕ → ℕ) (rank_within : rank < rows)
     (keeps : (i : ℕ) → i < rank → pivot_next i ≡ pivot i) (adds : pivot_next rank ≡ column)

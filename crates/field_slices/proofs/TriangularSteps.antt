@@ -1,5 +1,5 @@
 -- A column more of a decomposition into triangular matrices: an exchange of two rows, and multiples of a row added to those below it.
-use Rattle.std.proofs.Common.{◌≡◌, ◌≢◌, ◌⊎◌, inl, inr, ℕ, suc, ◌+◌, ◌^◌, ◌<◌, ◌≤◌, Bool, List, length, refl, sym, subst, ◌∙◌, ap, ap₂, arith}
+use Rattle.std.proofs.Common.{◌≡◌, ◌≢◌, ◌⊎◌, inl, inr, ℕ, suc, ◌+◌, ◌^◌, ◌<◌, ◌≤◌, min, Bool, List, length, refl, sym, subst, ◌∙◌, ap, ap₂, arith}
 use Rattle.std.specs.Prelude.{bit_xor, if◌then◌else◌, nat_lt}
 use Rattle.std.proofs.lemmas.Bool.{cases_eq, cases_lt, lt-ltb, le-ltb}
 use lib.Bits.{xor_self, xor_zero_r, xor_zero_l}
@@ -70,6 +70,16 @@ module _ (width : ℕ) (times : ℕ → ℕ → ℕ) (ring : IsRing width 1 time
             ∙ zero-times width 1 times ring (F k) ∙ sym (front-past c F k behind)
 
 -- ---- a decomposition, and two rows exchanged
+
+-- columns past as many as there are rows have no entry below the diagonal
+pub decomposition-whole : (times : ℕ → ℕ → ℕ) (rows columns n : ℕ) (A : ℕ → ℕ → ℕ) (place : ℕ → ℕ) (L U : ℕ → ℕ → ℕ) → n ≡ min columns rows
+    → IsDecomposition times rows columns n A place L U → IsDecomposition times rows columns columns A place L U
+decomposition-whole times rows columns n A place L U is so_far = record {
+  lower = so_far.lower;
+  rest = λ i j inside past within. so_far.rest i j inside (omega (arith, is, past)) within;
+  upper = λ i j order inside within. so_far.upper i j order inside (omega (arith, is, order, inside, within));
+  product = so_far.product;
+}
 
 module _ (width : ℕ) (times : ℕ → ℕ → ℕ) (ring : IsRing width 1 times) (rows columns : ℕ) where
   -- at first nothing is exchanged, and L is the identity matrix

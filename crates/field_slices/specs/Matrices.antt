@@ -72,12 +72,13 @@ pub record IsReducedEchelon (rows columns rank : ℕ) (pivot : ℕ → ℕ) (A :
   pub zero_rows : (i j : ℕ) → rank ≤ i → i < rows → j < columns → A i j ≡ 0
 
 -- row operations made what a list reads as, a matrix, one whose first `count` columns are in reduced row echelon form, of this rank, and
--- `pivots`, a list of as many places as before, begins with the columns of the leading entries
+-- `pivots`, a list of as many places as before, begins with the columns of the leading entries, and is behind these as it was
 pub record AreRowsReduced {V : Type 0} (read : List V → ℕ → ℕ → ℕ) (times : ℕ → ℕ → ℕ) (rows columns count rank : ℕ) (old now : List V)
     (was pivots : List ℕ) : Type 0 where
   pub shape : length now ≡ length old
   pub room : length pivots ≡ length was
   pub reduced : IsReducedEchelon rows count rank (slice_index pivots) (read now)
+  pub rest : (i : ℕ) → rank ≤ i → slice_index pivots i ≡ slice_index was i
   pub space : HaveSameRowSpace times rows columns (read old) (read now)
 
 -- a row space has one matrix in reduced row echelon form: two of the same space have the same rank, the same columns of leading entries,

@@ -34,6 +34,10 @@ pub fn copy_columns<S: Scalars>(target: &mut [S::Value], source: &[S::Value], co
         ≡ put_entry copy.to copy.count (λ k. entry_of S.number copy.columns source.now i (copy.from + k))
         (entry_of S.number copy.target_columns target.old i) j }
 {
+    // Without columns there may be more rows than memory has places.
+    if copy.target_columns == 0 {
+        return;
+    }
     for row in 0..copy.rows {
         copy_row::<S>(target, source, copy, row);
     }

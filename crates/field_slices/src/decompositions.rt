@@ -34,7 +34,9 @@ pub fn plu_decompose<S: Scalars>(
     let shape = Shape { rows, columns };
     identity_into::<S>(lower, rows);
     count_up(order);
-    for column in 0..columns {
+    // Columns past as many as there are rows have no entry below the diagonal.
+    let steps = columns.min(rows);
+    for column in 0..steps {
         decompose_column::<S>(matrix, shape, column, lower, order);
     }
 }

@@ -23,6 +23,10 @@ pub fn multiply_into<S: Scalars>(
     ensures product { IsMatrixProduct S.product rows inner columns (entry_of S.number inner left.now)
         (entry_of S.number columns right.now) (entry_of S.number columns target.new) }
 {
+    // Without columns there may be more rows than memory has places.
+    if columns == 0 {
+        return;
+    }
     let shape = Shape { rows, columns };
     for row in 0..rows {
         write_product_row::<S>(target, shape, left, right, inner, row);
@@ -91,6 +95,10 @@ pub fn transpose_into<S: Scalars>(
     ensures entries { (i j : ℕ) → i < columns → j < rows
         → entry_of S.number rows target.new i j ≡ entry_of S.number columns source.now j i }
 {
+    // Without rows there may be more columns than memory has places.
+    if rows == 0 {
+        return;
+    }
     let shape = Shape { rows, columns };
     for row in 0..columns {
         write_transposed_row::<S>(target, source, shape, row);

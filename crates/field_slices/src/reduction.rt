@@ -8,7 +8,7 @@ use crate::scalars::Scalars;
 
 /// Brings a matrix of `rows` rows of `columns` entries to reduced row echelon form, and returns its rank, which is the number of rows
 /// that are not 0. Place i of `pivots`, which has to have as many places as there are rows, is then the column of the leading entry of row
-/// i, for each i below the rank. It takes no memory.
+/// i, for each i below the rank; the places from the rank on stay. It takes no memory.
 pub fn row_reduce<S: Scalars>(
     matrix: &mut [S::Value],
     rows: usize,
@@ -39,6 +39,10 @@ pub fn row_reduce_augmented<S: Scalars>(
     let shape = Shape { rows, columns };
     let mut rank = 0;
     for column in 0..count {
+        // No row is left that could have a pivot, so that further columns need none.
+        if rank == rows {
+            return rank;
+        }
         rank = reduce_column::<S>(matrix, shape, rank, column, pivots);
     }
     rank
@@ -56,8 +60,9 @@ fn reduce_column<S: Scalars>(
     requires room { length pivots.old ≡ shape.rows }
     requires column { column < shape.columns }
     requires reduced { IsReducedEchelon shape.rows column rank (slice_index pivots.old) (entry_of S.number shape.columns matrix.old) }
-    ensures { AreRowsReduced (entry_of S.number shape.columns) S.product shape.rows shape.columns (column + 1) result matrix.old matrix.new
-        pivots.old pivots.new }
+    ensures reduced { AreRowsReduced (entry_of S.number shape.columns) S.product shape.rows shape.columns (column + 1) result
+        matrix.old matrix.new pivots.old pivots.new }
+    ensures grows { rank ≤ result }
 {
     match find_pivot::<S>(matrix, shape, rank, column) {
         None => rank,

@@ -19,3 +19,6 @@ loop-row-preserved c =
 
 pub returns-clause-entries : goal.returns-clause-entries
 returns-clause-entries c = λ i j below inside. c.loop-row.invariant.done i j (omega (arith, below)) inside
+
+pub returns-then-shape-eq0-clause-entries : goal.returns-then-shape-eq0-clause-entries
+returns-then-shape-eq0-clause-entries c = λ i j below inside. absurd (omega (arith, inside, c.if-shape-eq0.true))

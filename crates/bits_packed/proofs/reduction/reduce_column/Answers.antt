@@ -1,5 +1,6 @@
 use Rattle.std.proofs.Common.{◌*◌, ◌%◌, ◌∙◌, refl, arith}
 use Rattle.std.specs.Prelude.{slice_index}
+use Rattle.std.proofs.lemmas.List.{get_or-set_other}
 use Rattle.field_base.specs.BitRingLemmas.{bits_ring}
 use Rattle.field_base.specs.Tower.{tower_mul}
 use Rattle.field_slices.proofs.Elimination.{echelon_noted, echelon_skip}
@@ -37,3 +38,7 @@ returns-in-Some-clause-reduced c =
     echelon_noted c.args.shape.rows (64 * c.args.shape.words) c.args.column c.args.rank c.in-Some.row c.args.pivots.now
     (now c.args.places.now c.args.matrix.now) (now c.make_pivot.new.places c.make_pivot.new.matrix) c.in-Some.ensures.inside c.requires.room
     c.requires.column made.leading made.alone made.stays c.requires.reduced
+
+pub returns-in-Some-clause-rest : goal.returns-in-Some-clause-rest
+returns-in-Some-clause-rest c = λ i past.
+    get_or-set_other c.args.pivots.now c.args.rank i c.args.column 0 (λ e. absurd (omega (arith, e, past)))

@@ -26,6 +26,8 @@ loop-column-init c =
           (λ i j inside fits. same i j) c.args.rank (slice_index c.args.pivots.now) c.requires.reduced,
       space_equal rows (64 * words) old (present_bit rows words c.args.from (replicate 64 rows) c.args.matrix.now)
           (λ i j inside fits. same i j) (tower_mul 0),
+      omega arith,
+      λ i past. refl,
     )
 
 pub reduce_column-found-requires-clause-shape : goal.reduce_column-found-requires-clause-shape
@@ -71,6 +73,8 @@ loop-column-preserved c =
           (subst (λ (n : ℕ). HaveSameRowSpace (tower_mul 0) rows (64 * words)
           (present_entry rows (64 * n) (slice_index c.loop-column.places) before)
           (present_entry rows (64 * n) (slice_index c.reduce_column-found.new.places) after)) word step.space),
+      omega (arith, so_far.5, step.grows),
+      λ i past. step.rest i past ∙ so_far.6 i (omega (arith, step.grows, past)),
     )
 
 pub add_sums-requires-clause-shape : goal.add_sums-requires-clause-shape
@@ -79,8 +83,11 @@ add_sums-requires-clause-shape c = c.loop-column.invariant.0 ∙ c.requires.shap
 pub add_sums-requires-clause-word : goal.add_sums-requires-clause-word
 add_sums-requires-clause-word c = omega (arith, c.requires.within, c.requires.more)
 
-pub returns : goal.returns
-returns c =
+pub returns-clause-grows : goal.returns-clause-grows
+returns-clause-grows c = c.loop-column.invariant.5
+
+pub returns-clause-reduced : goal.returns-clause-reduced
+returns-clause-reduced c =
     let rows = c.args.shape.rows in
     let words = c.args.shape.words in
     let now = present_bit rows words c.args.from c.loop-column.places c.loop-column.matrix in
@@ -92,6 +99,7 @@ returns c =
           (λ i j inside fits. c.add_sums.ensures.entries i j inside (omega (arith, fits, c.requires.within))) c.loop-column.found
           (slice_index c.loop-column.pivots)
           (subst (λ (n : ℕ). IsReducedEchelon rows n c.loop-column.found (slice_index c.loop-column.pivots) now) all c.loop-column.invariant.3);
+      rest = c.loop-column.invariant.6;
       space = space_then 1 (tower_mul 0) bits_ring rows (64 * words) (bit_entry words c.args.matrix.now) now
           (bit_entry words c.add_sums.new.matrix) c.loop-column.invariant.4
           (space_equal rows (64 * words) now (bit_entry words c.add_sums.new.matrix)

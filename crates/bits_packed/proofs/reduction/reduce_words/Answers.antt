@@ -5,7 +5,7 @@ use Rattle.field_base.specs.BitRingLemmas.{bits_ring}
 use Rattle.field_base.specs.Tower.{tower_mul}
 use Rattle.field_slices.specs.Matrices.{IsReducedEchelon}
 use Rattle.field_slices.proofs.RowSpaces.{space_same, space_then}
-use Rattle.field_slices.proofs.Elimination.{echelon_start}
+use Rattle.field_slices.proofs.Elimination.{echelon_full, echelon_start}
 use Rattle.bits_packed.specs.BitMatrices.{bit_entry}
 use Rattle.bits_packed.proofs.reduction.reduce_words.Goals as goal
 
@@ -18,7 +18,20 @@ loop-index-init c =
       subst (λ (n : ℕ). IsReducedEchelon c.args.shape.rows n 0 (slice_index c.args.pivots.now) old) none
           (echelon_start c.args.shape.rows (slice_index c.args.pivots.now) old),
       space_same 1 (tower_mul 0) bits_ring c.args.shape.rows (64 * c.args.shape.words) old,
+      λ i past. refl,
     )
+
+pub returns-then-rank-shape : goal.returns-then-rank-shape
+returns-then-rank-shape c =
+    record {
+      shape = c.loop-index.invariant.0;
+      room = c.loop-index.invariant.1;
+      reduced = echelon_full c.args.shape.rows (min (64 * c.loop-index.index) c.args.count) c.args.count c.loop-index.rank
+          (slice_index c.loop-index.pivots) (bit_entry c.args.shape.words c.loop-index.matrix) c.if-rank-shape.true (omega arith)
+          c.loop-index.invariant.2;
+      rest = c.loop-index.invariant.4;
+      space = c.loop-index.invariant.3;
+    }
 
 pub strip_end-to-requires : goal.strip_end-to-requires
 strip_end-to-requires c =
@@ -40,7 +53,8 @@ reduce_strip-rank-requires-clause-reduced c =
 pub loop-index-preserved : goal.loop-index-preserved
 loop-index-preserved c =
     let words = c.args.shape.words in
-    let step = c.reduce_strip-rank.ensures in
+    let step = c.reduce_strip-rank.ensures.reduced in
+    let grows = c.reduce_strip-rank.ensures.grows in
     let so_far = c.loop-index.invariant in
     let next : c.strip_end-to.result ≡ min (64 * (c.loop-index.index + 1)) c.args.count = omega (arith, c.strip_end-to.ensures) in (
       step.shape ∙ so_far.0,
@@ -49,6 +63,7 @@ loop-index-preserved c =
           (bit_entry words c.reduce_strip-rank.new.matrix)) next step.reduced,
       space_then 1 (tower_mul 0) bits_ring c.args.shape.rows (64 * words) (bit_entry words c.args.matrix.now)
           (bit_entry words c.loop-index.matrix) (bit_entry words c.reduce_strip-rank.new.matrix) so_far.3 step.space,
+      λ i past. step.rest i past ∙ so_far.4 i (omega (arith, grows, past)),
     )
 
 pub returns : goal.returns
@@ -60,5 +75,6 @@ returns c =
       room = c.loop-index.invariant.1;
       reduced = subst (λ (n : ℕ). IsReducedEchelon c.args.shape.rows n c.loop-index.rank (slice_index c.loop-index.pivots)
           (bit_entry c.args.shape.words c.loop-index.matrix)) all c.loop-index.invariant.2;
+      rest = c.loop-index.invariant.4;
       space = c.loop-index.invariant.3;
     }

@@ -26,6 +26,7 @@ returns-clause-reduced c =
       shape = whole.shape;
       room = whole.room;
       reduced = whole.reduced;
+      rest = whole.rest;
       space = space_of_columns (tower_mul 0) c.args.rows (64 * words) columns (λ j. j) (λ j inside. omega (arith, inside, enough))
           (bit_entry words c.args.matrix.now) (bit_entry words c.reduce_words.new.matrix) whole.space;
     }

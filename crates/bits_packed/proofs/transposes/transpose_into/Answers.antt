@@ -45,3 +45,9 @@ returns-clause-behind c = λ i j inside past fits.
     in_words c.args.rows c.args.columns c.div_ceil.result c.div_ceil-2.result c.args.source.now c.transpose_words.new.target c.div_ceil.ensures
     c.div_ceil-2.ensures c.transpose_words.ensures.entries i j inside fits
     ∙ entry-none c.args.rows (bit_entry (words_for c.args.columns) c.args.source.now) j i past
+
+pub returns-then-columns-eq0-clause-entries : goal.returns-then-columns-eq0-clause-entries
+returns-then-columns-eq0-clause-entries c = λ i j inside fits. absurd (omega (arith, inside, c.if-columns-eq0.true))
+
+pub returns-then-columns-eq0-clause-behind : goal.returns-then-columns-eq0-clause-behind
+returns-then-columns-eq0-clause-behind c = λ i j inside past fits. absurd (omega (arith, inside, c.if-columns-eq0.true))

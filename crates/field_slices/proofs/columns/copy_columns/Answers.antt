@@ -25,3 +25,6 @@ loop-row-preserved g c =
 
 pub returns-clause-entries : goal.returns-clause-entries
 returns-clause-entries g c = rows_end c.loop-row.invariant c.args.copy.rows (omega arith)
+
+pub returns-then-copy-eq0-clause-entries : goal.returns-then-copy-eq0-clause-entries
+returns-then-copy-eq0-clause-entries g c = λ i j inside within. absurd (omega (arith, within, c.if-copy-eq0.true))

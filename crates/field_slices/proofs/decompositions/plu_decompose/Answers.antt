@@ -4,10 +4,9 @@ use Rattle.std.specs.List.{range_with_len}
 use Rattle.std.specs.List.Sorted.{IsPermutation}
 use Rattle.std.proofs.lemmas.List.FromFn.{get_or-range_with_len, length-range_with_len}
 use Rattle.std.proofs.lemmas.List.Sorted.{IsPermutation-refl, IsPermutation-trans, length_permutation}
-use Rattle.field_slices.specs.Decompositions.{IsDecomposition}
 use Rattle.field_slices.specs.Matrices.{entry_of}
 use Rattle.field_base.proofs.Places.{numbers-lt}
-use Rattle.field_slices.proofs.TriangularSteps.{decomposition-start}
+use Rattle.field_slices.proofs.TriangularSteps.{decomposition-start, decomposition-whole}
 use Rattle.field_slices.proofs.decompositions.plu_decompose.Goals as goal
 
 pub loop-column-init : goal.loop-column-init
@@ -32,6 +31,9 @@ loop-column-init g c =
           c.identity_into.ensures.entries,
     )
 
+pub decompose_column-requires-clause-column : goal.decompose_column-requires-clause-column
+decompose_column-requires-clause-column g c = omega (arith, c.min-steps.ensures)
+
 pub loop-column-preserved : goal.loop-column-preserved
 loop-column-preserved g c =
     let step = c.decompose_column.ensures in
@@ -48,10 +50,9 @@ loop-column-preserved g c =
 pub returns-clause-decomposed : goal.returns-clause-decomposed
 returns-clause-decomposed g c =
     let number = g.S.Scalars.number in
-    let all : c.loop-column.column ≡ c.args.columns = omega arith in
-    subst (λ (n : ℕ). IsDecomposition g.S.Scalars.product c.args.rows c.args.columns n (entry_of number c.args.columns c.args.matrix.now)
-    (slice_index c.loop-column.order) (entry_of number c.args.rows c.loop-column.lower)
-    (entry_of number c.args.columns c.loop-column.matrix)) all c.loop-column.invariant.4
+    decomposition-whole g.S.Scalars.product c.args.rows c.args.columns c.loop-column.column
+    (entry_of number c.args.columns c.args.matrix.now) (slice_index c.loop-column.order) (entry_of number c.args.rows c.loop-column.lower)
+    (entry_of number c.args.columns c.loop-column.matrix) (omega (arith, c.min-steps.ensures)) c.loop-column.invariant.4
 
 pub returns-clause-order : goal.returns-clause-order
 returns-clause-order g c = c.loop-column.invariant.3

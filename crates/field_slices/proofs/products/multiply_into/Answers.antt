@@ -15,3 +15,6 @@ loop-row-preserved g c = rows_step c.loop-row.invariant (λ j inside. refl) c.wr
 
 pub returns-clause-product : goal.returns-clause-product
 returns-clause-product g c = rows_end c.loop-row.invariant c.args.rows (omega arith)
+
+pub returns-then-columns-eq0-clause-product : goal.returns-then-columns-eq0-clause-product
+returns-then-columns-eq0-clause-product g c = λ i j inside within. absurd (omega (arith, within, c.if-columns-eq0.true))

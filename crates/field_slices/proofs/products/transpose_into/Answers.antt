@@ -13,3 +13,6 @@ loop-row-preserved g c = rows_step c.loop-row.invariant (λ j inside. refl) c.wr
 
 pub returns-clause-entries : goal.returns-clause-entries
 returns-clause-entries g c = rows_end c.loop-row.invariant c.args.columns (omega arith)
+
+pub returns-then-rows-eq0-clause-entries : goal.returns-then-rows-eq0-clause-entries
+returns-then-rows-eq0-clause-entries g c = λ i j inside within. absurd (omega (arith, within, c.if-rows-eq0.true))

@@ -2,7 +2,7 @@ use Rattle.std.proofs.Common.{◌≡◌, ℕ, refl, subst, ◌∙◌, arith}
 use Rattle.std.specs.Prelude.{slice_index}
 use Rattle.field_slices.specs.Matrices.{entry_of, IsReducedEchelon}
 use Rattle.field_slices.proofs.RowSpaces.{space_same, space_then}
-use Rattle.field_slices.proofs.Elimination.{echelon_start}
+use Rattle.field_slices.proofs.Elimination.{echelon_full, echelon_start}
 use Rattle.field_slices.proofs.reduction.row_reduce_augmented.Goals as goal
 
 pub loop-column-init : goal.loop-column-init
@@ -13,13 +13,15 @@ loop-column-init g c =
       refl,
       echelon_start c.args.rows (slice_index c.args.pivots.now) old,
       space_same scalars.width scalars.product g.met.S.Scalars.field_law.ring c.args.rows c.args.columns old,
+      λ i past. refl,
     )
 
 pub loop-column-preserved : goal.loop-column-preserved
 loop-column-preserved g c =
     let scalars = g.S.Scalars in
     let columns = c.args.columns in
-    let step = c.reduce_column-rank.ensures in
+    let step = c.reduce_column-rank.ensures.reduced in
+    let grows = c.reduce_column-rank.ensures.grows in
     let so_far = c.loop-column.invariant in (
       step.shape ∙ so_far.0,
       step.room ∙ so_far.1,
@@ -27,7 +29,19 @@ loop-column-preserved g c =
       space_then scalars.width scalars.product g.met.S.Scalars.field_law.ring c.args.rows columns
           (entry_of scalars.number columns c.args.matrix.now) (entry_of scalars.number columns c.loop-column.matrix)
           (entry_of scalars.number columns c.reduce_column-rank.new.matrix) so_far.3 step.space,
+      λ i past. step.rest i past ∙ so_far.4 i (omega (arith, grows, past)),
     )
+
+pub returns-then-rank-rows : goal.returns-then-rank-rows
+returns-then-rank-rows g c =
+    record {
+      shape = c.loop-column.invariant.0;
+      room = c.loop-column.invariant.1;
+      reduced = echelon_full c.args.rows c.loop-column.column c.args.count c.loop-column.rank (slice_index c.loop-column.pivots)
+          (entry_of g.S.Scalars.number c.args.columns c.loop-column.matrix) c.if-rank-rows.true (omega arith) c.loop-column.invariant.2;
+      rest = c.loop-column.invariant.4;
+      space = c.loop-column.invariant.3;
+    }
 
 pub returns : goal.returns
 returns g c =
@@ -37,5 +51,6 @@ returns g c =
       room = c.loop-column.invariant.1;
       reduced = subst (λ (n : ℕ). IsReducedEchelon c.args.rows n c.loop-column.rank (slice_index c.loop-column.pivots)
           (entry_of g.S.Scalars.number c.args.columns c.loop-column.matrix)) all c.loop-column.invariant.2;
+      rest = c.loop-column.invariant.4;
       space = c.loop-column.invariant.3;
     }
