@@ -10,8 +10,9 @@
  * Arrays. An array is a pointer and a length, which counts elements and not bytes. The pointer may be NULL where the length is
  * 0; a scalar or a result is never NULL. Each pointer is aligned as C aligns its type. An array or a result that a function
  * writes may overlap no other array, result or scalar of the same call; what is only read may overlap each other. For x = x * y
- * there are the functions whose names end in _in_place. In an array named space a call works: behind it nothing is said of that.
- * A comment begins with the name of what the function writes. Where it says nothing of lengths, every length will do.
+ * there are the functions whose names end in _in_place. In arrays named space and places a call works: behind it, whatever the
+ * status, nothing is said of what they hold. A comment begins with the name of what the function writes. Where it says nothing
+ * of lengths, every length will do.
  *
  * Statuses. Every function but bf_version returns a status. On a status that is not BF_OK everything that the function could
  * write is as before the call, but for space and places. The first status applies, in the order in which a function's comment names them.
@@ -50,23 +51,26 @@
  *       elements, and right, of inner rows of columns elements. BF_LENGTH unless left has rows * inner elements, right
  *       inner * columns, and product rows * columns.
  *   bf_F_matrix_row_reduce(matrix, rows, columns, pivots, rank)  Brings a matrix of rows rows of columns elements to
- *       reduced row echelon form; rank is its rank, and the first rank of the rows places of pivots are the columns of its
- *       leading entries. BF_LENGTH unless matrix has rows * columns elements, and pivots rows places.
+ *       reduced row echelon form; rank is its rank, the first rank of the rows places of pivots become the columns of its
+ *       leading entries, and the others stay. BF_LENGTH unless matrix has rows * columns elements, and pivots rows places.
  *   bf_F_matrix_rank(matrix, rows, columns, space, places, rank)  rank: the rank of a matrix of rows rows of columns
- *       elements, in as much space and rows places. BF_LENGTH unless matrix and space have rows * columns elements, and
- *       places has rows places.
+ *       elements, in as much space and rows places, which may be written whatever the status. BF_LENGTH unless matrix and
+ *       space have rows * columns elements, and places has rows places.
  *   bf_F_matrix_determinant(matrix, size, space, determinant)  determinant: the determinant of a matrix of size rows of
- *       size elements, in as much space; 1 of no rows. BF_LENGTH unless matrix and space have size * size elements.
+ *       size elements, in as much space, which may be written whatever the status; 1 of no rows. BF_LENGTH unless matrix
+ *       and space have size * size elements.
  *   bf_F_matrix_inverse(matrix, size, inverse, space, places)  inverse: the inverse of a matrix of size rows of size
- *       elements, in space for two of these and size places. BF_LENGTH unless matrix and inverse have size * size
- *       elements, space 2 * size * size, and places size places. BF_UNSOLVABLE unless the matrix has an inverse.
+ *       elements, in space for two of these and size places, which may be written whatever the status. BF_LENGTH unless
+ *       matrix and inverse have size * size elements, space 2 * size * size, and places size places. BF_UNSOLVABLE unless
+ *       the matrix has an inverse.
  *   bf_F_matrix_solve(matrix, rows, columns, right, solution, space, places)  solution: a solution x of matrix * x =
- *       right, of rows equations in columns unknowns, in space for rows times columns + 1 elements and rows places; an
- *       unknown that the others leave open is 0. BF_LENGTH unless matrix has rows * columns elements, right rows, solution
- *       columns, space rows * (columns + 1), and places rows places. BF_UNSOLVABLE unless there is a solution.
+ *       right, of rows equations in columns unknowns, in space for rows times columns + 1 elements and rows places, which
+ *       may be written whatever the status; an unknown that the others leave open is 0. BF_LENGTH unless matrix has rows *
+ *       columns elements, right rows, solution columns, space rows * (columns + 1), and places rows places. BF_UNSOLVABLE
+ *       unless there is a solution.
  *
  * In gf2, t2 and t4 each word that is read is an element, else BF_NOT_AN_ELEMENT, which comes behind BF_LENGTH. A number of rows or of
- * columns may be 0.
+ * columns may be 0, and others then as large as the lengths allow: a call takes no time for rows or columns without elements.
  *
  * Threads. A call reads and writes its arguments alone and keeps nothing, so that threads may call at the same time, as long as
  * none writes what another reads or writes. Nothing is claimed on timing; of bf_tags_are_equal it is said what was looked at.

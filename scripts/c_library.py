@@ -59,19 +59,19 @@ MATRIX_FUNCTIONS = [
     ("matrix_multiply", [("in", "left"), ("in", "right"), ("out", "product"), ("count", "rows"), ("count", "inner"), ("count", "columns")],
      "the product of left, of rows rows of inner elements, and right, of inner rows of columns elements"),
     ("matrix_row_reduce", [("inout", "matrix"), ("count", "rows"), ("count", "columns"), ("out", "pivots", "usize"), ("result", "rank", "usize")],
-     "brings a matrix of rows rows of columns elements to reduced row echelon form; rank is its rank, and the first rank of the rows places of pivots "
-     "are the columns of its leading entries"),
+     "brings a matrix of rows rows of columns elements to reduced row echelon form; rank is its rank, the first rank of the rows places of pivots "
+     "become the columns of its leading entries, and the others stay"),
     ("matrix_rank", [("in", "matrix"), ("count", "rows"), ("count", "columns"), ("space", "space"), ("space", "places", "usize"),
                      ("result", "rank", "usize")],
-     "the rank of a matrix of rows rows of columns elements, in as much space and rows places"),
+     "the rank of a matrix of rows rows of columns elements, in as much space and rows places, which may be written whatever the status"),
     ("matrix_determinant", [("in", "matrix"), ("count", "size"), ("space", "space"), ("result", "determinant")],
-     "the determinant of a matrix of size rows of size elements, in as much space; 1 of no rows"),
+     "the determinant of a matrix of size rows of size elements, in as much space, which may be written whatever the status; 1 of no rows"),
     ("matrix_inverse", [("in", "matrix"), ("count", "size"), ("out", "inverse"), ("space", "space"), ("space", "places", "usize")],
-     "the inverse of a matrix of size rows of size elements, in space for two of these and size places"),
+     "the inverse of a matrix of size rows of size elements, in space for two of these and size places, which may be written whatever the status"),
     ("matrix_solve", [("in", "matrix"), ("count", "rows"), ("count", "columns"), ("in", "right"), ("out", "solution"), ("space", "space"),
                       ("space", "places", "usize")],
-     "a solution x of matrix * x = right, of rows equations in columns unknowns, in space for rows times columns + 1 elements and rows places; an unknown "
-     "that the others leave open is 0"),
+     "a solution x of matrix * x = right, of rows equations in columns unknowns, in space for rows times columns + 1 elements and rows places, which may "
+     "be written whatever the status; an unknown that the others leave open is 0"),
 ]
 
 # (name, parameters, what it computes). The word of every parameter stands in it.

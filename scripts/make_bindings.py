@@ -117,8 +117,8 @@ def rust_functions():
 //! The functions of libbinary_field. {WRITTEN}
 //!
 //! An array is a pointer, which may be null beside a length of 0, and a length that counts elements. What is written overlaps
-//! nothing else of the call. On a status that is not `BF_OK` everything that a function could write is as before. Where the library was
-//! built for x86-64-v3, a function that has a form `_wide` is that form.
+//! nothing else of the call. On a status that is not `BF_OK` everything that a function could write is as before, but for `space` and
+//! `places`, in which it works. Where the library was built for x86-64-v3, a function that has a form `_wide` is that form.
 
 """]
     out += [f"/// {sentence(text)}\npub const {name}: u32 = {value};\n" for name, value, text in c_library.STATUSES]
@@ -140,7 +140,7 @@ def rust_errors():
 use crate::functions;
 use core::fmt;
 
-/// Why a call did nothing: everything that it could write is as before.
+/// Why a call did nothing: everything that it could write is as before, but for the space and places in which it works.
 #[derive(Clone, Copy, Debug, PartialEq, Eq, Hash)]
 pub enum Error {{
 {variants}}}

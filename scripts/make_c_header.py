@@ -252,8 +252,9 @@ HEAD = """\
  * Arrays. An array is a pointer and a length, which counts elements and not bytes. The pointer may be NULL where the length is
  * 0; a scalar or a result is never NULL. Each pointer is aligned as C aligns its type. An array or a result that a function
  * writes may overlap no other array, result or scalar of the same call; what is only read may overlap each other. For x = x * y
- * there are the functions whose names end in _in_place. In an array named space a call works: behind it nothing is said of that.
- * A comment begins with the name of what the function writes. Where it says nothing of lengths, every length will do.
+ * there are the functions whose names end in _in_place. In arrays named space and places a call works: behind it, whatever the
+ * status, nothing is said of what they hold. A comment begins with the name of what the function writes. Where it says nothing
+ * of lengths, every length will do.
  *
  * Statuses. Every function but bf_version returns a status. On a status that is not BF_OK everything that the function could
  * write is as before the call, but for space and places. The first status applies, in the order in which a function's comment names them.
@@ -268,7 +269,7 @@ HEAD = """\
  *
 {matrices} *
  * In gf2, t2 and t4 each word that is read is an element, else BF_NOT_AN_ELEMENT, which comes behind BF_LENGTH. A number of rows or of
- * columns may be 0.
+ * columns may be 0, and others then as large as the lengths allow: a call takes no time for rows or columns without elements.
  *
  * Threads. A call reads and writes its arguments alone and keeps nothing, so that threads may call at the same time, as long as
  * none writes what another reads or writes. Nothing is claimed on timing; of bf_tags_are_equal it is said what was looked at.

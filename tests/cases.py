@@ -5,6 +5,7 @@ definition once for each element. Where a definition is dear, the elements of an
 """
 
 import dataclasses
+import itertools
 import pathlib
 import random
 
@@ -457,6 +458,36 @@ def status_cases(cases):
     values, shifts, basis = (drawn(field, draw, it) for it in (16, 4, 129))
     yield case("g128_low_stages", (values, definitions.low_stages(values, shifts, basis[:128], 7)), shifts, basis[:128], 7)
     yield case("g128_low_stages", (values, values), shifts, basis, 7, status="BF_LENGTH")
+
+
+# Whether empty arrays have the lengths of a call over matrices of these dimensions.
+EMPTY = {
+    "matrix_multiply": lambda rows, inner, columns: rows * inner == inner * columns == rows * columns == 0,
+    "matrix_row_reduce": lambda rows, columns: rows == 0,
+    "matrix_rank": lambda rows, columns: rows == 0,
+    "matrix_determinant": lambda size: size == 0,
+    "matrix_inverse": lambda size: size == 0,
+    "matrix_solve": lambda rows, columns: rows == columns == 0,
+}
+
+
+def empty_cases():
+    """Each function that takes numbers of rows, of shards or of other things, at every choice of 0, 2^63 and 2^64 - 1 for these, without
+    elements: a call may not go over rows or columns that have none."""
+    most = (1 << 64) - 1
+    for name, parameters in FUNCTIONS.items():
+        own = name.removesuffix("_wide").partition("_")[2]
+        taken = sum(kind == "count" for kind, _, _ in parameters)
+        for counts in itertools.product((0, 1 << 63, most), repeat=taken) if taken else ():
+            status = "BF_CODE" if name.startswith(("rs_", "erasure_")) else "BF_LENGTH"
+            if own in EMPTY and EMPTY[own](*counts):
+                status = "BF_OK"
+            left = iter(counts)
+            given = {"in": [], "out": [], "inout": ([], []), "space": 0, "result": [1 if own == "matrix_determinant" else 0]}
+            made = case(name, *(next(left) if kind == "count" else given[kind] for kind, _, _ in parameters))
+            yield made if status == "BF_OK" else refused(made, status)
+    # There is no run, whatever the number of the first.
+    yield case("g128_low_stages", ([], []), [1] * 4, [1] * 3, most)
 
 
 def with_second_forms(cases):

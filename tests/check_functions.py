@@ -2,10 +2,14 @@
 
     check_functions.py LIBRARY.so
 
-Each array stands between bytes that have to stay, alone and at the least alignment that C asks for. Inputs have to stay too.
+Each array stands between bytes that have to stay, alone and at the least alignment that C asks for. Inputs have to stay too. Calls without
+elements come first, each in a process of its own, which a second of processor time ends: numbers of rows or of columns may be as large as a
+word holds there, and no call goes over them.
 """
 
 import ctypes
+import os
+import signal
 import sys
 import time
 
@@ -34,8 +38,8 @@ class Buffer:
         return found[16:-16] if (found[:16], found[-16:]) == (GUARD, GUARD) else None
 
 
-def call(library, it):
-    """Runs one call; returns what went wrong, or nothing."""
+def call(library, it, is_null=False):
+    """Runs one call; returns what went wrong, or nothing. An empty array has no place where `is_null` says so."""
     arguments, buffers = [], []
     for a in it.arguments:
         if a.kind in ("number", "count") or (a.kind == "scalar" and a.word in NARROW):
@@ -46,7 +50,7 @@ def call(library, it):
         buffer = Buffer(before, a.word)
         # Of space nothing is said.
         buffers.append((a.name, buffer, None if a.kind == "space" else before if it.status else after))
-        arguments.append(ctypes.c_void_p(buffer.address))
+        arguments.append(ctypes.c_void_p(None if is_null and not after else buffer.address))
         if a.kind in cases.ARRAYS:
             arguments.append(ctypes.c_size_t(len(a.after)))
     function = library[f"bf_{it.name}"]
@@ -64,9 +68,46 @@ def call(library, it):
     return None
 
 
+def call_apart(library, it):
+    """Runs one call in a process of its own, for a second of processor time at most; returns what went wrong, or nothing."""
+    reading, writing = os.pipe()
+    process = os.fork()
+    if process == 0:
+        failed = 1
+        try:
+            signal.setitimer(signal.ITIMER_VIRTUAL, 1)
+            os.write(writing, (call(library, it, is_null=True) or "").encode())
+            failed = 0
+        finally:
+            os._exit(failed)
+    os.close(writing)
+    with os.fdopen(reading) as pipe:
+        said = pipe.read()
+    status = os.waitpid(process, 0)[1]
+    if os.WIFSIGNALED(status) and os.WTERMSIG(status) == signal.SIGVTALRM:
+        return "no end within a second"
+    return said or (f"the process ended with {status}" if status else None)
+
+
+def check_empty(library):
+    """Runs the calls without elements; returns how many went wrong."""
+    calls, wrong = 0, 0
+    for it in cases.empty_cases():
+        said = call_apart(library, it)
+        calls += 1
+        if said:
+            wrong += 1
+            if wrong < 30:
+                print(f"check_functions: bf_{it.name}, counts {[a.after[0] for a in it.arguments if a.kind == 'count']}: {said}")
+    print(f"check_functions: {calls} calls without elements, {wrong} wrong")
+    return wrong
+
+
 def main():
-    """Runs all cases; the exit status is 1 where one went wrong."""
+    """Runs all cases; the exit status is 1 where one went wrong. Behind a call that does not end the others are left out."""
     library, began = ctypes.CDLL(sys.argv[1]), time.monotonic()
+    if check_empty(library):
+        return 1
     calls, wrong, names = 0, 0, set()
     for it in cases.all_cases():
         for n in range(it.each + 1) if it.each is not None else [0]:

@@ -3,7 +3,7 @@
 use crate::functions;
 use core::fmt;
 
-/// Why a call did nothing: everything that it could write is as before.
+/// Why a call did nothing: everything that it could write is as before, but for the space and places in which it works.
 #[derive(Clone, Copy, Debug, PartialEq, Eq, Hash)]
 pub enum Error {
     /// Mismatched or invalid lengths.

@@ -1,8 +1,8 @@
 //! The functions of libbinary_field. Written by scripts/make_bindings.py; do not edit.
 //!
 //! An array is a pointer, which may be null beside a length of 0, and a length that counts elements. What is written overlaps
-//! nothing else of the call. On a status that is not `BF_OK` everything that a function could write is as before. Where the library was
-//! built for x86-64-v3, a function that has a form `_wide` is that form.
+//! nothing else of the call. On a status that is not `BF_OK` everything that a function could write is as before, but for `space` and
+//! `places`, in which it works. Where the library was built for x86-64-v3, a function that has a form `_wide` is that form.
 
 /// Success.
 pub const BF_OK: u32 = 0;
@@ -1778,9 +1778,10 @@ unsafe extern "C" {
         inner: usize,
         columns: usize,
     ) -> u32;
-    /// Brings a matrix of rows rows of columns elements to reduced row echelon form; rank is its rank, and the first
-    /// rank of the rows places of pivots are the columns of its leading entries. BF_LENGTH unless matrix has rows *
-    /// columns elements, and pivots rows places. BF_NOT_AN_ELEMENT unless each word that is read is below 2.
+    /// Brings a matrix of rows rows of columns elements to reduced row echelon form; rank is its rank, the first rank
+    /// of the rows places of pivots become the columns of its leading entries, and the others stay. BF_LENGTH unless
+    /// matrix has rows * columns elements, and pivots rows places. BF_NOT_AN_ELEMENT unless each word that is read is
+    /// below 2.
     pub fn bf_gf2_matrix_row_reduce(
         matrix: *mut u8,
         matrix_length: usize,
@@ -1790,9 +1791,9 @@ unsafe extern "C" {
         pivots_length: usize,
         rank: *mut usize,
     ) -> u32;
-    /// rank: the rank of a matrix of rows rows of columns elements, in as much space and rows places. BF_LENGTH
-    /// unless matrix and space have rows * columns elements, and places has rows places. BF_NOT_AN_ELEMENT unless
-    /// each word that is read is below 2.
+    /// rank: the rank of a matrix of rows rows of columns elements, in as much space and rows places, which may be
+    /// written whatever the status. BF_LENGTH unless matrix and space have rows * columns elements, and places has
+    /// rows places. BF_NOT_AN_ELEMENT unless each word that is read is below 2.
     pub fn bf_gf2_matrix_rank(
         matrix: *const u8,
         matrix_length: usize,
@@ -1804,9 +1805,9 @@ unsafe extern "C" {
         places_length: usize,
         rank: *mut usize,
     ) -> u32;
-    /// determinant: the determinant of a matrix of size rows of size elements, in as much space; 1 of no rows.
-    /// BF_LENGTH unless matrix and space have size * size elements. BF_NOT_AN_ELEMENT unless each word that is read
-    /// is below 2.
+    /// determinant: the determinant of a matrix of size rows of size elements, in as much space, which may be written
+    /// whatever the status; 1 of no rows. BF_LENGTH unless matrix and space have size * size elements.
+    /// BF_NOT_AN_ELEMENT unless each word that is read is below 2.
     pub fn bf_gf2_matrix_determinant(
         matrix: *const u8,
         matrix_length: usize,
@@ -1815,9 +1816,10 @@ unsafe extern "C" {
         space_length: usize,
         determinant: *mut u8,
     ) -> u32;
-    /// inverse: the inverse of a matrix of size rows of size elements, in space for two of these and size places.
-    /// BF_LENGTH unless matrix and inverse have size * size elements, space 2 * size * size, and places size places.
-    /// BF_NOT_AN_ELEMENT unless each word that is read is below 2. BF_UNSOLVABLE unless the matrix has an inverse.
+    /// inverse: the inverse of a matrix of size rows of size elements, in space for two of these and size places,
+    /// which may be written whatever the status. BF_LENGTH unless matrix and inverse have size * size elements, space
+    /// 2 * size * size, and places size places. BF_NOT_AN_ELEMENT unless each word that is read is below 2.
+    /// BF_UNSOLVABLE unless the matrix has an inverse.
     pub fn bf_gf2_matrix_inverse(
         matrix: *const u8,
         matrix_length: usize,
@@ -1830,9 +1832,10 @@ unsafe extern "C" {
         places_length: usize,
     ) -> u32;
     /// solution: a solution x of matrix * x = right, of rows equations in columns unknowns, in space for rows times
-    /// columns + 1 elements and rows places; an unknown that the others leave open is 0. BF_LENGTH unless matrix has
-    /// rows * columns elements, right rows, solution columns, space rows * (columns + 1), and places rows places.
-    /// BF_NOT_AN_ELEMENT unless each word that is read is below 2. BF_UNSOLVABLE unless there is a solution.
+    /// columns + 1 elements and rows places, which may be written whatever the status; an unknown that the others
+    /// leave open is 0. BF_LENGTH unless matrix has rows * columns elements, right rows, solution columns, space rows
+    /// * (columns + 1), and places rows places. BF_NOT_AN_ELEMENT unless each word that is read is below 2.
+    /// BF_UNSOLVABLE unless there is a solution.
     pub fn bf_gf2_matrix_solve(
         matrix: *const u8,
         matrix_length: usize,
@@ -1861,9 +1864,10 @@ unsafe extern "C" {
         inner: usize,
         columns: usize,
     ) -> u32;
-    /// Brings a matrix of rows rows of columns elements to reduced row echelon form; rank is its rank, and the first
-    /// rank of the rows places of pivots are the columns of its leading entries. BF_LENGTH unless matrix has rows *
-    /// columns elements, and pivots rows places. BF_NOT_AN_ELEMENT unless each word that is read is below 4.
+    /// Brings a matrix of rows rows of columns elements to reduced row echelon form; rank is its rank, the first rank
+    /// of the rows places of pivots become the columns of its leading entries, and the others stay. BF_LENGTH unless
+    /// matrix has rows * columns elements, and pivots rows places. BF_NOT_AN_ELEMENT unless each word that is read is
+    /// below 4.
     pub fn bf_t2_matrix_row_reduce(
         matrix: *mut u8,
         matrix_length: usize,
@@ -1873,9 +1877,9 @@ unsafe extern "C" {
         pivots_length: usize,
         rank: *mut usize,
     ) -> u32;
-    /// rank: the rank of a matrix of rows rows of columns elements, in as much space and rows places. BF_LENGTH
-    /// unless matrix and space have rows * columns elements, and places has rows places. BF_NOT_AN_ELEMENT unless
-    /// each word that is read is below 4.
+    /// rank: the rank of a matrix of rows rows of columns elements, in as much space and rows places, which may be
+    /// written whatever the status. BF_LENGTH unless matrix and space have rows * columns elements, and places has
+    /// rows places. BF_NOT_AN_ELEMENT unless each word that is read is below 4.
     pub fn bf_t2_matrix_rank(
         matrix: *const u8,
         matrix_length: usize,
@@ -1887,9 +1891,9 @@ unsafe extern "C" {
         places_length: usize,
         rank: *mut usize,
     ) -> u32;
-    /// determinant: the determinant of a matrix of size rows of size elements, in as much space; 1 of no rows.
-    /// BF_LENGTH unless matrix and space have size * size elements. BF_NOT_AN_ELEMENT unless each word that is read
-    /// is below 4.
+    /// determinant: the determinant of a matrix of size rows of size elements, in as much space, which may be written
+    /// whatever the status; 1 of no rows. BF_LENGTH unless matrix and space have size * size elements.
+    /// BF_NOT_AN_ELEMENT unless each word that is read is below 4.
     pub fn bf_t2_matrix_determinant(
         matrix: *const u8,
         matrix_length: usize,
@@ -1898,9 +1902,10 @@ unsafe extern "C" {
         space_length: usize,
         determinant: *mut u8,
     ) -> u32;
-    /// inverse: the inverse of a matrix of size rows of size elements, in space for two of these and size places.
-    /// BF_LENGTH unless matrix and inverse have size * size elements, space 2 * size * size, and places size places.
-    /// BF_NOT_AN_ELEMENT unless each word that is read is below 4. BF_UNSOLVABLE unless the matrix has an inverse.
+    /// inverse: the inverse of a matrix of size rows of size elements, in space for two of these and size places,
+    /// which may be written whatever the status. BF_LENGTH unless matrix and inverse have size * size elements, space
+    /// 2 * size * size, and places size places. BF_NOT_AN_ELEMENT unless each word that is read is below 4.
+    /// BF_UNSOLVABLE unless the matrix has an inverse.
     pub fn bf_t2_matrix_inverse(
         matrix: *const u8,
         matrix_length: usize,
@@ -1913,9 +1918,10 @@ unsafe extern "C" {
         places_length: usize,
     ) -> u32;
     /// solution: a solution x of matrix * x = right, of rows equations in columns unknowns, in space for rows times
-    /// columns + 1 elements and rows places; an unknown that the others leave open is 0. BF_LENGTH unless matrix has
-    /// rows * columns elements, right rows, solution columns, space rows * (columns + 1), and places rows places.
-    /// BF_NOT_AN_ELEMENT unless each word that is read is below 4. BF_UNSOLVABLE unless there is a solution.
+    /// columns + 1 elements and rows places, which may be written whatever the status; an unknown that the others
+    /// leave open is 0. BF_LENGTH unless matrix has rows * columns elements, right rows, solution columns, space rows
+    /// * (columns + 1), and places rows places. BF_NOT_AN_ELEMENT unless each word that is read is below 4.
+    /// BF_UNSOLVABLE unless there is a solution.
     pub fn bf_t2_matrix_solve(
         matrix: *const u8,
         matrix_length: usize,
@@ -1944,9 +1950,10 @@ unsafe extern "C" {
         inner: usize,
         columns: usize,
     ) -> u32;
-    /// Brings a matrix of rows rows of columns elements to reduced row echelon form; rank is its rank, and the first
-    /// rank of the rows places of pivots are the columns of its leading entries. BF_LENGTH unless matrix has rows *
-    /// columns elements, and pivots rows places. BF_NOT_AN_ELEMENT unless each word that is read is below 16.
+    /// Brings a matrix of rows rows of columns elements to reduced row echelon form; rank is its rank, the first rank
+    /// of the rows places of pivots become the columns of its leading entries, and the others stay. BF_LENGTH unless
+    /// matrix has rows * columns elements, and pivots rows places. BF_NOT_AN_ELEMENT unless each word that is read is
+    /// below 16.
     pub fn bf_t4_matrix_row_reduce(
         matrix: *mut u8,
         matrix_length: usize,
@@ -1956,9 +1963,9 @@ unsafe extern "C" {
         pivots_length: usize,
         rank: *mut usize,
     ) -> u32;
-    /// rank: the rank of a matrix of rows rows of columns elements, in as much space and rows places. BF_LENGTH
-    /// unless matrix and space have rows * columns elements, and places has rows places. BF_NOT_AN_ELEMENT unless
-    /// each word that is read is below 16.
+    /// rank: the rank of a matrix of rows rows of columns elements, in as much space and rows places, which may be
+    /// written whatever the status. BF_LENGTH unless matrix and space have rows * columns elements, and places has
+    /// rows places. BF_NOT_AN_ELEMENT unless each word that is read is below 16.
     pub fn bf_t4_matrix_rank(
         matrix: *const u8,
         matrix_length: usize,
@@ -1970,9 +1977,9 @@ unsafe extern "C" {
         places_length: usize,
         rank: *mut usize,
     ) -> u32;
-    /// determinant: the determinant of a matrix of size rows of size elements, in as much space; 1 of no rows.
-    /// BF_LENGTH unless matrix and space have size * size elements. BF_NOT_AN_ELEMENT unless each word that is read
-    /// is below 16.
+    /// determinant: the determinant of a matrix of size rows of size elements, in as much space, which may be written
+    /// whatever the status; 1 of no rows. BF_LENGTH unless matrix and space have size * size elements.
+    /// BF_NOT_AN_ELEMENT unless each word that is read is below 16.
     pub fn bf_t4_matrix_determinant(
         matrix: *const u8,
         matrix_length: usize,
@@ -1981,9 +1988,10 @@ unsafe extern "C" {
         space_length: usize,
         determinant: *mut u8,
     ) -> u32;
-    /// inverse: the inverse of a matrix of size rows of size elements, in space for two of these and size places.
-    /// BF_LENGTH unless matrix and inverse have size * size elements, space 2 * size * size, and places size places.
-    /// BF_NOT_AN_ELEMENT unless each word that is read is below 16. BF_UNSOLVABLE unless the matrix has an inverse.
+    /// inverse: the inverse of a matrix of size rows of size elements, in space for two of these and size places,
+    /// which may be written whatever the status. BF_LENGTH unless matrix and inverse have size * size elements, space
+    /// 2 * size * size, and places size places. BF_NOT_AN_ELEMENT unless each word that is read is below 16.
+    /// BF_UNSOLVABLE unless the matrix has an inverse.
     pub fn bf_t4_matrix_inverse(
         matrix: *const u8,
         matrix_length: usize,
@@ -1996,9 +2004,10 @@ unsafe extern "C" {
         places_length: usize,
     ) -> u32;
     /// solution: a solution x of matrix * x = right, of rows equations in columns unknowns, in space for rows times
-    /// columns + 1 elements and rows places; an unknown that the others leave open is 0. BF_LENGTH unless matrix has
-    /// rows * columns elements, right rows, solution columns, space rows * (columns + 1), and places rows places.
-    /// BF_NOT_AN_ELEMENT unless each word that is read is below 16. BF_UNSOLVABLE unless there is a solution.
+    /// columns + 1 elements and rows places, which may be written whatever the status; an unknown that the others
+    /// leave open is 0. BF_LENGTH unless matrix has rows * columns elements, right rows, solution columns, space rows
+    /// * (columns + 1), and places rows places. BF_NOT_AN_ELEMENT unless each word that is read is below 16.
+    /// BF_UNSOLVABLE unless there is a solution.
     pub fn bf_t4_matrix_solve(
         matrix: *const u8,
         matrix_length: usize,
@@ -2026,9 +2035,9 @@ unsafe extern "C" {
         inner: usize,
         columns: usize,
     ) -> u32;
-    /// Brings a matrix of rows rows of columns elements to reduced row echelon form; rank is its rank, and the first
-    /// rank of the rows places of pivots are the columns of its leading entries. BF_LENGTH unless matrix has rows *
-    /// columns elements, and pivots rows places.
+    /// Brings a matrix of rows rows of columns elements to reduced row echelon form; rank is its rank, the first rank
+    /// of the rows places of pivots become the columns of its leading entries, and the others stay. BF_LENGTH unless
+    /// matrix has rows * columns elements, and pivots rows places.
     pub fn bf_t8_matrix_row_reduce(
         matrix: *mut u8,
         matrix_length: usize,
@@ -2038,8 +2047,9 @@ unsafe extern "C" {
         pivots_length: usize,
         rank: *mut usize,
     ) -> u32;
-    /// rank: the rank of a matrix of rows rows of columns elements, in as much space and rows places. BF_LENGTH
-    /// unless matrix and space have rows * columns elements, and places has rows places.
+    /// rank: the rank of a matrix of rows rows of columns elements, in as much space and rows places, which may be
+    /// written whatever the status. BF_LENGTH unless matrix and space have rows * columns elements, and places has
+    /// rows places.
     pub fn bf_t8_matrix_rank(
         matrix: *const u8,
         matrix_length: usize,
@@ -2051,8 +2061,8 @@ unsafe extern "C" {
         places_length: usize,
         rank: *mut usize,
     ) -> u32;
-    /// determinant: the determinant of a matrix of size rows of size elements, in as much space; 1 of no rows.
-    /// BF_LENGTH unless matrix and space have size * size elements.
+    /// determinant: the determinant of a matrix of size rows of size elements, in as much space, which may be written
+    /// whatever the status; 1 of no rows. BF_LENGTH unless matrix and space have size * size elements.
     pub fn bf_t8_matrix_determinant(
         matrix: *const u8,
         matrix_length: usize,
@@ -2061,9 +2071,9 @@ unsafe extern "C" {
         space_length: usize,
         determinant: *mut u8,
     ) -> u32;
-    /// inverse: the inverse of a matrix of size rows of size elements, in space for two of these and size places.
-    /// BF_LENGTH unless matrix and inverse have size * size elements, space 2 * size * size, and places size places.
-    /// BF_UNSOLVABLE unless the matrix has an inverse.
+    /// inverse: the inverse of a matrix of size rows of size elements, in space for two of these and size places,
+    /// which may be written whatever the status. BF_LENGTH unless matrix and inverse have size * size elements, space
+    /// 2 * size * size, and places size places. BF_UNSOLVABLE unless the matrix has an inverse.
     pub fn bf_t8_matrix_inverse(
         matrix: *const u8,
         matrix_length: usize,
@@ -2076,9 +2086,9 @@ unsafe extern "C" {
         places_length: usize,
     ) -> u32;
     /// solution: a solution x of matrix * x = right, of rows equations in columns unknowns, in space for rows times
-    /// columns + 1 elements and rows places; an unknown that the others leave open is 0. BF_LENGTH unless matrix has
-    /// rows * columns elements, right rows, solution columns, space rows * (columns + 1), and places rows places.
-    /// BF_UNSOLVABLE unless there is a solution.
+    /// columns + 1 elements and rows places, which may be written whatever the status; an unknown that the others
+    /// leave open is 0. BF_LENGTH unless matrix has rows * columns elements, right rows, solution columns, space rows
+    /// * (columns + 1), and places rows places. BF_UNSOLVABLE unless there is a solution.
     pub fn bf_t8_matrix_solve(
         matrix: *const u8,
         matrix_length: usize,
@@ -2106,9 +2116,9 @@ unsafe extern "C" {
         inner: usize,
         columns: usize,
     ) -> u32;
-    /// Brings a matrix of rows rows of columns elements to reduced row echelon form; rank is its rank, and the first
-    /// rank of the rows places of pivots are the columns of its leading entries. BF_LENGTH unless matrix has rows *
-    /// columns elements, and pivots rows places.
+    /// Brings a matrix of rows rows of columns elements to reduced row echelon form; rank is its rank, the first rank
+    /// of the rows places of pivots become the columns of its leading entries, and the others stay. BF_LENGTH unless
+    /// matrix has rows * columns elements, and pivots rows places.
     pub fn bf_t16_matrix_row_reduce(
         matrix: *mut u16,
         matrix_length: usize,
@@ -2118,8 +2128,9 @@ unsafe extern "C" {
         pivots_length: usize,
         rank: *mut usize,
     ) -> u32;
-    /// rank: the rank of a matrix of rows rows of columns elements, in as much space and rows places. BF_LENGTH
-    /// unless matrix and space have rows * columns elements, and places has rows places.
+    /// rank: the rank of a matrix of rows rows of columns elements, in as much space and rows places, which may be
+    /// written whatever the status. BF_LENGTH unless matrix and space have rows * columns elements, and places has
+    /// rows places.
     pub fn bf_t16_matrix_rank(
         matrix: *const u16,
         matrix_length: usize,
@@ -2131,8 +2142,8 @@ unsafe extern "C" {
         places_length: usize,
         rank: *mut usize,
     ) -> u32;
-    /// determinant: the determinant of a matrix of size rows of size elements, in as much space; 1 of no rows.
-    /// BF_LENGTH unless matrix and space have size * size elements.
+    /// determinant: the determinant of a matrix of size rows of size elements, in as much space, which may be written
+    /// whatever the status; 1 of no rows. BF_LENGTH unless matrix and space have size * size elements.
     pub fn bf_t16_matrix_determinant(
         matrix: *const u16,
         matrix_length: usize,
@@ -2141,9 +2152,9 @@ unsafe extern "C" {
         space_length: usize,
         determinant: *mut u16,
     ) -> u32;
-    /// inverse: the inverse of a matrix of size rows of size elements, in space for two of these and size places.
-    /// BF_LENGTH unless matrix and inverse have size * size elements, space 2 * size * size, and places size places.
-    /// BF_UNSOLVABLE unless the matrix has an inverse.
+    /// inverse: the inverse of a matrix of size rows of size elements, in space for two of these and size places,
+    /// which may be written whatever the status. BF_LENGTH unless matrix and inverse have size * size elements, space
+    /// 2 * size * size, and places size places. BF_UNSOLVABLE unless the matrix has an inverse.
     pub fn bf_t16_matrix_inverse(
         matrix: *const u16,
         matrix_length: usize,
@@ -2156,9 +2167,9 @@ unsafe extern "C" {
         places_length: usize,
     ) -> u32;
     /// solution: a solution x of matrix * x = right, of rows equations in columns unknowns, in space for rows times
-    /// columns + 1 elements and rows places; an unknown that the others leave open is 0. BF_LENGTH unless matrix has
-    /// rows * columns elements, right rows, solution columns, space rows * (columns + 1), and places rows places.
-    /// BF_UNSOLVABLE unless there is a solution.
+    /// columns + 1 elements and rows places, which may be written whatever the status; an unknown that the others
+    /// leave open is 0. BF_LENGTH unless matrix has rows * columns elements, right rows, solution columns, space rows
+    /// * (columns + 1), and places rows places. BF_UNSOLVABLE unless there is a solution.
     pub fn bf_t16_matrix_solve(
         matrix: *const u16,
         matrix_length: usize,
@@ -2186,9 +2197,9 @@ unsafe extern "C" {
         inner: usize,
         columns: usize,
     ) -> u32;
-    /// Brings a matrix of rows rows of columns elements to reduced row echelon form; rank is its rank, and the first
-    /// rank of the rows places of pivots are the columns of its leading entries. BF_LENGTH unless matrix has rows *
-    /// columns elements, and pivots rows places.
+    /// Brings a matrix of rows rows of columns elements to reduced row echelon form; rank is its rank, the first rank
+    /// of the rows places of pivots become the columns of its leading entries, and the others stay. BF_LENGTH unless
+    /// matrix has rows * columns elements, and pivots rows places.
     pub fn bf_t32_matrix_row_reduce(
         matrix: *mut u32,
         matrix_length: usize,
@@ -2198,8 +2209,9 @@ unsafe extern "C" {
         pivots_length: usize,
         rank: *mut usize,
     ) -> u32;
-    /// rank: the rank of a matrix of rows rows of columns elements, in as much space and rows places. BF_LENGTH
-    /// unless matrix and space have rows * columns elements, and places has rows places.
+    /// rank: the rank of a matrix of rows rows of columns elements, in as much space and rows places, which may be
+    /// written whatever the status. BF_LENGTH unless matrix and space have rows * columns elements, and places has
+    /// rows places.
     pub fn bf_t32_matrix_rank(
         matrix: *const u32,
         matrix_length: usize,
@@ -2211,8 +2223,8 @@ unsafe extern "C" {
         places_length: usize,
         rank: *mut usize,
     ) -> u32;
-    /// determinant: the determinant of a matrix of size rows of size elements, in as much space; 1 of no rows.
-    /// BF_LENGTH unless matrix and space have size * size elements.
+    /// determinant: the determinant of a matrix of size rows of size elements, in as much space, which may be written
+    /// whatever the status; 1 of no rows. BF_LENGTH unless matrix and space have size * size elements.
     pub fn bf_t32_matrix_determinant(
         matrix: *const u32,
         matrix_length: usize,
@@ -2221,9 +2233,9 @@ unsafe extern "C" {
         space_length: usize,
         determinant: *mut u32,
     ) -> u32;
-    /// inverse: the inverse of a matrix of size rows of size elements, in space for two of these and size places.
-    /// BF_LENGTH unless matrix and inverse have size * size elements, space 2 * size * size, and places size places.
-    /// BF_UNSOLVABLE unless the matrix has an inverse.
+    /// inverse: the inverse of a matrix of size rows of size elements, in space for two of these and size places,
+    /// which may be written whatever the status. BF_LENGTH unless matrix and inverse have size * size elements, space
+    /// 2 * size * size, and places size places. BF_UNSOLVABLE unless the matrix has an inverse.
     pub fn bf_t32_matrix_inverse(
         matrix: *const u32,
         matrix_length: usize,
@@ -2236,9 +2248,9 @@ unsafe extern "C" {
         places_length: usize,
     ) -> u32;
     /// solution: a solution x of matrix * x = right, of rows equations in columns unknowns, in space for rows times
-    /// columns + 1 elements and rows places; an unknown that the others leave open is 0. BF_LENGTH unless matrix has
-    /// rows * columns elements, right rows, solution columns, space rows * (columns + 1), and places rows places.
-    /// BF_UNSOLVABLE unless there is a solution.
+    /// columns + 1 elements and rows places, which may be written whatever the status; an unknown that the others
+    /// leave open is 0. BF_LENGTH unless matrix has rows * columns elements, right rows, solution columns, space rows
+    /// * (columns + 1), and places rows places. BF_UNSOLVABLE unless there is a solution.
     pub fn bf_t32_matrix_solve(
         matrix: *const u32,
         matrix_length: usize,
@@ -2266,9 +2278,9 @@ unsafe extern "C" {
         inner: usize,
         columns: usize,
     ) -> u32;
-    /// Brings a matrix of rows rows of columns elements to reduced row echelon form; rank is its rank, and the first
-    /// rank of the rows places of pivots are the columns of its leading entries. BF_LENGTH unless matrix has rows *
-    /// columns elements, and pivots rows places.
+    /// Brings a matrix of rows rows of columns elements to reduced row echelon form; rank is its rank, the first rank
+    /// of the rows places of pivots become the columns of its leading entries, and the others stay. BF_LENGTH unless
+    /// matrix has rows * columns elements, and pivots rows places.
     pub fn bf_t64_matrix_row_reduce(
         matrix: *mut u64,
         matrix_length: usize,
@@ -2278,8 +2290,9 @@ unsafe extern "C" {
         pivots_length: usize,
         rank: *mut usize,
     ) -> u32;
-    /// rank: the rank of a matrix of rows rows of columns elements, in as much space and rows places. BF_LENGTH
-    /// unless matrix and space have rows * columns elements, and places has rows places.
+    /// rank: the rank of a matrix of rows rows of columns elements, in as much space and rows places, which may be
+    /// written whatever the status. BF_LENGTH unless matrix and space have rows * columns elements, and places has
+    /// rows places.
     pub fn bf_t64_matrix_rank(
         matrix: *const u64,
         matrix_length: usize,
@@ -2291,8 +2304,8 @@ unsafe extern "C" {
         places_length: usize,
         rank: *mut usize,
     ) -> u32;
-    /// determinant: the determinant of a matrix of size rows of size elements, in as much space; 1 of no rows.
-    /// BF_LENGTH unless matrix and space have size * size elements.
+    /// determinant: the determinant of a matrix of size rows of size elements, in as much space, which may be written
+    /// whatever the status; 1 of no rows. BF_LENGTH unless matrix and space have size * size elements.
     pub fn bf_t64_matrix_determinant(
         matrix: *const u64,
         matrix_length: usize,
@@ -2301,9 +2314,9 @@ unsafe extern "C" {
         space_length: usize,
         determinant: *mut u64,
     ) -> u32;
-    /// inverse: the inverse of a matrix of size rows of size elements, in space for two of these and size places.
-    /// BF_LENGTH unless matrix and inverse have size * size elements, space 2 * size * size, and places size places.
-    /// BF_UNSOLVABLE unless the matrix has an inverse.
+    /// inverse: the inverse of a matrix of size rows of size elements, in space for two of these and size places,
+    /// which may be written whatever the status. BF_LENGTH unless matrix and inverse have size * size elements, space
+    /// 2 * size * size, and places size places. BF_UNSOLVABLE unless the matrix has an inverse.
     pub fn bf_t64_matrix_inverse(
         matrix: *const u64,
         matrix_length: usize,
@@ -2316,9 +2329,9 @@ unsafe extern "C" {
         places_length: usize,
     ) -> u32;
     /// solution: a solution x of matrix * x = right, of rows equations in columns unknowns, in space for rows times
-    /// columns + 1 elements and rows places; an unknown that the others leave open is 0. BF_LENGTH unless matrix has
-    /// rows * columns elements, right rows, solution columns, space rows * (columns + 1), and places rows places.
-    /// BF_UNSOLVABLE unless there is a solution.
+    /// columns + 1 elements and rows places, which may be written whatever the status; an unknown that the others
+    /// leave open is 0. BF_LENGTH unless matrix has rows * columns elements, right rows, solution columns, space rows
+    /// * (columns + 1), and places rows places. BF_UNSOLVABLE unless there is a solution.
     pub fn bf_t64_matrix_solve(
         matrix: *const u64,
         matrix_length: usize,
@@ -2346,9 +2359,9 @@ unsafe extern "C" {
         inner: usize,
         columns: usize,
     ) -> u32;
-    /// Brings a matrix of rows rows of columns elements to reduced row echelon form; rank is its rank, and the first
-    /// rank of the rows places of pivots are the columns of its leading entries. BF_LENGTH unless matrix has rows *
-    /// columns elements, and pivots rows places.
+    /// Brings a matrix of rows rows of columns elements to reduced row echelon form; rank is its rank, the first rank
+    /// of the rows places of pivots become the columns of its leading entries, and the others stay. BF_LENGTH unless
+    /// matrix has rows * columns elements, and pivots rows places.
     pub fn bf_t128_matrix_row_reduce(
         matrix: *mut [u64; 2],
         matrix_length: usize,
@@ -2358,8 +2371,9 @@ unsafe extern "C" {
         pivots_length: usize,
         rank: *mut usize,
     ) -> u32;
-    /// rank: the rank of a matrix of rows rows of columns elements, in as much space and rows places. BF_LENGTH
-    /// unless matrix and space have rows * columns elements, and places has rows places.
+    /// rank: the rank of a matrix of rows rows of columns elements, in as much space and rows places, which may be
+    /// written whatever the status. BF_LENGTH unless matrix and space have rows * columns elements, and places has
+    /// rows places.
     pub fn bf_t128_matrix_rank(
         matrix: *const [u64; 2],
         matrix_length: usize,
@@ -2371,8 +2385,8 @@ unsafe extern "C" {
         places_length: usize,
         rank: *mut usize,
     ) -> u32;
-    /// determinant: the determinant of a matrix of size rows of size elements, in as much space; 1 of no rows.
-    /// BF_LENGTH unless matrix and space have size * size elements.
+    /// determinant: the determinant of a matrix of size rows of size elements, in as much space, which may be written
+    /// whatever the status; 1 of no rows. BF_LENGTH unless matrix and space have size * size elements.
     pub fn bf_t128_matrix_determinant(
         matrix: *const [u64; 2],
         matrix_length: usize,
@@ -2381,9 +2395,9 @@ unsafe extern "C" {
         space_length: usize,
         determinant: *mut [u64; 2],
     ) -> u32;
-    /// inverse: the inverse of a matrix of size rows of size elements, in space for two of these and size places.
-    /// BF_LENGTH unless matrix and inverse have size * size elements, space 2 * size * size, and places size places.
-    /// BF_UNSOLVABLE unless the matrix has an inverse.
+    /// inverse: the inverse of a matrix of size rows of size elements, in space for two of these and size places,
+    /// which may be written whatever the status. BF_LENGTH unless matrix and inverse have size * size elements, space
+    /// 2 * size * size, and places size places. BF_UNSOLVABLE unless the matrix has an inverse.
     pub fn bf_t128_matrix_inverse(
         matrix: *const [u64; 2],
         matrix_length: usize,
@@ -2396,9 +2410,9 @@ unsafe extern "C" {
         places_length: usize,
     ) -> u32;
     /// solution: a solution x of matrix * x = right, of rows equations in columns unknowns, in space for rows times
-    /// columns + 1 elements and rows places; an unknown that the others leave open is 0. BF_LENGTH unless matrix has
-    /// rows * columns elements, right rows, solution columns, space rows * (columns + 1), and places rows places.
-    /// BF_UNSOLVABLE unless there is a solution.
+    /// columns + 1 elements and rows places, which may be written whatever the status; an unknown that the others
+    /// leave open is 0. BF_LENGTH unless matrix has rows * columns elements, right rows, solution columns, space rows
+    /// * (columns + 1), and places rows places. BF_UNSOLVABLE unless there is a solution.
     pub fn bf_t128_matrix_solve(
         matrix: *const [u64; 2],
         matrix_length: usize,
@@ -2426,9 +2440,9 @@ unsafe extern "C" {
         inner: usize,
         columns: usize,
     ) -> u32;
-    /// Brings a matrix of rows rows of columns elements to reduced row echelon form; rank is its rank, and the first
-    /// rank of the rows places of pivots are the columns of its leading entries. BF_LENGTH unless matrix has rows *
-    /// columns elements, and pivots rows places.
+    /// Brings a matrix of rows rows of columns elements to reduced row echelon form; rank is its rank, the first rank
+    /// of the rows places of pivots become the columns of its leading entries, and the others stay. BF_LENGTH unless
+    /// matrix has rows * columns elements, and pivots rows places.
     pub fn bf_r8_matrix_row_reduce(
         matrix: *mut u8,
         matrix_length: usize,
@@ -2438,8 +2452,9 @@ unsafe extern "C" {
         pivots_length: usize,
         rank: *mut usize,
     ) -> u32;
-    /// rank: the rank of a matrix of rows rows of columns elements, in as much space and rows places. BF_LENGTH
-    /// unless matrix and space have rows * columns elements, and places has rows places.
+    /// rank: the rank of a matrix of rows rows of columns elements, in as much space and rows places, which may be
+    /// written whatever the status. BF_LENGTH unless matrix and space have rows * columns elements, and places has
+    /// rows places.
     pub fn bf_r8_matrix_rank(
         matrix: *const u8,
         matrix_length: usize,
@@ -2451,8 +2466,8 @@ unsafe extern "C" {
         places_length: usize,
         rank: *mut usize,
     ) -> u32;
-    /// determinant: the determinant of a matrix of size rows of size elements, in as much space; 1 of no rows.
-    /// BF_LENGTH unless matrix and space have size * size elements.
+    /// determinant: the determinant of a matrix of size rows of size elements, in as much space, which may be written
+    /// whatever the status; 1 of no rows. BF_LENGTH unless matrix and space have size * size elements.
     pub fn bf_r8_matrix_determinant(
         matrix: *const u8,
         matrix_length: usize,
@@ -2461,9 +2476,9 @@ unsafe extern "C" {
         space_length: usize,
         determinant: *mut u8,
     ) -> u32;
-    /// inverse: the inverse of a matrix of size rows of size elements, in space for two of these and size places.
-    /// BF_LENGTH unless matrix and inverse have size * size elements, space 2 * size * size, and places size places.
-    /// BF_UNSOLVABLE unless the matrix has an inverse.
+    /// inverse: the inverse of a matrix of size rows of size elements, in space for two of these and size places,
+    /// which may be written whatever the status. BF_LENGTH unless matrix and inverse have size * size elements, space
+    /// 2 * size * size, and places size places. BF_UNSOLVABLE unless the matrix has an inverse.
     pub fn bf_r8_matrix_inverse(
         matrix: *const u8,
         matrix_length: usize,
@@ -2476,9 +2491,9 @@ unsafe extern "C" {
         places_length: usize,
     ) -> u32;
     /// solution: a solution x of matrix * x = right, of rows equations in columns unknowns, in space for rows times
-    /// columns + 1 elements and rows places; an unknown that the others leave open is 0. BF_LENGTH unless matrix has
-    /// rows * columns elements, right rows, solution columns, space rows * (columns + 1), and places rows places.
-    /// BF_UNSOLVABLE unless there is a solution.
+    /// columns + 1 elements and rows places, which may be written whatever the status; an unknown that the others
+    /// leave open is 0. BF_LENGTH unless matrix has rows * columns elements, right rows, solution columns, space rows
+    /// * (columns + 1), and places rows places. BF_UNSOLVABLE unless there is a solution.
     pub fn bf_r8_matrix_solve(
         matrix: *const u8,
         matrix_length: usize,
@@ -2506,9 +2521,9 @@ unsafe extern "C" {
         inner: usize,
         columns: usize,
     ) -> u32;
-    /// Brings a matrix of rows rows of columns elements to reduced row echelon form; rank is its rank, and the first
-    /// rank of the rows places of pivots are the columns of its leading entries. BF_LENGTH unless matrix has rows *
-    /// columns elements, and pivots rows places.
+    /// Brings a matrix of rows rows of columns elements to reduced row echelon form; rank is its rank, the first rank
+    /// of the rows places of pivots become the columns of its leading entries, and the others stay. BF_LENGTH unless
+    /// matrix has rows * columns elements, and pivots rows places.
     pub fn bf_p64_matrix_row_reduce(
         matrix: *mut u64,
         matrix_length: usize,
@@ -2518,8 +2533,9 @@ unsafe extern "C" {
         pivots_length: usize,
         rank: *mut usize,
     ) -> u32;
-    /// rank: the rank of a matrix of rows rows of columns elements, in as much space and rows places. BF_LENGTH
-    /// unless matrix and space have rows * columns elements, and places has rows places.
+    /// rank: the rank of a matrix of rows rows of columns elements, in as much space and rows places, which may be
+    /// written whatever the status. BF_LENGTH unless matrix and space have rows * columns elements, and places has
+    /// rows places.
     pub fn bf_p64_matrix_rank(
         matrix: *const u64,
         matrix_length: usize,
@@ -2531,8 +2547,8 @@ unsafe extern "C" {
         places_length: usize,
         rank: *mut usize,
     ) -> u32;
-    /// determinant: the determinant of a matrix of size rows of size elements, in as much space; 1 of no rows.
-    /// BF_LENGTH unless matrix and space have size * size elements.
+    /// determinant: the determinant of a matrix of size rows of size elements, in as much space, which may be written
+    /// whatever the status; 1 of no rows. BF_LENGTH unless matrix and space have size * size elements.
     pub fn bf_p64_matrix_determinant(
         matrix: *const u64,
         matrix_length: usize,
@@ -2541,9 +2557,9 @@ unsafe extern "C" {
         space_length: usize,
         determinant: *mut u64,
     ) -> u32;
-    /// inverse: the inverse of a matrix of size rows of size elements, in space for two of these and size places.
-    /// BF_LENGTH unless matrix and inverse have size * size elements, space 2 * size * size, and places size places.
-    /// BF_UNSOLVABLE unless the matrix has an inverse.
+    /// inverse: the inverse of a matrix of size rows of size elements, in space for two of these and size places,
+    /// which may be written whatever the status. BF_LENGTH unless matrix and inverse have size * size elements, space
+    /// 2 * size * size, and places size places. BF_UNSOLVABLE unless the matrix has an inverse.
     pub fn bf_p64_matrix_inverse(
         matrix: *const u64,
         matrix_length: usize,
@@ -2556,9 +2572,9 @@ unsafe extern "C" {
         places_length: usize,
     ) -> u32;
     /// solution: a solution x of matrix * x = right, of rows equations in columns unknowns, in space for rows times
-    /// columns + 1 elements and rows places; an unknown that the others leave open is 0. BF_LENGTH unless matrix has
-    /// rows * columns elements, right rows, solution columns, space rows * (columns + 1), and places rows places.
-    /// BF_UNSOLVABLE unless there is a solution.
+    /// columns + 1 elements and rows places, which may be written whatever the status; an unknown that the others
+    /// leave open is 0. BF_LENGTH unless matrix has rows * columns elements, right rows, solution columns, space rows
+    /// * (columns + 1), and places rows places. BF_UNSOLVABLE unless there is a solution.
     pub fn bf_p64_matrix_solve(
         matrix: *const u64,
         matrix_length: usize,
@@ -2587,9 +2603,9 @@ unsafe extern "C" {
         inner: usize,
         columns: usize,
     ) -> u32;
-    /// Brings a matrix of rows rows of columns elements to reduced row echelon form; rank is its rank, and the first
-    /// rank of the rows places of pivots are the columns of its leading entries. BF_LENGTH unless matrix has rows *
-    /// columns elements, and pivots rows places.
+    /// Brings a matrix of rows rows of columns elements to reduced row echelon form; rank is its rank, the first rank
+    /// of the rows places of pivots become the columns of its leading entries, and the others stay. BF_LENGTH unless
+    /// matrix has rows * columns elements, and pivots rows places.
     #[cfg_attr(binary_field_wide, link_name = "bf_g128_matrix_row_reduce_wide")]
     pub fn bf_g128_matrix_row_reduce(
         matrix: *mut [u64; 2],
@@ -2600,8 +2616,9 @@ unsafe extern "C" {
         pivots_length: usize,
         rank: *mut usize,
     ) -> u32;
-    /// rank: the rank of a matrix of rows rows of columns elements, in as much space and rows places. BF_LENGTH
-    /// unless matrix and space have rows * columns elements, and places has rows places.
+    /// rank: the rank of a matrix of rows rows of columns elements, in as much space and rows places, which may be
+    /// written whatever the status. BF_LENGTH unless matrix and space have rows * columns elements, and places has
+    /// rows places.
     #[cfg_attr(binary_field_wide, link_name = "bf_g128_matrix_rank_wide")]
     pub fn bf_g128_matrix_rank(
         matrix: *const [u64; 2],
@@ -2614,8 +2631,8 @@ unsafe extern "C" {
         places_length: usize,
         rank: *mut usize,
     ) -> u32;
-    /// determinant: the determinant of a matrix of size rows of size elements, in as much space; 1 of no rows.
-    /// BF_LENGTH unless matrix and space have size * size elements.
+    /// determinant: the determinant of a matrix of size rows of size elements, in as much space, which may be written
+    /// whatever the status; 1 of no rows. BF_LENGTH unless matrix and space have size * size elements.
     #[cfg_attr(binary_field_wide, link_name = "bf_g128_matrix_determinant_wide")]
     pub fn bf_g128_matrix_determinant(
         matrix: *const [u64; 2],
@@ -2625,9 +2642,9 @@ unsafe extern "C" {
         space_length: usize,
         determinant: *mut [u64; 2],
     ) -> u32;
-    /// inverse: the inverse of a matrix of size rows of size elements, in space for two of these and size places.
-    /// BF_LENGTH unless matrix and inverse have size * size elements, space 2 * size * size, and places size places.
-    /// BF_UNSOLVABLE unless the matrix has an inverse.
+    /// inverse: the inverse of a matrix of size rows of size elements, in space for two of these and size places,
+    /// which may be written whatever the status. BF_LENGTH unless matrix and inverse have size * size elements, space
+    /// 2 * size * size, and places size places. BF_UNSOLVABLE unless the matrix has an inverse.
     #[cfg_attr(binary_field_wide, link_name = "bf_g128_matrix_inverse_wide")]
     pub fn bf_g128_matrix_inverse(
         matrix: *const [u64; 2],
@@ -2641,9 +2658,9 @@ unsafe extern "C" {
         places_length: usize,
     ) -> u32;
     /// solution: a solution x of matrix * x = right, of rows equations in columns unknowns, in space for rows times
-    /// columns + 1 elements and rows places; an unknown that the others leave open is 0. BF_LENGTH unless matrix has
-    /// rows * columns elements, right rows, solution columns, space rows * (columns + 1), and places rows places.
-    /// BF_UNSOLVABLE unless there is a solution.
+    /// columns + 1 elements and rows places, which may be written whatever the status; an unknown that the others
+    /// leave open is 0. BF_LENGTH unless matrix has rows * columns elements, right rows, solution columns, space rows
+    /// * (columns + 1), and places rows places. BF_UNSOLVABLE unless there is a solution.
     #[cfg_attr(binary_field_wide, link_name = "bf_g128_matrix_solve_wide")]
     pub fn bf_g128_matrix_solve(
         matrix: *const [u64; 2],
@@ -2672,9 +2689,9 @@ unsafe extern "C" {
         inner: usize,
         columns: usize,
     ) -> u32;
-    /// Brings a matrix of rows rows of columns elements to reduced row echelon form; rank is its rank, and the first
-    /// rank of the rows places of pivots are the columns of its leading entries. BF_LENGTH unless matrix has rows *
-    /// columns elements, and pivots rows places.
+    /// Brings a matrix of rows rows of columns elements to reduced row echelon form; rank is its rank, the first rank
+    /// of the rows places of pivots become the columns of its leading entries, and the others stay. BF_LENGTH unless
+    /// matrix has rows * columns elements, and pivots rows places.
     pub fn bf_p192_matrix_row_reduce(
         matrix: *mut [u64; 3],
         matrix_length: usize,
@@ -2684,8 +2701,9 @@ unsafe extern "C" {
         pivots_length: usize,
         rank: *mut usize,
     ) -> u32;
-    /// rank: the rank of a matrix of rows rows of columns elements, in as much space and rows places. BF_LENGTH
-    /// unless matrix and space have rows * columns elements, and places has rows places.
+    /// rank: the rank of a matrix of rows rows of columns elements, in as much space and rows places, which may be
+    /// written whatever the status. BF_LENGTH unless matrix and space have rows * columns elements, and places has
+    /// rows places.
     pub fn bf_p192_matrix_rank(
         matrix: *const [u64; 3],
         matrix_length: usize,
@@ -2697,8 +2715,8 @@ unsafe extern "C" {
         places_length: usize,
         rank: *mut usize,
     ) -> u32;
-    /// determinant: the determinant of a matrix of size rows of size elements, in as much space; 1 of no rows.
-    /// BF_LENGTH unless matrix and space have size * size elements.
+    /// determinant: the determinant of a matrix of size rows of size elements, in as much space, which may be written
+    /// whatever the status; 1 of no rows. BF_LENGTH unless matrix and space have size * size elements.
     pub fn bf_p192_matrix_determinant(
         matrix: *const [u64; 3],
         matrix_length: usize,
@@ -2707,9 +2725,9 @@ unsafe extern "C" {
         space_length: usize,
         determinant: *mut [u64; 3],
     ) -> u32;
-    /// inverse: the inverse of a matrix of size rows of size elements, in space for two of these and size places.
-    /// BF_LENGTH unless matrix and inverse have size * size elements, space 2 * size * size, and places size places.
-    /// BF_UNSOLVABLE unless the matrix has an inverse.
+    /// inverse: the inverse of a matrix of size rows of size elements, in space for two of these and size places,
+    /// which may be written whatever the status. BF_LENGTH unless matrix and inverse have size * size elements, space
+    /// 2 * size * size, and places size places. BF_UNSOLVABLE unless the matrix has an inverse.
     pub fn bf_p192_matrix_inverse(
         matrix: *const [u64; 3],
         matrix_length: usize,
@@ -2722,9 +2740,9 @@ unsafe extern "C" {
         places_length: usize,
     ) -> u32;
     /// solution: a solution x of matrix * x = right, of rows equations in columns unknowns, in space for rows times
-    /// columns + 1 elements and rows places; an unknown that the others leave open is 0. BF_LENGTH unless matrix has
-    /// rows * columns elements, right rows, solution columns, space rows * (columns + 1), and places rows places.
-    /// BF_UNSOLVABLE unless there is a solution.
+    /// columns + 1 elements and rows places, which may be written whatever the status; an unknown that the others
+    /// leave open is 0. BF_LENGTH unless matrix has rows * columns elements, right rows, solution columns, space rows
+    /// * (columns + 1), and places rows places. BF_UNSOLVABLE unless there is a solution.
     pub fn bf_p192_matrix_solve(
         matrix: *const [u64; 3],
         matrix_length: usize,

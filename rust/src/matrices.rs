@@ -20,7 +20,7 @@ pub trait Matrices: Field {
     ) -> Result<(), Error>;
 
     /// Brings a matrix of `rows` rows of `columns` elements to reduced row echelon form, and returns its rank. The first so many places of
-    /// `pivots`, which has one for each row, are then the columns of the leading entries.
+    /// `pivots`, which has one for each row, become the columns of the leading entries, and the others stay.
     fn matrix_row_reduce(
         matrix: &mut [Self],
         rows: usize,

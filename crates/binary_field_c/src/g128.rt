@@ -191,8 +191,8 @@ pub extern "C" fn bf_g128_matrix_multiply(
     )
 }
 
-/// Brings a matrix of rows rows of columns elements to reduced row echelon form; rank is its rank, and the first rank of the rows places
-/// of pivots are the columns of its leading entries.
+/// Brings a matrix of rows rows of columns elements to reduced row echelon form; rank is its rank, the first rank of the rows places of
+/// pivots become the columns of its leading entries, and the others stay.
 #[unsafe(no_mangle)]
 pub extern "C" fn bf_g128_matrix_row_reduce(
     matrix: &mut [Wide],
@@ -208,7 +208,7 @@ pub extern "C" fn bf_g128_matrix_row_reduce(
     )
 }
 
-/// The rank of a matrix of rows rows of columns elements, in as much space and rows places.
+/// The rank of a matrix of rows rows of columns elements, in as much space and rows places, which may be written whatever the status.
 #[unsafe(no_mangle)]
 pub extern "C" fn bf_g128_matrix_rank(
     matrix: &[Wide],
@@ -225,7 +225,7 @@ pub extern "C" fn bf_g128_matrix_rank(
     )
 }
 
-/// The determinant of a matrix of size rows of size elements, in as much space; 1 of no rows.
+/// The determinant of a matrix of size rows of size elements, in as much space, which may be written whatever the status; 1 of no rows.
 #[unsafe(no_mangle)]
 pub extern "C" fn bf_g128_matrix_determinant(
     matrix: &[Wide],
@@ -243,7 +243,8 @@ pub extern "C" fn bf_g128_matrix_determinant(
     )
 }
 
-/// The inverse of a matrix of size rows of size elements, in space for two of these and size places.
+/// The inverse of a matrix of size rows of size elements, in space for two of these and size places, which may be written whatever the
+/// status.
 #[unsafe(no_mangle)]
 pub extern "C" fn bf_g128_matrix_inverse(
     matrix: &[Wide],
@@ -260,7 +261,7 @@ pub extern "C" fn bf_g128_matrix_inverse(
 }
 
 /// A solution x of matrix * x = right, of rows equations in columns unknowns, in space for rows times columns + 1 elements and rows
-/// places; an unknown that the others leave open is 0.
+/// places, which may be written whatever the status; an unknown that the others leave open is 0.
 #[unsafe(no_mangle)]
 pub extern "C" fn bf_g128_matrix_solve(
     matrix: &[Wide],

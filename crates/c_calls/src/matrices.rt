@@ -43,7 +43,7 @@ pub fn multiply<R: Stored, W: Holds<R>, K: Many<R, W>, V: Width + Vector>(
 }
 
 /// Brings a matrix of `rows` rows of `columns` words to reduced row echelon form, and writes its rank. The first so many places of
-/// `pivots`, which has a place for each row, are the columns of the leading entries.
+/// `pivots`, which has a place for each row, become the columns of the leading entries, and the others stay.
 pub fn row_reduce<R: Stored, W: Holds<R>, K: Many<R, W>, V: Width + Vector>(
     matrix: &mut [W],
     rows: u64,
@@ -66,7 +66,8 @@ pub fn row_reduce<R: Stored, W: Holds<R>, K: Many<R, W>, V: Width + Vector>(
     status::OK
 }
 
-/// Writes the rank of a matrix of `rows` rows of `columns` words, in as much space, and a place for each row.
+/// Writes the rank of a matrix of `rows` rows of `columns` words, in as much space, and a place for each row. Nothing is said of what is
+/// left in space and places, whatever the status.
 pub fn rank<R: Stored, W: Holds<R>, K: Many<R, W>, V: Width + Vector>(
     matrix: &[W],
     rows: u64,
@@ -93,7 +94,8 @@ pub fn rank<R: Stored, W: Holds<R>, K: Many<R, W>, V: Width + Vector>(
     status::OK
 }
 
-/// Writes the determinant of a matrix of `size` rows of as many words, in as much space; of no rows it is 1.
+/// Writes the determinant of a matrix of `size` rows of as many words, in as much space; of no rows it is 1. Nothing is said of what is
+/// left in space, whatever the status.
 pub fn determinant<R: Stored, W: Holds<R>, K: Many<R, W>, V: Width + Vector>(
     matrix: &[W],
     size: u64,
@@ -116,7 +118,8 @@ pub fn determinant<R: Stored, W: Holds<R>, K: Many<R, W>, V: Width + Vector>(
     status::OK
 }
 
-/// Writes the inverse of a matrix of `size` rows of as many words, in space for two matrices, and a place for each row.
+/// Writes the inverse of a matrix of `size` rows of as many words, in space for two matrices, and a place for each row. Where there is
+/// none, `inverse` stays. Nothing is said of what is left in space and places, whatever the status.
 pub fn inverse<R: Stored, W: Holds<R>, K: Many<R, W>, V: Width + Vector>(
     matrix: &[W],
     size: u64,
@@ -164,7 +167,8 @@ pub fn inverse<R: Stored, W: Holds<R>, K: Many<R, W>, V: Width + Vector>(
 }
 
 /// Writes a solution of linear equations: `matrix`, of `rows` rows of `columns` words, has the coefficients of an equation in each row,
-/// and `right` the right sides. It works in a row of one word more for each equation, and a place for each row.
+/// and `right` the right sides. It works in a row of one word more for each equation, and a place for each row. Where there is no solution,
+/// `solution` stays. Nothing is said of what is left in space and places, whatever the status.
 pub fn solve<R: Stored, W: Holds<R>, K: Many<R, W>, V: Width + Vector>(
     matrix: &[W],
     rows: u64,
