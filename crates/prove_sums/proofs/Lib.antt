@@ -1,3 +1,4 @@
+mod Exits
 mod Files
 mod Places
 mod Refusals

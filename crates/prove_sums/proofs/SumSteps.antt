@@ -19,7 +19,7 @@ pub some-unless : {T : Type 0} (found : Option T) → (is_some found ≡ false �
 some-unless (Some x) not = refl
 some-unless None not = absurd (not refl)
 
-degree-product : degree_of product_terms ≡ 2
+pub degree-product : degree_of product_terms ≡ 2
 unfolding degree_of
 degree-product = refl
 

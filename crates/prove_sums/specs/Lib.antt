@@ -1,3 +1,4 @@
 pub mod ProofFiles
+pub mod Reports
 pub mod Shapes
 pub mod Verdicts

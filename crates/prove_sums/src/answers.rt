@@ -1,6 +1,7 @@
 // What is answered on a file of a proof.
-ghost use Rattle.std.specs.Prelude.{IfOk};
+ghost use Rattle.std.specs.Prelude.{◌≡◌, IfErr, IfOk};
 ghost use Rattle.field_element.specs.Element.{repr_of};
+ghost use Rattle.sum_checks.specs.declared.error.ProtocolError.TheVariants.{Memory};
 ghost use Rattle.prove_sums.specs.ProofFiles.{IsFileOf};
 ghost use Rattle.prove_sums.specs.Verdicts.{IsWordAnswer, refusal_in};
 
@@ -12,8 +13,8 @@ use protocols::ProtocolError;
 use std::alloc::Global;
 use transcripts::ByteHasher32;
 
-/// The proof that a file holds, if it is one for the tables with these roots and is accepted, or why it is refused. It fails if memory was
-/// refused.
+/// The proof that a file holds, if it is one for the tables with these roots and is accepted, or why it is refused. It fails only if memory
+/// was refused.
 pub fn answer_to<'a, H: ByteHasher32>(
     alloc: Global,
     hasher: &H,
@@ -21,8 +22,9 @@ pub fn answer_to<'a, H: ByteHasher32>(
     bytes: &'a [u8],
 ) -> Result<Result<Proof<'a, Ghash128>, Refusal>, ProtocolError>
     ensures answer { IfOk result (λ answer. IsWordAnswer H.digest hasher.now roots.now.left roots.now.right bytes.now (refusal_in answer)) }
-    ensures proof { IfOk result (λ answer. IfOk answer (λ proof. IsFileOf repr_of bytes.now proof.shape.rounds proof.roots.left
-        proof.roots.right proof.elements.items proof.nodes.now)) }
+    ensures proof { IfOk result (λ answer. IfOk answer (λ proof. IsFileOf repr_of bytes.now proof.shape.rounds roots.now.left
+        roots.now.right proof.elements.items proof.nodes.now)) }
+    ensures memory { IfErr result (λ error. error ≡ Memory) }
 {
     let proof = match decode(alloc, bytes)? {
         Ok(proof) => proof,

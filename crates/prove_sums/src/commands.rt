@@ -1,21 +1,22 @@
 // What the program does.
-ghost use Rattle.std.specs.Prelude.{◌≡◌, IfOk};
+ghost use Rattle.std.specs.Prelude.{string_bytes, IfOk};
 ghost use Rattle.field_element.specs.Element.{repr_of};
-ghost use Rattle.prove_sums.specs.Shapes.{sum_in};
+ghost use Rattle.prove_sums.specs.Reports.{IsCommitReport, IsProveReport};
 ghost use Rattle.prove_sums.specs.Verdicts.{word_times, word_vector, HoldsTable, IsTable, IsTableRoot, IsTableTree};
-ghost use Rattle.prove_sums.specs.Verdicts.{IsWordCommitment, IsWordProof};
+ghost use Rattle.prove_sums.specs.Verdicts.{IsWordCommitment};
 
-use crate::answers::answer_to;
 use crate::example;
 use crate::proof_file::{Roots, encode};
 use crate::proving::Committed;
+use crate::reports::{Report, print_report, root_report, sum_report, verify_report};
 use crate::shapes::Shape;
 use crate::tables::table_of;
 use crate::word_sums::{commit_table, prove, root_of};
 use anyhow::{Context, Result, bail};
 use field_element::Ghash128;
-use hex::FromHex;
 use std::alloc::Global;
+use std::os::unix::fs::MetadataExt;
+use std::process::ExitCode;
 use std::{env, fs};
 use transcripts::{ByteHasher32, Sha256Hasher};
 
@@ -25,94 +26,87 @@ const USAGE: &str = "usage: prove_sums commit TABLE | prove LEFT RIGHT PROOF | v
 
 TABLE, LEFT and RIGHT are files of 2^n words of 16 bytes, n from 0 to 39, as many in LEFT as in RIGHT. A word is an element of the
 field of GHASH, from its lowest byte. `commit` prints the root that commits to a table, as 64 hexadecimal digits. `prove` adds the
-products of the words at the same places, proves that this is their sum, and writes the proof to PROOF. `verify` says whether PROOF
-proves that for the tables with these two roots, that of LEFT first, and for which sum. It reads neither table.
+products of the words at the same places, proves that this is their sum, and writes the proof to PROOF, which may not be one of the two
+tables. `verify` says whether PROOF proves that for the tables nearest to what these two roots hold, that of LEFT first, and for which
+sum. It reads neither table.
 
 A table is a matrix of 2^h rows, h = (n - 7) / 2, or 0 where n is below 7. Each row of 2^k words, k = n - h, is extended to a code word
 of four times its length, and the root is that of the Merkle tree over SHA-256 whose leaves are the columns. A proof is 8 bytes that
 name the format and the field, one byte for n, both roots, the sum, the 2 n numbers of the sum-check protocol, a witness of 16 bits of
 work, a row of 2^k numbers for each table, which has the values of its columns at the first h challenges, the columns at 128 places for
 each table, or at all places where there are fewer, and the nodes that open them, as many for either. Numbers have 16 bytes and nodes
-32. The transcript begins with the bytes before the sum. What a proof shows rests on the roots, and on SHA-256.
+32. The transcript begins with the bytes before the sum.
+
+A proof is about the nearest tables: where a few columns below a root are not those of its table, a proof may be accepted that is one of
+the table to which the others belong. What it shows rests on SHA-256, on challenges and places that SHA-256 draws in place of a verifier,
+and on how many columns are opened. No theorem says how seldom a false proof is accepted.
 
 The exit status is 0 if a proof was written or is accepted, 1 if it is refused, and 2 after an error. Without arguments the program
 prints a worked example. --version prints the version.";
 
-/// Does what the command line says. It returns whether no proof was refused.
-pub fn run(rt: &HostRuntime) -> Result<bool> {
+/// Does what the command line says. It returns what the program ends with.
+pub fn run(rt: &HostRuntime) -> Result<ExitCode> {
     let mut words = Vec::new(rt.alloc());
     for word in env::args(rt).context("reading the command line")? {
         words.push(word)?;
     }
     if words.len() <= 1 {
         example::print(rt)?;
-        return Ok(true);
+        return Ok(ExitCode::SUCCESS);
     }
     let command = words[1].as_str();
     if words.len() == 2 && command == "--help" {
         println!(rt; "{USAGE}")?;
-        return Ok(true);
+        return Ok(ExitCode::SUCCESS);
     }
     if words.len() == 2 && command == "--version" {
         println!(rt; "{VERSION}")?;
-        return Ok(true);
+        return Ok(ExitCode::SUCCESS);
     }
-    if words.len() == 3 && command == "commit" {
-        let table = fs::read(rt, words[2].as_str()).context("reading the table")?;
-        let root = commit_bytes(rt.alloc(), &Sha256Hasher, table.as_slice())?;
-        println!(rt; "{}", hex::encode(rt.alloc(), &root[..])?)?;
-        return Ok(true);
-    }
-    if words.len() == 5 && command == "prove" {
-        run_prove(rt, words[2].as_str(), words[3].as_str(), words[4].as_str())?;
-        return Ok(true);
-    }
-    if words.len() == 5 && command == "verify" {
-        return run_verify(rt, words[2].as_str(), words[3].as_str(), words[4].as_str());
-    }
-    bail!("{USAGE}")
+    let report = if words.len() == 3 && command == "commit" {
+        run_commit(rt, words[2].as_str())?
+    } else if words.len() == 5 && command == "prove" {
+        run_prove(rt, words[2].as_str(), words[3].as_str(), words[4].as_str())?
+    } else if words.len() == 5 && command == "verify" {
+        run_verify(rt, words[2].as_str(), words[3].as_str(), words[4].as_str())?
+    } else {
+        bail!("{USAGE}")
+    };
+    let code = print_report(&mut rt.stdout(), &report)?;
+    Ok(code)
+}
+
+// Commits to the table in a file.
+fn run_commit(rt: &HostRuntime, table: &str) -> Result<Report> {
+    let table = fs::read(rt, table).context("reading the table")?;
+    commit_report(rt.alloc(), &Sha256Hasher, table.as_slice())
 }
 
 // Proves the sum of the tables in two files, and writes the proof to a third.
-fn run_prove(rt: &HostRuntime, left: &str, right: &str, to: &str) -> Result<()> {
+fn run_prove(rt: &HostRuntime, left: &str, right: &str, to: &str) -> Result<Report> {
+    if is_one_file(rt, left, to) || is_one_file(rt, right, to) {
+        bail!("the proof would be written over a table")
+    }
     let left = fs::read(rt, left).context("reading the left table")?;
     let right = fs::read(rt, right).context("reading the right table")?;
     let written = prove_tables(rt.alloc(), &Sha256Hasher, left.as_slice(), right.as_slice())?;
-    let bytes = written.bytes.as_slice();
-    fs::write(rt, to, bytes).context("writing the proof")?;
-    say_sum(rt, written.sum, bytes.len())
+    fs::write(rt, to, written.bytes.as_slice()).context("writing the proof")?;
+    Ok(written.report)
 }
 
-// Verifies the proof in a file, for the tables with these roots. It returns whether it is accepted.
-fn run_verify(rt: &HostRuntime, from: &str, left: &str, right: &str) -> Result<bool> {
-    let bytes = fs::read(rt, from).context("reading the proof")?;
-    let left = root_from(left).context("reading the left root")?;
-    let right = root_from(right).context("reading the right root")?;
-    let bytes = bytes.as_slice();
-    match answer_to(rt.alloc(), &Sha256Hasher, &Roots { left, right }, bytes)? {
-        Ok(proof) => {
-            say_sum(rt, proof.sum(), bytes.len())?;
-            Ok(true)
-        }
-        Err(refusal) => {
-            println!(rt; "refused: {refusal}")?;
-            Ok(false)
-        }
+// Whether two names are those of one file, as where one is a link to the other.
+fn is_one_file(rt: &HostRuntime, one: &str, other: &str) -> bool {
+    match (fs::metadata(rt, one), fs::metadata(rt, other)) {
+        (Ok(one), Ok(other)) => one.dev() == other.dev() && one.ino() == other.ino(),
+        _ => false,
     }
 }
 
-// The root with these digits.
-fn root_from(digits: &str) -> Result<[u8; 32]> {
-    let Ok(root) = <[u8; 32] as FromHex>::from_hex(digits) else {
-        bail!("a root has to be 64 hexadecimal digits")
-    };
-    Ok(root)
-}
-
-// Prints a sum, from its highest digit, and how many bytes its proof has.
-fn say_sum(rt: &HostRuntime, sum: Ghash128, size: usize) -> Result<()> {
-    println!(rt; "the sum is {sum:032x}, and its proof has {size} bytes")?;
-    Ok(())
+// Verifies the proof in a file, for the tables with the roots of these digits.
+fn run_verify(rt: &HostRuntime, from: &str, left: &str, right: &str) -> Result<Report> {
+    let bytes = fs::read(rt, from).context("reading the proof")?;
+    let report = verify_report(rt.alloc(), &Sha256Hasher, bytes.as_slice(), left, right)?;
+    Ok(report)
 }
 
 // A table, and what commits to it.
@@ -148,13 +142,22 @@ pub(crate) fn commit_bytes<H: ByteHasher32>(
     Ok(root)
 }
 
-/// A proof as it is written.
+/// What `commit` prints for the bytes of a table.
+fn commit_report<H: ByteHasher32>(alloc: Global, hasher: &H, table: &[u8]) -> Result<Report>
+    ensures { IfOk result (λ report. IsCommitReport (H.digest hasher.now) table.now (string_bytes report.line) report.status) }
+{
+    let root = commit_bytes(alloc, hasher, table)?;
+    let report = root_report(alloc, &root)?;
+    Ok(report)
+}
+
+/// A proof as it is written, and what is printed of it.
 #[derive(Drop)]
 pub(crate) struct Written {
-    /// The sum that is proved.
-    pub sum: Ghash128,
     /// The bytes of the proof.
     pub bytes: Vec<u8>,
+    /// What is printed: the sum that is proved, and how many bytes there are.
+    pub report: Report,
 }
 
 /// The proof of the sum of two tables.
@@ -164,8 +167,8 @@ pub(crate) fn prove_tables<H: ByteHasher32>(
     left: &[u8],
     right: &[u8],
 ) -> Result<Written>
-    ensures { IfOk result (λ written. (is : IsWordProof H.digest hasher.now left.now right.now written.bytes.items)
-        × (repr_of written.sum ≡ sum_in repr_of is.elements)) }
+    ensures { IfOk result (λ written. IsProveReport H.digest hasher.now left.now right.now written.bytes.items
+        (string_bytes written.report.line) written.report.status) }
 {
     let (shape, first, left_root) = commit(alloc, hasher, left)?;
     let (other, second, right_root) = commit(alloc, hasher, right)?;
@@ -180,8 +183,6 @@ pub(crate) fn prove_tables<H: ByteHasher32>(
     let sent = prove(alloc, hasher, &shape, &roots, &first, &second)?;
     let (elements, nodes) = (sent.elements.as_slice(), sent.nodes.as_slice());
     let bytes = encode(alloc, &shape, &roots, elements, nodes)?;
-    Ok(Written {
-        sum: elements[0],
-        bytes,
-    })
+    let report = sum_report(alloc, elements[0], bytes.len())?;
+    Ok(Written { bytes, report })
 }

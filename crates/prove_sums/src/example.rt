@@ -25,7 +25,10 @@ static CHANGES: [(&str, usize); 12] = [
 fn say(rt: &HostRuntime, what: &str, roots: &Roots, proof: &[u8]) -> Result<()> {
     match answer_to(rt.alloc(), &Sha256Hasher, roots, proof)? {
         Ok(_) => println!(rt; "{what}: accepted")?,
-        Err(refusal) => println!(rt; "{what}: refused, {refusal}")?,
+        Err(refusal) => {
+            let why = refusal.text();
+            println!(rt; "{what}: refused, {why}")?
+        }
     }
     Ok(())
 }

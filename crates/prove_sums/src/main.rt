@@ -12,6 +12,7 @@ mod example;
 mod proof_file;
 mod proving;
 mod refusal;
+mod reports;
 mod shapes;
 mod sums;
 mod tables;
@@ -22,8 +23,7 @@ use std::process::ExitCode;
 
 fn main(rt: HostRuntime) -> ExitCode {
     match commands::run(&rt) {
-        Ok(true) => ExitCode::SUCCESS,
-        Ok(false) => ExitCode::FAILURE,
+        Ok(code) => code,
         Err(error) => {
             let _ = eprintln!(rt; "prove_sums: {error:#}");
             ExitCode::from(2)

@@ -1,25 +1,36 @@
 // Why a proof is refused.
-use thiserror::Error;
+ghost use Rattle.std.specs.Prelude.{◌≡◌};
+ghost use Rattle.prove_sums.specs.Reports.{refusal_text};
 
 /// Why a proof is refused.
-#[derive(Clone, Copy, Debug, PartialEq, Eq, Error)]
+#[derive(Clone, Copy, Debug, PartialEq, Eq)]
 pub enum Refusal {
     /// The file does not begin as a proof does.
-    #[error("this is no proof of a sum")]
     NotAProof,
     /// The proof is over another field.
-    #[error("the proof is over another field")]
     OtherField,
     /// The file ends within the proof, or behind it.
-    #[error("the proof is cut off, or has too much")]
     Length,
     /// The proof is for another table on the left.
-    #[error("the proof is for another left table")]
     OtherLeft,
     /// The proof is for another table on the right.
-    #[error("the proof is for another right table")]
     OtherRight,
     /// The messages do not lead from the sum to the rows, or the columns that are opened do not agree with them.
-    #[error("the sum is not proved")]
     NotProved,
+}
+
+impl Refusal {
+    /// What is printed of it.
+    pub fn text(self) -> &'static str
+        ensures { result.now ≡ refusal_text self }
+    {
+        match self {
+            Refusal::NotAProof => "this is no proof of a sum",
+            Refusal::OtherField => "the proof is over another field",
+            Refusal::Length => "the proof is cut off, or has too much",
+            Refusal::OtherLeft => "the proof is for another left table",
+            Refusal::OtherRight => "the proof is for another right table",
+            Refusal::NotProved => "the sum is not proved",
+        }
+    }
 }

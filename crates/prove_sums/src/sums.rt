@@ -1,6 +1,7 @@
 // Sums of the products of two tables, over any field and in any transcript of it.
-ghost use Rattle.std.specs.Prelude.{◌≡◌, ◌+◌, ◌*◌, ◌^◌, ◌≤◌, [], ◌∷◌, length, map, IfOk};
+ghost use Rattle.std.specs.Prelude.{◌≡◌, ◌+◌, ◌*◌, ◌^◌, ◌<◌, ◌≤◌, [], ◌∷◌, false, length, map, IfErr, IfOk, OnOk};
 ghost use Rattle.sum_checks.specs.Products.{term_product};
+ghost use Rattle.sum_checks.specs.declared.error.ProtocolError.TheVariants.{Memory};
 ghost use Rattle.prove_sums.specs.Verdicts.{interleaved, IsReducedClaim, IsSummed, product_terms};
 
 use crate::shapes::part;
@@ -88,7 +89,8 @@ pub fn prove<F: Field, C: FieldChallenger<F>>(
 }
 
 /// Reduces the claim that the first element of a proof is the sum of the products of two tables of 2^rounds elements: by the messages that
-/// follow it, to a claim at a point. It fails as `sumcheck::verify` does.
+/// follow it, to a claim at a point. It fails as `sumcheck::verify` does: where the field has at least 2^3 elements, and more than there are
+/// rounds, in a transcript that has not failed, only if memory was refused.
 pub fn reduce<F: Field, C: FieldChallenger<F>>(
     alloc: Global,
     challenger: &mut C,
@@ -96,8 +98,10 @@ pub fn reduce<F: Field, C: FieldChallenger<F>>(
     elements: &[F],
 ) -> Result<Reduced<F, Global>, ProtocolError>
     requires { 2 * rounds + 1 ≤ length elements.now }
-    ensures { IfOk result (λ reduced. IsReducedClaim C.observes C.gives F.repr F.width F.product rounds elements.now challenger.old
+    ensures reduced { IfOk result (λ reduced. IsReducedClaim C.observes C.gives F.repr F.width F.product rounds elements.now challenger.old
         reduced.point.items (F.repr reduced.claim) challenger.new) }
+    ensures goes_on { OnOk result (C.has_failed challenger.new ≡ false) }
+    ensures memory { 3 ≤ F.width → rounds < 2 ^ F.width → C.has_failed challenger.old ≡ false → IfErr result (λ error. error ≡ Memory) }
 {
     let terms = terms(alloc)?;
     let terms = terms.as_slice();

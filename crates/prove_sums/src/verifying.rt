@@ -1,5 +1,6 @@
 // The verifier of a sum of products of two tables, of which it has the commitments alone.
-ghost use Rattle.std.specs.Prelude.{◌≡◌, ◌↔◌, ◌+◌, ◌*◌, ◌≤◌, ◌<◌, length, IfOk, IsTrue};
+ghost use Rattle.std.specs.Prelude.{◌≡◌, ◌↔◌, ◌+◌, ◌*◌, ◌≤◌, ◌<◌, false, length, IfErr, IfOk, IsTrue};
+ghost use Rattle.sum_checks.specs.declared.error.ProtocolError.TheVariants.{Memory};
 ghost use Rattle.prove_sums.specs.Shapes.{block_count, columns_size, element_count, levels_of, row_in, rows_in, rows_of, witness_in};
 ghost use Rattle.prove_sums.specs.Verdicts.{DrawsPlaces, IsProductAt, VerifiesSum, OpensTable, root_in};
 
@@ -18,8 +19,8 @@ use transcripts::{ByteHasher32, CanSampleUniformBits, GrindingChallenger};
 /// The bits of a proof's work.
 pub(crate) const WORK: usize = 16;
 
-/// Whether a proof proves that its first element is the sum of the products of the tables to which its roots commit. It fails where the
-/// challenger does, or memory is refused.
+/// Whether a proof proves that its first element is the sum of the products of the tables to which its roots commit. In a transcript that
+/// has not failed it fails only if memory was refused.
 pub fn verify<
     F: ByteLevel,
     H: ByteHasher32,
@@ -31,9 +32,10 @@ pub fn verify<
     proof: &Proof<'_, F>,
 ) -> Result<bool, ProtocolError>
     requires { 40 ≤ F.width }
-    ensures { IfOk result (λ accepted. VerifiesSum C.observes C.gives C.passing C.checks C.gives_bits C.number F.repr (H.digest hasher.now)
+    ensures verdict { IfOk result (λ accepted. VerifiesSum C.observes C.gives C.passing C.checks C.gives_bits C.number F.repr (H.digest hasher.now)
         F.NUM_BYTES F.width F.product (λ i. F.basis (F.cantor i)) proof.now.shape.rounds proof.now.roots.left proof.now.roots.right
         proof.now.elements.items proof.now.nodes.now challenger.old accepted) }
+    ensures memory { C.has_failed challenger.old ≡ false → IfErr result (λ error. error ≡ Memory) }
 {
     let shape = &proof.shape;
     let elements = proof.elements.as_slice();
@@ -66,9 +68,10 @@ fn sample_places<
     elements: &[F],
 ) -> Result<(bool, Vec<usize>), ProtocolError>
     requires { length elements.now ≡ element_count shape.now.rounds }
-    ensures { IfOk result (λ drawn. DrawsPlaces C.observes C.gives C.passing C.checks C.gives_bits shape.now.rounds
+    ensures drawn { IfOk result (λ drawn. DrawsPlaces C.observes C.gives C.passing C.checks C.gives_bits shape.now.rounds
         (rows_in shape.now.rounds elements.now) (witness_in C.number shape.now.rounds elements.now) challenger.old drawn.0 drawn.1.items
         challenger.new) }
+    ensures memory { C.has_failed challenger.old ≡ false → IfErr result (λ error. error ≡ Memory) }
 {
     let rows = part(elements, 2 * shape.rounds + 2, 2 * shape.row_size());
     challenger.observe_slice(rows)?;

@@ -1,9 +1,10 @@
 // Proofs over tables of words, in the field of GHASH and in a transcript over a hash function: here the program names its field.
-ghost use Rattle.std.specs.Prelude.{◌≡◌, ◌^◌, ℕ, List, [], IfOk};
+ghost use Rattle.std.specs.Prelude.{◌≡◌, ◌^◌, ℕ, List, [], false, IfErr, IfOk};
 ghost use Rattle.field_bytes.specs.Streams.{joined_bytes};
 ghost use Rattle.field_element.specs.Element.{repr_of};
 ghost use Rattle.transcripts.specs.HashChallengers.{hash_state};
-ghost use Rattle.transcript_elements.specs.Challengers.{inner_of};
+ghost use Rattle.transcript_elements.specs.Challengers.{challenger_failed, inner_of};
+ghost use Rattle.sum_checks.specs.declared.error.ProtocolError.TheVariants.{Memory};
 ghost use Rattle.merkle_trees.specs.{Commitments.{IsTreeOver, digest_at, row_at}, MerkleTrees.{rows_root}};
 ghost use Rattle.prove_sums.specs.{ProofFiles.{file_bytes}, Shapes.{rows_of}};
 ghost use Rattle.prove_sums.specs.Verdicts.{word_times, word_vector, HoldsTable, IsHonestSum, IsSumVerdict};
@@ -26,8 +27,9 @@ fn transcript<H: ByteHasher32>(
     shape: &Shape,
     roots: &Roots,
 ) -> Result<BinaryChallenger<Ghash128, HashChallenger<H>>, AllocError>
-    ensures { IfOk result (λ challenger. hash_state (inner_of challenger)
+    ensures state { IfOk result (λ challenger. hash_state (inner_of challenger)
         ≡ (hasher.now, file_bytes shape.now.rounds roots.now.left roots.now.right [] [], [])) }
+    ensures fresh { IfOk result (λ challenger. challenger_failed challenger ≡ false) }
 {
     let front = encode(alloc, shape, roots, &[], &[])?;
     Ok(BinaryChallenger::from_hasher(front, *hasher))
@@ -88,9 +90,10 @@ pub fn verify<H: ByteHasher32>(
     hasher: &H,
     proof: &Proof<'_, Ghash128>,
 ) -> Result<bool, ProtocolError>
-    ensures { IfOk result (λ accepted. IsSumVerdict H.digest hasher.now repr_of
+    ensures verdict { IfOk result (λ accepted. IsSumVerdict H.digest hasher.now repr_of
         (file_bytes proof.now.shape.rounds proof.now.roots.left proof.now.roots.right [] []) proof.now.shape.rounds proof.now.roots.left
         proof.now.roots.right proof.now.elements.items proof.now.nodes.now accepted) }
+    ensures memory { IfErr result (λ error. error ≡ Memory) }
 {
     let mut challenger = transcript(alloc, hasher, &proof.shape, &proof.roots)?;
     let accepted = verifying::verify(alloc, hasher, &mut challenger, proof)?;

@@ -1,5 +1,7 @@
-use Rattle.std.proofs.Common.{false, true, rules}
+use Rattle.std.proofs.Common.{◌≡◌, ℕ, List, false, true, rules, ◌∙◌, subst}
 use Rattle.field_element.specs.Element.{repr_of}
+use Rattle.prove_sums.specs.ProofFiles.{IsFileOf}
+use Rattle.prove_sums.proofs.Exits.{memory-alone}
 use Rattle.prove_sums.proofs.Refusals.{answered, err-told, ok-told, unread}
 use Rattle.prove_sums.proofs.answers.answer_to.Goals as goal
 
@@ -14,7 +16,7 @@ returns-then-not-accepted-clause-answer g c =
     answered g.H.ByteHasher32.digest c.args.hasher.now repr_of c.args.roots.now.left c.args.roots.now.right c.args.bytes.now proof.shape.rounds
     proof.roots.left proof.roots.right proof.elements.items proof.nodes.now
     (ok-told _ c.in_ok-proof.field-0 proof c.in-Ok.is c.in_ok-proof.ensures.whole) c.in_ok-accepted.accepted false (search rules) (search rules)
-    c.in_ok-accepted.ensures c.if-not-accepted.true
+    c.in_ok-accepted.ensures.verdict c.if-not-accepted.true
 
 pub returns-clause-answer : goal.returns-clause-answer
 returns-clause-answer g c =
@@ -22,4 +24,19 @@ returns-clause-answer g c =
     answered g.H.ByteHasher32.digest c.args.hasher.now repr_of c.args.roots.now.left c.args.roots.now.right c.args.bytes.now proof.shape.rounds
     proof.roots.left proof.roots.right proof.elements.items proof.nodes.now
     (ok-told _ c.in_ok-proof.field-0 proof c.in-Ok.is c.in_ok-proof.ensures.whole) c.in_ok-accepted.accepted true (search rules) (search rules)
-    c.in_ok-accepted.ensures c.if-not-accepted.false
+    c.in_ok-accepted.ensures.verdict c.if-not-accepted.false
+
+pub returns-clause-proof : goal.returns-clause-proof
+returns-clause-proof g c =
+    let proof = c.in-Ok.proof in
+    let roots = c.args.roots.now in
+    let left : proof.roots.left ≡ roots.left = search rules in
+    let right : proof.roots.right ≡ roots.right = search rules in
+    let file = ok-told _ c.in_ok-proof.field-0 proof c.in-Ok.is c.in_ok-proof.ensures.whole in
+    subst (λ (l : List ℕ). IsFileOf repr_of c.args.bytes.now proof.shape.rounds l roots.right proof.elements.items proof.nodes.now) left
+    (subst (λ (r : List ℕ). IsFileOf repr_of c.args.bytes.now proof.shape.rounds proof.roots.left r proof.elements.items proof.nodes.now) right
+    file)
+
+pub returns-in_err-accepted-clause-memory : goal.returns-in_err-accepted-clause-memory
+returns-in_err-accepted-clause-memory g c =
+    memory-alone _ c.from_residual-in_err-accepted.ensures.1 (λ error is. is ∙ c.in_err-accepted.ensures.memory)

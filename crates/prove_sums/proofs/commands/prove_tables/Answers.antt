@@ -1,7 +1,8 @@
-use Rattle.std.proofs.Common.{◌≡◌, ◌<◌, ℕ, List, length, ◌∙◌, ap, ap₂, subst, arith}
+use Rattle.std.proofs.Common.{◌≡◌, ◌<◌, ℕ, List, length, ◌∙◌, ap, ap₂, subst, arith, rules}
 use Rattle.field_bytes.specs.Streams.{joined_bytes}
 use Rattle.field_element.specs.Element.{repr_of}
 use Rattle.prove_sums.specs.ProofFiles.{file_bytes}
+use Rattle.prove_sums.specs.Reports.{sum_line}
 use Rattle.prove_sums.specs.Shapes.{sum_in}
 use Rattle.prove_sums.specs.Verdicts.{HoldsTable, IsTable, IsTableRoot, IsTableTree, word_times, word_vector}
 use Rattle.prove_sums.proofs.SumSteps.{number-at}
@@ -33,8 +34,10 @@ returns g c =
     let hash = g.H.ByteHasher32.digest c.args.hasher.now in
     let same : c.in_ok-other.other.rounds ≡ n = omega (arith, c.if-others-rounds.false) in
     let long = ap length (c.as_slice-elements.ensures.value ∙ c.in_ok-sent.ensures.written) in
-    let some : 0 < length c.as_slice-elements.result.now = omega (arith, long) in (
-      record {
+    let some : 0 < length c.as_slice-elements.result.now = omega (arith, long) in
+    let size : c.len.result ≡ length c.in_ok-bytes.bytes.items = search rules in
+    record {
+      is = record {
         rounds = n;
         one = first.elements.items;
         other = second.elements.items;
@@ -58,7 +61,11 @@ returns g c =
             ∙ ap₂ (λ (l : List _) (ns : List (List ℕ)). file_bytes n c.in_ok-shape.left_root right_root (joined_bytes 16 repr_of l) ns)
             c.as_slice-elements.ensures.value c.as_slice-nodes.ensures.value;
         honest = c.in_ok-sent.ensures;
-      },
-      number-at repr_of c.as_slice-elements.result.now 0 c.index-elements-0.result some c.index-elements-0.is
-          ∙ ap (sum_in repr_of) c.as_slice-elements.ensures.value,
-    )
+      };
+      said =
+          c.in_ok-report.ensures.line
+          ∙ ap₂ sum_line
+          (number-at repr_of c.as_slice-elements.result.now 0 c.index-elements-0.result some c.index-elements-0.is
+          ∙ ap (sum_in repr_of) c.as_slice-elements.ensures.value) size;
+      succeeds = c.in_ok-report.ensures.status;
+    }

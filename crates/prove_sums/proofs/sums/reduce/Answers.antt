@@ -1,11 +1,12 @@
-use Rattle.std.proofs.Common.{map, ◌∙◌, ap, arith}
+use Rattle.std.proofs.Common.{length, map, ◌∙◌, ap, arith}
 use Rattle.sum_checks.specs.Products.{term_product}
 use Rattle.prove_sums.specs.Shapes.{messages_in, sum_in}
+use Rattle.prove_sums.proofs.Exits.{memory-alone, sum-taken}
 use Rattle.prove_sums.proofs.SumSteps.{number-at, verified-sum}
 use Rattle.prove_sums.proofs.sums.reduce.Goals as goal
 
-pub returns : goal.returns
-returns g c =
+pub returns-clause-reduced : goal.returns-clause-reduced
+returns-clause-reduced g c =
     let field = g.F.Represented in
     let reduced = c.in_ok-reduced.ensures.read in
     let elements = c.args.elements.now in
@@ -21,3 +22,12 @@ returns g c =
       left = read.1;
       challenge_count = reduced.2;
     }
+
+pub returns-in_err-reduced-clause-memory : goal.returns-in_err-reduced-clause-memory
+returns-in_err-reduced-clause-memory g c wide fits going =
+    let field = g.F.Represented in
+    let same = ap (map (term_product field.repr)) c.as_slice-terms.ensures.value ∙ c.in_ok-terms.ensures in
+    let memory =
+    sum-taken field.width c.args.rounds (length c.part-messages.result.now) (map (term_product field.repr) c.as_slice-terms.result.now)
+    c.in_err-reduced.field-0.0 same c.part-messages.ensures.count wide fits (c.in_err-reduced.ensures.answer.memory going) in
+    memory-alone _ c.from_residual-in_err-reduced.ensures.1 (λ error is. is ∙ memory)

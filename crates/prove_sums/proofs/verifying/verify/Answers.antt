@@ -2,6 +2,7 @@ use Rattle.std.proofs.Common.{◌≡◌, ℕ, List, length, take, drop, refl, �
 use Rattle.std.specs.Prelude.{◌↔◌, IsTrue}
 use Rattle.prove_sums.specs.Shapes.{element_count, row_size, rows_in, rows_of, witness_in}
 use Rattle.prove_sums.specs.Verdicts.{DrawsPlaces, IsProductAt, IsReducedClaim, OpensTable}
+use Rattle.prove_sums.proofs.Exits.{memory-alone, rounds-fit}
 use Rattle.prove_sums.proofs.Sizes.{front-room}
 use Rattle.prove_sums.proofs.SumSteps.{all-decided}
 use Rattle.prove_sums.proofs.verifying.verify.Goals as goal
@@ -28,11 +29,11 @@ is_product-holds-requires-clause-count g c =
 
 pub split_at-requires : goal.split_at-requires
 split_at-requires g c =
-    let long = ap length c.as_slice.ensures.value ∙ c.in_ok-reduced.ensures.challenge_count in
+    let long = ap length c.as_slice.ensures.value ∙ c.in_ok-reduced.ensures.reduced.challenge_count in
     omega (arith, long, c.args.proof.now.shape.rows_are)
 
-pub returns : goal.returns
-returns g c =
+pub returns-clause-verdict : goal.returns-clause-verdict
+returns-clause-verdict g c =
     let field = g.F.Represented in
     let proof = c.args.proof.now in
     let shape = proof.shape in
@@ -70,15 +71,25 @@ returns g c =
       reduced =
           subst
           (λ (es : List _). IsReducedClaim g.C.CanObserve.observes g.C.CanSample.gives field.repr field.width field.product n es
-          c.args.challenger.now whole claim c.reduce.new.challenger) same c.in_ok-reduced.ensures;
+          c.args.challenger.now whole claim c.reduce.new.challenger) same c.in_ok-reduced.ensures.reduced;
       drawn =
           subst
           (λ (es : List _). DrawsPlaces g.C.CanObserve.observes g.C.CanSample.gives g.C.GrindingChallenger.passing
           g.C.GrindingChallenger.checks g.C.CanSampleBits.gives_bits n (rows_in n es) (witness_in g.C.GrindingChallenger.number n es)
-          c.reduce.new.challenger works drawn c.sample_places.new.challenger) same c.in_ok-works.ensures;
+          c.reduce.new.challenger works drawn c.sample_places.new.challenger) same c.in_ok-works.ensures.drawn;
       decided =
           subst (λ (p : List _). says p (drop (rows_of n) whole) drawn) front
           (subst (λ (o : List _). says c.split_at.result.0.now o drawn) back
           (subst (λ (ps : List ℕ). says c.split_at.result.0.now c.split_at.result.1.now ps) c.as_slice-places.ensures.value
           (all-decided c.all_hold.ensures product c.in_ok-first.ensures c.in_ok-second.ensures)));
     }
+
+pub returns-in_err-reduced-clause-memory : goal.returns-in_err-reduced-clause-memory
+returns-in_err-reduced-clause-memory g c going =
+    let shape = c.args.proof.now.shape in
+    let fits = rounds-fit g.F.Represented.width shape.rounds c.requires shape.few in
+    memory-alone _ c.from_residual.ensures.1 (λ error is. is ∙ c.in_err-reduced.ensures.memory (omega (arith, c.requires)) fits going)
+
+pub returns-in_err-works-clause-memory : goal.returns-in_err-works-clause-memory
+returns-in_err-works-clause-memory g c going =
+    memory-alone _ c.from_residual-in_err-works.ensures.1 (λ error is. is ∙ c.in_err-works.ensures.memory c.in_ok-reduced.ensures.goes_on)

@@ -17,4 +17,4 @@ returns g c =
     (λ old bits witness new is. is) (λ old bits number new is. is) repr_of repr_of shape.rounds sent.elements.items 128 word_times
     left.elements.items right.elements.items left.held.columns.items right.held.columns.items left.held.tree right.held.tree sent.nodes.items
     c.in_ok-challenger.challenger (c.args.hasher.now, file_bytes shape.rounds roots.left roots.right [] [], [])
-    c.in_ok-challenger.ensures c.in_ok-sent.ensures
+    c.in_ok-challenger.ensures.state c.in_ok-sent.ensures

@@ -1,0 +1,98 @@
+-- Calls that fail for memory alone, and what is printed for a file.
+use Rattle.std.proofs.Common.{◌≡◌, ℕ, ◌*◌, ◌^◌, ◌<◌, ◌≤◌, inl, inr, Err, Ok, Result, List, length, sym, ◌∙◌, ap, refl, subst, arith}
+use Rattle.std.specs.Prelude.{◌⊎◌, IfErr, IsErr, IsErrAnd, IsOk, None, Some}
+use Rattle.std.proofs.Math.Pow.{pow_mono}
+use Rattle.std.proofs.lemmas.Result.{err_from_is_err_and}
+use Rattle.field_element.specs.Element.{repr_of}
+use Rattle.sum_checks.specs.Refusals.{CanBeStated, VerifierRefuses}
+use Rattle.sum_checks.specs.Terms.{Product, degree_of}
+use Rattle.sum_checks.specs.declared.error.ProtocolError.{ProtocolError}
+use Rattle.sum_checks.specs.declared.error.ProtocolError.TheVariants.{Memory}
+use Rattle.prove_sums.specs.ProofFiles.{number_in}
+use Rattle.prove_sums.specs.Reports.{HasNoAnswer, IsVerifyReport, NamesRoot, SaysAnswer, refusal_line}
+use Rattle.prove_sums.specs.Verdicts.{IsWordAnswer, product_terms, refusal_in}
+use Rattle.prove_sums.specs.declared.refusal.Refusal.{Refusal}
+use Rattle.prove_sums.specs.declared.reports.NoAnswer.{NoAnswer}
+use Rattle.prove_sums.specs.declared.reports.NoAnswer.TheVariants as no_answer
+use Rattle.prove_sums.specs.declared.tables.Table.{Table}
+use Rattle.prove_sums.proofs.SumSteps.{degree-product, product-within}
+
+-- ---- memory
+
+-- an error that is one of memory, since the call within failed with it
+pub memory-alone : {T : Type 0} {Q : ProtocolError → Type 0} (result : Result T ProtocolError) → IsErrAnd result Q
+    → ((error : ProtocolError) → Q error → error ≡ Memory) → IfErr result (λ error. error ≡ Memory)
+memory-alone {T} result fails only =
+    let error = err_from_is_err_and result fails in
+    subst (λ (r : Result T ProtocolError). IfErr r (λ e. e ≡ Memory)) (sym error.1) (only error.0 error.2)
+
+-- the sum of two tables can be stated
+sum-stated : (width rounds : ℕ) → 3 ≤ width → rounds < 2 ^ width → CanBeStated width rounds 2 product_terms
+sum-stated width rounds wide fits =
+    let eight : 8 ≤ 2 ^ width = pow_mono {i = 3} {j = width} wide in
+    let two : 2 < 2 ^ width = omega (arith, eight) in
+    let one : 1 < 2 ^ width = omega (arith, eight) in
+    record { field = wide; within = product-within; rounds_fit = fits; count_fits = two; terms_fit = one }
+
+-- so that a verifier refuses no messages of two values for each round
+pub sum-taken : (width rounds size : ℕ) (terms : List Product) (error : ProtocolError) → terms ≡ product_terms → size ≡ 2 * rounds → 3 ≤ width
+    → rounds < 2 ^ width → (error ≡ Memory) ⊎ VerifierRefuses width rounds 2 terms size error → error ≡ Memory
+sum-taken width rounds size terms error same long wide fits (inl is) = is
+sum-taken width rounds size terms error same long wide fits (inr (inl is)) =
+    let degree : degree_of terms ≡ 2 = ap degree_of same ∙ degree-product in
+    let turned : size ≡ rounds * 2 = omega (arith, long) in
+    absurd (is.1 (turned ∙ ap (λ (d : ℕ). rounds * d) (sym degree)))
+sum-taken width rounds size terms error same long wide fits (inr (inr is)) =
+    absurd (is.2 (subst (λ (ts : List Product). CanBeStated width rounds 2 ts) (sym same) (sum-stated width rounds wide fits)))
+
+-- a field with many bits has more elements than there are rounds
+pub rounds-fit : (width rounds : ℕ) → 40 ≤ width → rounds ≤ 39 → rounds < 2 ^ width
+rounds-fit width rounds wide few =
+    let six : 6 ≤ width = omega (arith, wide) in
+    let many : 64 ≤ 2 ^ width = pow_mono {i = 6} {j = width} six in
+    omega (arith, many, few)
+
+-- ---- what is printed
+
+-- a result that is told by another
+pub err-of : {T E : Type 0} (told : Result T E) (error : E) → Err error ≡ told → IsErr told
+err-of {T} {E} told error is = subst (λ (r : Result T E). IsErr r) is refl
+
+pub ok-of : {T E : Type 0} (told : Result T E) (value : T) → Ok value ≡ told → IsOk told
+ok-of {T} {E} told value is = subst (λ (r : Result T E). IsOk r) is refl
+
+-- memory is refused
+pub refused-memory : {T : Type 0} {Q : NoAnswer → Type 0} (left right : List ℕ) (result : Result T NoAnswer) → IsErrAnd result Q
+    → ((error : NoAnswer) → Q error → error ≡ no_answer.Memory) → IfErr result (λ error. HasNoAnswer left right error)
+refused-memory {T} left right result fails only =
+    let error = err_from_is_err_and result fails in
+    subst (λ (r : Result T NoAnswer). IfErr r (λ e. HasNoAnswer left right e)) (sym error.1)
+    (subst (λ (e : NoAnswer). HasNoAnswer left right e) (sym (only error.0 error.2)) tt)
+
+module _ {T H : Type 0} (digest : H → List ℕ → List ℕ) (hasher : H) (left right left_root right_root bytes : List ℕ)
+    (left_named : NamesRoot left left_root) (right_named : NamesRoot right right_root) (answer : Result T Refusal)
+    (told : IsWordAnswer digest hasher left_root right_root bytes (refusal_in answer)) (line : List ℕ) (status : ℕ) where
+  pub refused-report : (refusal : Refusal) → answer ≡ Err refusal → line ≡ refusal_line refusal → status ≡ 1
+      → IsVerifyReport digest hasher left right bytes line status
+  refused-report refusal is said one = record {
+    left_root = left_root;
+    right_root = right_root;
+    refusal = Some refusal;
+    left_named = left_named;
+    right_named = right_named;
+    answered = subst (λ (a : Result T Refusal). IsWordAnswer digest hasher left_root right_root bytes (refusal_in a)) is told;
+    said = (one, said);
+  }
+
+  pub accepted-report : (proof : T) → answer ≡ Ok proof
+      → SaysAnswer (number_in (λ (table : Table). table.elements.items) repr_of) left_root right_root bytes None line status
+      → IsVerifyReport digest hasher left right bytes line status
+  accepted-report proof is said = record {
+    left_root = left_root;
+    right_root = right_root;
+    refusal = None;
+    left_named = left_named;
+    right_named = right_named;
+    answered = subst (λ (a : Result T Refusal). IsWordAnswer digest hasher left_root right_root bytes (refusal_in a)) is told;
+    said = said;
+  }

@@ -1,0 +1,135 @@
+// What the commands print, and the status that the program then ends with: over the bytes of files and the digits of roots alone.
+ghost use Rattle.std.specs.Prelude.{◌≡◌, string_bytes, IfErr, IfOk, OnOk};
+ghost use Rattle.std.specs.Io.KnownBytes.{Appends};
+ghost use Rattle.std.specs.Process.{exit_status};
+ghost use Rattle.hex.specs.Hex.{decode_sized};
+ghost use Rattle.field_element.specs.Element.{repr_of};
+ghost use Rattle.prove_sums.specs.Reports.{refusal_line, root_line, sum_line, HasNoAnswer, IsVerifyReport};
+ghost use Rattle.prove_sums.specs.declared.reports.NoAnswer.TheVariants.{Memory};
+
+use crate::answers::answer_to;
+use crate::proof_file::Roots;
+use crate::refusal::Refusal;
+use field_element::Ghash128;
+use hex::{FromHex, FromHexError};
+use std::alloc::{AllocError, Global};
+use std::io;
+use std::io::Write;
+use std::process::ExitCode;
+use thiserror::Error;
+use transcripts::ByteHasher32;
+
+/// What a command prints, and the status that the program then ends with.
+#[derive(Drop)]
+pub(crate) struct Report {
+    /// The line, with its line feed.
+    pub line: String,
+    /// The exit status.
+    pub status: u8,
+}
+
+/// Why `verify` has no answer.
+#[derive(Clone, Copy, Debug, PartialEq, Eq, Error)]
+pub enum NoAnswer {
+    /// The digits of the left root are those of none.
+    #[error("reading the left root: a root has to be 64 hexadecimal digits")]
+    LeftRoot,
+    /// The digits of the right root are those of none.
+    #[error("reading the right root: a root has to be 64 hexadecimal digits")]
+    RightRoot,
+    /// Memory was refused.
+    #[error("out of memory")]
+    Memory,
+}
+
+impl From<AllocError> for NoAnswer {
+    ghost from_gives = { λ _ error. error ≡ Memory };
+
+    fn from(_error: AllocError) -> NoAnswer {
+        NoAnswer::Memory
+    }
+}
+
+/// Prints the line of a report. It returns the status, as what the program ends with, and fails if the writer does.
+pub(crate) fn print_report<W: Write>(writer: &mut W, report: &Report) -> io::Result<ExitCode>
+    ensures status { IfOk result (λ code. exit_status code ≡ report.now.status) }
+    ensures printed { OnOk result (Appends (W.contents writer.old) (W.contents writer.new) (string_bytes report.now.line)) }
+{
+    writer.write_all(report.line.as_str().as_bytes())?;
+    Ok(ExitCode::from(report.status))
+}
+
+/// What is printed of a root that commits to a table. It fails if memory was refused.
+pub(crate) fn root_report(alloc: Global, root: &[u8; 32]) -> Result<Report, AllocError>
+    ensures line { IfOk result (λ report. string_bytes report.line ≡ root_line root.now) }
+    ensures status { IfOk result (λ report. report.status ≡ 0) }
+{
+    let digits = hex::encode(alloc, &root[..])?;
+    let line = format!(in alloc; "{digits}\n")?;
+    Ok(Report { line, status: 0 })
+}
+
+/// What is printed of a sum, whose proof has so many bytes. It fails if memory was refused.
+pub(crate) fn sum_report(alloc: Global, sum: Ghash128, size: usize) -> Result<Report, AllocError>
+    ensures line { IfOk result (λ report. string_bytes report.line ≡ sum_line (repr_of sum) size) }
+    ensures status { IfOk result (λ report. report.status ≡ 0) }
+{
+    let bytes = sum.to_bits().to_be_bytes();
+    let digits = hex::encode(alloc, &bytes[..])?;
+    let line = format!(in alloc; "the sum is {digits}, and its proof has {size} bytes\n")?;
+    Ok(Report { line, status: 0 })
+}
+
+// What is printed of a proof that is refused.
+fn refusal_report(alloc: Global, refusal: Refusal) -> Result<Report, AllocError>
+    ensures line { IfOk result (λ report. string_bytes report.line ≡ refusal_line refusal) }
+    ensures status { IfOk result (λ report. report.status ≡ 1) }
+{
+    let why = refusal.text();
+    let line = format!(in alloc; "refused: {why}\n")?;
+    Ok(Report { line, status: 1 })
+}
+
+// The root with these digits.
+fn root_from(digits: &str) -> Result<[u8; 32], FromHexError>
+    ensures { result ≡ decode_sized digits.now 32 }
+{
+    <[u8; 32] as FromHex>::from_hex(digits)
+}
+
+/// What `verify` prints for the bytes of a file and the digits of two roots. It fails with `LeftRoot` or `RightRoot` exactly if these digits
+/// are those of no root, the left ones first, and else only with `Memory`, if memory was refused.
+pub(crate) fn verify_report<H: ByteHasher32>(
+    alloc: Global,
+    hasher: &H,
+    bytes: &[u8],
+    left: &str,
+    right: &str,
+) -> Result<Report, NoAnswer>
+    ensures report { IfOk result (λ report. IsVerifyReport H.digest hasher.now left.now right.now bytes.now (string_bytes report.line)
+        report.status) }
+    ensures error { IfErr result (λ error. HasNoAnswer left.now right.now error) }
+{
+    let left = match root_from(left) {
+        Ok(root) => root,
+        Err(_) => return Err(NoAnswer::LeftRoot),
+    };
+    let right = match root_from(right) {
+        Ok(root) => root,
+        Err(_) => return Err(NoAnswer::RightRoot),
+    };
+    let roots = Roots { left, right };
+    let answer = match answer_to(alloc, hasher, &roots, bytes) {
+        Ok(answer) => answer,
+        Err(_) => return Err(NoAnswer::Memory),
+    };
+    let proof = match answer {
+        Ok(proof) => proof,
+        Err(refusal) => {
+            let report = refusal_report(alloc, refusal)?;
+            return Ok(report);
+        }
+    };
+    let report = sum_report(alloc, proof.sum(), bytes.len())?;
+    Ok(report)
+}
