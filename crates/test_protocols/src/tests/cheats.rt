@@ -4,7 +4,7 @@
 // - Honest messages for another claim; a message that gives another sum, of the first, the second and the third round; tables that differ
 //   at one corner; terms of which one coefficient differs; a proof that is replayed in another transcript: refused.
 // - Over a field of 256 elements, a message for a false sum whose challenge is a root of what it differs by from the honest one: accepted,
-//   as about one message of 256 is.
+//   as about one message of 256 is. No claim of a sum over that field is turned away unread.
 use field_base::traits::{PrimeCharacteristicRing, TowerLevel};
 use field_element::{BinaryField8, BinaryField128};
 use field_slices::evaluate_multilinear;
@@ -194,4 +194,20 @@ fn saved_count(alloc: Global) -> Result<usize, ProtocolError> {
 fn a_challenge_that_is_a_root_saves_a_lie(rt: HostRuntime) {
     let saved = saved_count(rt.alloc());
     assert!(rt; saved.is_ok_and(|count| 0 < count && count < 40));
+}
+
+// Whether a claim of each sum is read.
+fn every_claim_is_read(alloc: Global) -> Result<(), ProtocolError> {
+    let Some(term) = Term::new(Byte::ONE, &[0]) else {
+        return Err(ProtocolError::Shape);
+    };
+    for claim in 0..=255u8 {
+        is_saved(alloc, &[term], claim, claim)?;
+    }
+    Ok(())
+}
+
+#[test]
+fn no_claim_is_turned_away_unread(rt: HostRuntime) {
+    assert!(rt; every_claim_is_read(rt.alloc()).is_ok());
 }

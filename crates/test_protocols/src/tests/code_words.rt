@@ -1,9 +1,9 @@
-// Code words of messages of 1, 2, 4 and 8 elements at the rates 1 to 1/16, over a field of 8 bits: each growth refused in turn, and granted
-// where there is memory. What the code word is the contract says.
+// Code words of messages of 1, 2, 4 and 8 elements at the rates 1 to 1/16, over a field of 8 bits, and of as many words at the rate 1/2: each
+// growth refused in turn, and granted where there is memory. What the code word is the contract says.
 use field_base::traits::TowerLevel;
 use field_element::BinaryField8;
 use linked_list_allocator::LocalHeap;
-use protocols::extension::extend;
+use protocols::extension::{encode, extend};
 use std::alloc::{AllocError, Allocator, Global};
 use test_support::{Ending, Growing, Rest, is_refused_in_turn};
 
@@ -65,7 +65,36 @@ fn are_refused(alloc: Global) -> bool {
     true
 }
 
+// A message of `count` words, which are 2^levels.
+#[derive(Drop)]
+struct Words {
+    levels: usize,
+    count: usize,
+}
+
+impl Growing for Words {
+    fn run<'a>(&self, heap: &'a LocalHeap, rest: Rest<'a>) -> Result<Ending, AllocError> {
+        let message = [0x53; 8];
+        if self.count > 8 || self.levels > 3 || self.count != 1 << self.levels {
+            return Ok(Ending::Wrong);
+        }
+        let word = encode(heap, &message[..self.count], self.levels);
+        drop(rest);
+        Ok(match word {
+            Ok(word) => Ending::of(true, word.len() == 2 * self.count),
+            Err(_) => Ending::Refused,
+        })
+    }
+}
+
 #[test]
 fn code_words_are_granted_or_refused(rt: HostRuntime) {
     assert!(rt; are_refused(rt.alloc()));
+    for levels in 0..4usize {
+        let words = Words {
+            levels,
+            count: 1 << levels,
+        };
+        assert!(rt; is_refused_in_turn(rt.alloc(), &words, true));
+    }
 }

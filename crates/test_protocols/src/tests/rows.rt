@@ -1,9 +1,13 @@
-// Openings of many rows of a Merkle tree at once, that a cheating prover changed.
+// Openings of many rows of a Merkle tree at once, that a cheating prover changed, and paths from one row, each growth refused in turn.
+use linked_list_allocator::LocalHeap;
+use protocols::caps::verify_row_to_cap;
+use protocols::merkle_paths::verify_row;
 use protocols::merkle_tree::MerkleTree;
 use protocols::openings::verify_many;
 use std::alloc::{AllocError, Global};
 use std::test::Fail;
-use transcripts::Sha256Hasher;
+use test_support::{Ending, Growing, Rest, is_refused_in_turn};
+use transcripts::{MerkleCap, Sha256Hasher};
 
 // Eight rows of three bytes.
 static ROWS: [u8; 24] = *b"r00r01r02r03r04r05r06r07";
@@ -75,4 +79,56 @@ fn only_unchanged_rows_are_opened(rt: HostRuntime) -> Result<(), Fail> {
         );
     }
     Ok(())
+}
+
+// The path from the row at place 5 of eight rows of `size` bytes, to the root or to the cap of two roots.
+#[derive(Drop)]
+struct Path {
+    alloc: Global,
+    size: usize,
+    to_cap: bool,
+}
+
+impl Growing for Path {
+    fn run<'a>(&self, heap: &'a LocalHeap, rest: Rest<'a>) -> Result<Ending, AllocError> {
+        let (alloc, size) = (self.alloc, self.size);
+        if size > 3 {
+            return Ok(Ending::Wrong);
+        }
+        let rows = &ROWS[..8 * size];
+        let row = &rows[5 * size..6 * size];
+        let tree = MerkleTree::over_rows(alloc, alloc, &Sha256Hasher, rows, size, 3)?;
+        let commitment = tree.commitment();
+        if commitment.depth != 3 {
+            return Ok(Ending::Wrong);
+        }
+        let leads = if self.to_cap {
+            let cap: MerkleCap<Sha256Hasher, [u8; 32]> = tree.cap(alloc, 1)?;
+            let path = tree.open_to_cap(alloc, 5, 2)?;
+            verify_row_to_cap(heap, &Sha256Hasher, cap.roots(), 2, 5, row, path.as_slice())
+        } else {
+            let path = tree.open(alloc, 5)?;
+            verify_row(heap, &Sha256Hasher, commitment, 5, row, path.as_slice())
+        };
+        drop(rest);
+        Ok(match leads {
+            Ok(leads) => Ending::of(true, leads),
+            Err(_) => Ending::Refused,
+        })
+    }
+}
+
+#[test]
+fn paths_from_rows_are_granted_or_refused(rt: HostRuntime) {
+    let alloc = rt.alloc();
+    for size in 0..4usize {
+        for to_cap in [false, true] {
+            let path = Path {
+                alloc,
+                size,
+                to_cap,
+            };
+            assert!(rt; is_refused_in_turn(alloc, &path, true));
+        }
+    }
 }
