@@ -1,5 +1,5 @@
 -- What functions over low bits of words leave, as calls say it over words that are elements.
-use Rattle.std.proofs.Common.{◌≡◌, ℕ, ◌+◌, ◌*◌, List, map, sym, ◌∙◌, ap, subst}
+use Rattle.std.proofs.Common.{◌≡◌, ℕ, ◌+◌, ◌*◌, ◌≤◌, List, map, sym, ◌∙◌, ap, subst}
 use Rattle.std.specs.Prelude.{slice_index}
 use Rattle.field_slices.specs.Determinants.{determinant_of}
 use Rattle.field_slices.specs.Matrices.{IsMatrixProduct, IsReducedEchelon, HaveSameRowSpace, entry_of}
@@ -38,14 +38,16 @@ module _ {W : Type 0} (field : WordField W) where
       (sym now) is))
 
   -- a reduced row echelon form
-  pub reduced_is : (rows columns rank : ℕ) (pivots : List ℕ) (old target new : List W) → AreElements field old → AreElements field new
+  pub reduced_is : (rows columns rank : ℕ) (was pivots : List ℕ) (old target new : List W) → AreElements field old → AreElements field new
       → map field.number new ≡ map low target
       → IsReducedEchelon rows columns rank (slice_index pivots) (entry_of low columns target)
+      → ((i : ℕ) → rank ≤ i → slice_index pivots i ≡ slice_index was i)
       → HaveSameRowSpace field.times rows columns (entry_of low columns old) (entry_of low columns target)
-      → IsReduced field rows columns old new pivots rank
-  reduced_is rows columns rank pivots old target new old_fits new_fits now reduced space =
+      → IsReduced field rows columns old new was pivots rank
+  reduced_is rows columns rank was pivots old target new old_fits new_fits now reduced rest space =
       record {
         elements = new_fits;
+        rest = rest;
         reduced = subst (λ (ns : List ℕ). IsReducedEchelon rows columns rank (slice_index pivots) (entries_at columns ns)) (sym now) reduced;
         space =
             subst (λ (ns : List ℕ). HaveSameRowSpace field.times rows columns (entries_at columns ns) (entries field columns new))

@@ -1,6 +1,6 @@
 -- What calls over matrices of words do: which status they return, and what they write (K. Hoffman and R. Kunze, Linear Algebra, chapters 1,
 -- 2 and 5). The words of a matrix stand row after row.
-use Rattle.std.specs.Prelude.{◌≡◌, ◌≢◌, ℕ, ◌+◌, ◌*◌, ◌^◌, ◌<◌, List, length, map, slice_index}
+use Rattle.std.specs.Prelude.{◌≡◌, ◌≢◌, ℕ, ◌+◌, ◌*◌, ◌^◌, ◌<◌, ◌≤◌, List, length, map, slice_index}
 use Rattle.field_base.specs.Basis.{sum_below}
 use Rattle.field_slices.specs.Determinants.{determinant_of}
 use Rattle.field_slices.specs.Matrices.{AreInverseMatrices, HaveSameRowSpace, IsMatrixProduct, IsReducedEchelon, entry_of}
@@ -40,18 +40,19 @@ module _ {W : Type 0} (field : WordField W) where
       (AreElements field left × AreElements field right)
       (IsMatrixProduct field.times rows inner columns (entries inner left) (entries columns right) (entries columns new)) old new status
 
-  -- the matrix that is now there is the reduced row echelon form of the one before, of this rank, and its first leading entries have these
-  -- columns
-  pub record IsReduced (rows columns : ℕ) (old : List W) (new : List W) (pivots : List ℕ) (rank : ℕ) : Type 0 where
+  -- the matrix that is now there is the reduced row echelon form of the one before, of this rank, its leading entries have the columns with
+  -- which `pivots` begins, and behind these `pivots` is as it was
+  pub record IsReduced (rows columns : ℕ) (old new : List W) (was pivots : List ℕ) (rank : ℕ) : Type 0 where
     pub elements : AreElements field new
     pub reduced : IsReducedEchelon rows columns rank (slice_index pivots) (entries columns new)
+    pub rest : (i : ℕ) → rank ≤ i → slice_index pivots i ≡ slice_index was i
     pub space : HaveSameRowSpace field.times rows columns (entries columns old) (entries columns new)
 
   -- a call that brings a matrix to that form, and writes the columns and the rank
   abbrev pub ReducesRows : ℕ → ℕ → List W → List ℕ → ℕ → List W → List ℕ → ℕ → ℕ → Type 0
   ReducesRows rows columns old old_pivots old_rank new pivots rank status =
       CallOf {T = List W × List ℕ × ℕ} ((length old ≡ rows * columns) × (length old_pivots ≡ rows)) (AreElements field old)
-      (IsReduced rows columns old new pivots rank) (old, old_pivots, old_rank) (new, pivots, rank) status
+      (IsReduced rows columns old new old_pivots pivots rank) (old, old_pivots, old_rank) (new, pivots, rank) status
 
   -- the rank of a matrix is that of its reduced row echelon form, of which there is one
   abbrev pub HasRank : ℕ → ℕ → List W → ℕ → Type 0

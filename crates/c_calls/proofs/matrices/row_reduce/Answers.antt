@@ -24,5 +24,6 @@ returns g c =
     let low = c.truncate_all.ensures.low in
     let fits = c.are_elements.ensures.0 c.if-not-are_elements.false in
     call_done (c.has_shape.ensures.0 c.if-not-has_shape.false, c.if-pivots-rows.false) fits
-    (reduced_is field c.args.rows c.args.columns c.row_reduce.result c.row_reduce.new.pivots c.args.matrix.now target new fits
-    (now_elements field target new long low) (now_numbers field target new long low) c.row_reduce.ensures.reduced c.row_reduce.ensures.space)
+    (reduced_is field c.args.rows c.args.columns c.row_reduce.result c.args.pivots.now c.row_reduce.new.pivots c.args.matrix.now target new
+    fits (now_elements field target new long low) (now_numbers field target new long low) c.row_reduce.ensures.reduced
+    c.row_reduce.ensures.rest c.row_reduce.ensures.space)
