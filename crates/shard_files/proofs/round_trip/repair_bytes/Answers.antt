@@ -1,4 +1,4 @@
-use Rattle.std.proofs.Common.{ℕ, List, [], get_or, refl}
+use Rattle.std.proofs.Common.{[], get_or, refl}
 use Rattle.shard_files.specs.Memory.{file_of, holdings_of}
 use Rattle.shard_files.proofs.InMemory.{files_repaired}
 use Rattle.shard_files.proofs.Returns.{shards_return_law}

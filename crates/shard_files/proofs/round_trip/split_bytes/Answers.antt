@@ -1,4 +1,4 @@
-use Rattle.std.proofs.Common.{◌≡◌, ℕ, List, inl, inr, length, refl, sym, ◌∙◌, ap, subst, arith}
+use Rattle.std.proofs.Common.{◌≡◌, ℕ, List, inl, inr, refl, sym, ◌∙◌, ap, subst}
 use Rattle.sha2.specs.Sha256.{sha256}
 use Rattle.shard_files.specs.Files.{AreShards}
 use Rattle.shard_files.specs.Memory.{file_of}
