@@ -15,6 +15,7 @@ pub mod PresentCounts
 mod Repaired
 mod Restores
 mod Returns
+mod Scanned
 pub mod ShardPlaces
 mod Sizes
 mod Splits

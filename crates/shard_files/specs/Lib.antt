@@ -6,5 +6,6 @@ pub mod Heads
 pub mod Memory
 pub mod Pieces
 pub mod RoundTrip
+pub mod Scans
 pub mod Splits
 pub mod Stripes
