@@ -2,4 +2,5 @@ mod answers;
 mod challengers;
 mod codes;
 mod hashes;
+mod shards;
 mod support;
