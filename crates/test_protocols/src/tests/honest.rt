@@ -86,22 +86,19 @@ fn honest_openings_are_accepted(rt: HostRuntime) {
     }
 }
 
-// Whether the proof of the sum of the products of two tables of 2^rounds elements is accepted. The values are rows of two.
+// Whether the proof of the sum of these terms of two tables of 2^rounds elements is accepted. The values are rows of two.
 fn is_proved<F: ByteLevel + BasedVectorSpace<F>, A: Allocator + Copy>(
     alloc: A,
     values: &mut [F],
     rounds: usize,
+    terms: &[Term<F>],
 ) -> Result<bool, ProtocolError> {
-    let Some(term) = Term::new(F::ONE, &[0, 1]) else {
-        return Ok(false);
-    };
-    let terms = [term];
-    if rounds > 3 || values.len() != 2 * (1 << rounds) || !are_within(&terms, 2) {
+    if rounds > 3 || values.len() != 2 * (1 << rounds) || !are_within(terms, 2) {
         return Ok(false);
     }
     let mut prover: Hashed<F, A> = BinaryChallenger::from_hasher(Vec::new(alloc), Sha256Hasher);
     let mut verifier: Hashed<F, A> = BinaryChallenger::from_hasher(Vec::new(alloc), Sha256Hasher);
-    sumcheck::prove_and_verify(alloc, &mut prover, &mut verifier, values, rounds, 2, &terms)
+    sumcheck::prove_and_verify(alloc, &mut prover, &mut verifier, values, rounds, 2, terms)
 }
 
 // The first `count` of sixteen elements, which are 2 2^rounds.
@@ -117,10 +114,13 @@ impl Growing for Sum {
         for place in 0..16usize {
             values[place] = BinaryField16::from_repr(7 * place as u16 + 1);
         }
+        let Some(product) = Term::new(BinaryField16::from_repr(1), &[0, 1]) else {
+            return Ok(Ending::Wrong);
+        };
         if self.count > 16 {
             return Ok(Ending::Wrong);
         }
-        let proved = is_proved(heap, &mut values[..self.count], self.rounds);
+        let proved = is_proved(heap, &mut values[..self.count], self.rounds, &[product]);
         drop(rest);
         Ok(match proved {
             Ok(proved) => Ending::of(true, proved),
