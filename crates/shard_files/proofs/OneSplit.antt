@@ -1,5 +1,5 @@
 -- Bytes are split in one way alone: the shards of data are the bytes and zeros, and they determine the parity.
-use Rattle.std.proofs.Common.{◌≡◌, inl, inr, ℕ, zero, suc, ◌+◌, ◌-◌, ◌*◌, ◌^◌, ◌<◌, ◌≤◌, Bool, true, false, List, [], ◌∷◌, length, get_or, replicate, if◌then◌else◌, nat_lt, refl, sym, ◌∙◌, ap, arith, lit<}
+use Rattle.std.proofs.Common.{◌≡◌, inl, inr, ℕ, zero, suc, ◌+◌, ◌-◌, ◌*◌, ◌^◌, ◌<◌, ◌≤◌, Bool, true, false, List, [], ◌∷◌, length, get_or, replicate, refl, sym, ◌∙◌, ap, arith, lit<}
 use Rattle.std.proofs.Math.Nat.{pow-le-pow_right}
 use Rattle.std.proofs.lemmas.Bool.{cases_lt, true≢false}
 use Rattle.std.proofs.lemmas.Bool.Decides.{nat_tests}
@@ -8,8 +8,7 @@ use Rattle.reed_solomon.specs.RoundTrip.{AgreeWherePresent, ChangesAreSeen}
 use Rattle.reed_solomon.specs.Shards.{IsPresent, present_count}
 use Rattle.transform_codes.specs.Codes.{shard_symbol}
 use Rattle.transform_codes.specs.Determined.{HaveSameSymbols, ShardsDetermine, symbol_of}
-use Rattle.shard_files.specs.Codes.{AreTransformWords, IsStripeWord, IsTransformCode}
-use Rattle.shard_files.specs.Files.{AreShards}
+use Rattle.shard_files.specs.Codes.{AreTransformWords, IsTransformCode}
 use Rattle.shard_files.specs.RoundTrip.{FilesAreOne, SplitsAreOne}
 use Rattle.shard_files.specs.Splits.{IsSplit}
 use Rattle.shard_files.specs.Stripes.{IsPossible, shard_total, stripe_content, stripe_total, stripe_width}

@@ -1,5 +1,5 @@
 -- The files of shards in memory, of which any may be lost, and when what is left of them is enough.
-use Rattle.std.specs.Prelude.{◌≡◌, ◌≢◌, ℕ, zero, suc, ◌+◌, ◌<◌, ◌≤◌, Bool, true, false, List, [], ◌∷◌, length, take, drop, slice_index_or, if◌then◌else◌, nat_le, Option, Some, None, Vec}
+use Rattle.std.specs.Prelude.{◌≡◌, ℕ, zero, suc, ◌+◌, ◌<◌, ◌≤◌, Bool, true, false, List, [], ◌∷◌, length, take, drop, slice_index_or, if◌then◌else◌, nat_le, Option, Some, None, Vec}
 use Rattle.std.specs.List.{count_by}
 use Rattle.std.specs.declared.alloc.Global.{Global}
 use Rattle.shard_files.specs.Files.{AreShards, shard_file}
