@@ -1,6 +1,7 @@
 // The files of shards: which are looked at, which file they are of, and why others are not taken.
 use crate::arguments::Words;
 use crate::progress::{Progress, note};
+use crate::rivals::whole_set;
 use crate::stamp::Stamp;
 use anyhow::{Result, bail};
 use shard_files::{Choice, Finding, HEAD, MOST_SHARDS, Scan, Seen, ShardSource};
@@ -22,8 +23,8 @@ pub(crate) struct OldFiles<'a> {
 }
 
 impl<'a> OldFiles<'a> {
-    // The files at these paths.
-    fn new(
+    /// The files at these paths.
+    pub(crate) fn new(
         rt: &'a HostRuntime,
         file: &'a str,
         paths: &'a [String],
@@ -167,7 +168,8 @@ pub(crate) fn find_shards<'a>(
     let stamps = stamps_of(rt, paths.as_slice())?;
     let scan = scan_of(rt, paths.as_slice())?;
     let chosen = match choice_of(rt, words, &scan)? {
-        Choice::Only(chosen) | Choice::TooFew(chosen) => chosen,
+        Choice::Only(first) => whole_set(rt, file, paths.as_slice(), &scan, first, words.is_quiet)?,
+        Choice::TooFew(most) => most,
         Choice::Nothing => scan.seen.len(),
         Choice::Several => return Ok(Err(several(rt, file, &scan)?)),
     };

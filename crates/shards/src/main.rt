@@ -9,6 +9,7 @@ mod lock;
 mod output_files;
 mod progress;
 mod repair;
+mod rivals;
 mod stamp;
 
 use crate::arguments::{Task, Words, plain_word};
