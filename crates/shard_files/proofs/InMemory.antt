@@ -9,7 +9,7 @@ use Rattle.std.proofs.lemmas.Bool.Decides.{nat_tests}
 use Rattle.std.proofs.lemmas.List.{length-append, length-map, take_at}
 use Rattle.reed_solomon.specs.Shards.{IsPresent, present_count}
 use Rattle.shard_files.specs.Files.{AppendsToEach, AppendsToLost, AreShards, IsAppended, pieces_from, shard_file}
-use Rattle.shard_files.specs.Groups.{GivesPiece, numbered, shard_at}
+use Rattle.shard_files.specs.Groups.{GivesPiece, Holdings, numbered, shard_at}
 use Rattle.shard_files.specs.Heads.{head_digest, head_file, IsOrigin}
 use Rattle.shard_files.specs.Memory.{AreEnough, AreFiles, AreFilesLeft, bytes_from, FewAreLost, file_of, holdings_of, LossesLeaveEnough}
 use Rattle.shard_files.specs.Pieces.{piece_bytes}
@@ -37,6 +37,12 @@ pub file_at : (files : List (Vec ℕ Global)) (index : ℕ) (file : Vec ℕ Glob
 file_at [] index file below = absurd (omega (arith, below))
 file_at (first ∷ files) zero file below = refl
 file_at (first ∷ files) (suc index) file below = file_at files index file (omega (arith, below))
+
+-- what is read of files at a place, by the bytes of the file that is there
+pub held-reads : (held : Holdings) (files : List (Vec ℕ Global)) (place start count : ℕ) (file : List ℕ) → held ≡ holdings_of files
+    → file ≡ file_of files place → held.reads place start count ≡ bytes_from file start count
+held-reads held files place start count file holds is =
+    ap (λ (h : Holdings). h.reads place start count) holds ∙ ap (λ (l : List ℕ). bytes_from l start count) (sym is)
 
 pub file_set : (files : List (Vec ℕ Global)) (index : ℕ) (file : Vec ℕ Global) → index < length files
     → file_of (set files index file) index ≡ file.items

@@ -120,6 +120,19 @@ module _ (seen : List Seen) (wanted : List Bool) (place : ℕ) where
         | inr more ↦ inr (omega (arith, more, is.early))
       ]
 
+  -- where several are told, no other changes that
+  pub still_several : IsChoice seen wanted place Several → IsChoice seen wanted (place + 1) Several
+  still_several says =
+      record {
+        one = says.one;
+        one_wanted = later says.one says.one_wanted;
+        one_enough = says.one_enough;
+        other = says.other;
+        other_wanted = later says.other says.other_wanted;
+        other_enough = says.other_enough;
+        differ = says.differ;
+      }
+
   -- one that is not wanted changes nothing
   module _ (not : get_or wanted place false ≡ false) where
     old : (other : ℕ) → IsWanted wanted (place + 1) other → IsWanted wanted place other
@@ -139,16 +152,7 @@ module _ (seen : List Seen) (wanted : List Bool) (place : ℕ) where
         }
     skipped (Only chosen) says =
         record { is_wanted = later chosen says.is_wanted; enough = says.enough; others = λ other is. says.others other (old other is) }
-    skipped Several says =
-        record {
-          one = says.one;
-          one_wanted = later says.one says.one_wanted;
-          one_enough = says.one_enough;
-          other = says.other;
-          other_wanted = later says.other says.other_wanted;
-          other_enough = says.other_enough;
-          differ = says.differ;
-        }
+    skipped Several says = still_several says
 
   -- one that is wanted
   module _ (flag : get_or wanted place false ≡ true) where
@@ -229,15 +233,3 @@ module _ (seen : List Seen) (wanted : List Bool) (place : ℕ) where
             | inr same ↦ ap (identity_at seen) same ∙ same_file (subst (EnoughSeen seen) same has)
           ];
         }
-
-  pub still_several : IsChoice seen wanted place Several → IsChoice seen wanted (place + 1) Several
-  still_several says =
-      record {
-        one = says.one;
-        one_wanted = later says.one says.one_wanted;
-        one_enough = says.one_enough;
-        other = says.other;
-        other_wanted = later says.other says.other_wanted;
-        other_enough = says.other_enough;
-        differ = says.differ;
-      }

@@ -43,10 +43,11 @@ IsPlaced seen origin index Unread = ⊥
 IsPlaced seen origin index (OldFormat version) = ⊥
 IsPlaced seen origin index (OtherCode code) = ⊥
 
--- how many shards were seen of the file at a place, and which file it is
+-- how many shards were seen of the file at a place
 abbrev pub count_at : List Seen → ℕ → ℕ
 count_at seen place = slice_index (map (λ file. file.count) seen) place
 
+-- which file it is: its SHA-256, or none behind the last
 abbrev pub identity_at : List Seen → ℕ → List ℕ
 identity_at seen place = slice_index_or (map (λ file. file.layout.origin.identity) seen) place []
 
