@@ -39,6 +39,7 @@ refusal_text OtherLeft = codes "the proof is for another left table"
 refusal_text OtherRight = codes "the proof is for another right table"
 refusal_text NotProved = codes "the sum is not proved"
 
+-- what is printed for a proof that is refused
 abbrev pub refusal_line : Refusal → List ℕ
 refusal_line refusal = codes "refused: " ++ (refusal_text refusal ++ codes "\n")
 
