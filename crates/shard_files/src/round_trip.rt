@@ -74,8 +74,9 @@ pub fn split_bytes(
     }
 }
 
-/// Joins bytes from files of shards in memory, whatever became of them. It fails as `write_content` does, but for `CannotWrite`: what is
-/// joined cannot be written only where memory is refused.
+/// Joins bytes from files of shards in memory, whatever became of them: bytes of the length and the SHA-256 that the layout's origin names,
+/// and where enough is left those that were split. It fails as `write_content` does, but for `CannotWrite`: what is joined cannot be written
+/// only where memory is refused.
 pub fn join_bytes(
     alloc: Global,
     layout: Layout,
@@ -85,6 +86,8 @@ pub fn join_bytes(
         → AreEnough layout.origin wholes (holdings_of shards.old.files.items) → IfOk result (λ bytes. bytes.items ≡ content) }
     ensures granted { (content : List ℕ) (wholes : List (List ℕ)) → AreShards layout.origin content wholes
         → AreEnough layout.origin wholes (holdings_of shards.old.files.items) → IfErr result (λ error. error ≡ join_error.Memory) }
+    ensures named { IfOk result (λ bytes. (length bytes.items ≡ layout.origin.length) × (sha256 bytes.items ≡ layout.origin.identity)) }
+    ensures refused { IfErr result (λ error. error ≢ join_error.CannotWrite) }
 {
     let mut bytes = Vec::new(alloc);
     match write_content(alloc, shards, layout, &mut bytes) {
@@ -97,6 +100,7 @@ pub fn join_bytes(
 fn join_fault(error: JoinError) -> JoinError
     ensures memory { (error ≡ join_error.CannotWrite) ⊎ (error ≡ join_error.Memory) → result ≡ join_error.Memory }
     ensures other { error ≢ join_error.CannotWrite → result ≡ error }
+    ensures never { result ≢ join_error.CannotWrite }
 {
     match error {
         JoinError::CannotWrite => JoinError::Memory,
