@@ -7,7 +7,7 @@ pub mod Halves
 pub mod ImageLemmas
 pub mod Images
 pub mod LaneLemmas
-pub mod LevelVectors
+pub mod LevelVectorLemmas
 pub mod PairLemmas
 pub mod Pairs
 pub mod Products

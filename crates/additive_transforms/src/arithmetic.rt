@@ -5,7 +5,7 @@ ghost use native.Mathlib.Nat.{mod-lt};
 ghost use Rattle.field_base.proofs.TowerRing.{tower_ring};
 ghost use Rattle.field_base.specs.Tower.{tower_mul};
 ghost use Rattle.additive_transforms.specs.Counting.{nothing_counted};
-ghost use Rattle.additive_transforms.specs.LevelVectors.{level_vectors};
+ghost use Rattle.additive_transforms.specs.LevelVectorLemmas.{level_vectors};
 ghost use Rattle.additive_transforms.specs.Words.{TakesWords, cantor_vector, level_element};
 
 use crate::elements::arithmetic::{StageArithmetic, Uncounted};
