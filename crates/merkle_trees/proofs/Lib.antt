@@ -1,5 +1,6 @@
 mod Binding
 mod CapPaths
+mod Drawn
 mod OpenedLeaves
 mod OpeningPaths
 mod OpeningTrees

@@ -2,15 +2,16 @@
 ghost use Rattle.std.specs.Prelude.{◌≡◌, ◌<◌, false, true, length, IfErr, IfOk, OnOk};
 ghost use Rattle.transcripts.specs.Grinding.{FailsSearch, MayGrind};
 ghost use Rattle.transcripts.specs.Lists.{InTurn};
-ghost use Rattle.merkle_trees.specs.Queries.{AreQueries};
+ghost use Rattle.merkle_trees.specs.Queries.{AreBelow, AreQueries};
 ghost use Rattle.merkle_trees.specs.Outcomes.{IsOutcome};
 ghost use Rattle.transcripts.specs.declared.error.GrindError.TheVariants.{Memory};
 
 use std::alloc::Allocator;
 use transcripts::{CanSampleUniformBits, GrindError, GrindingChallenger};
 
-/// Searches for a witness of `bits` bits of work, and then samples so many places below 2^depth, in order: they may repeat, and each number
-/// of `depth` bits is as likely as any other if the bytes that are sampled are. It returns the witness and the places. It fails with
+/// Searches for a witness of `bits` bits of work, and then samples so many places of `depth` bits, in order: they are below 2^depth where
+/// the challenger samples such numbers alone. They may repeat, and each number of `depth` bits is as likely as any other if the bytes that are
+/// sampled are. It returns the witness and the places. It fails with
 /// `Failed` if a call of the challenger had failed before, which then stays as it is; else with `NoWitness` only if no candidate passes,
 /// and with no other error than that and `Memory`.
 pub fn draw_queries<
@@ -30,6 +31,7 @@ pub fn draw_queries<
     ensures count { IfOk result (λ drawn. length drawn.1.items ≡ count) }
     ensures drawn { IfOk result (λ drawn. AreQueries C.passing C.checks C.gives_bits challenger.old bits (C.number drawn.0) true depth
         drawn.1.items challenger.new) }
+    ensures below { IfOk result (λ drawn. AreBelow C.gives_bits depth drawn.1.items) }
     ensures answer { IsOutcome (C.has_failed challenger.old) (C.has_failed challenger.new)
         (FailsSearch (C.passing challenger.old bits) C.witness_bits)
         (challenger.new ≡ challenger.old) result }
@@ -42,7 +44,7 @@ pub fn draw_queries<
     Ok((witness, places))
 }
 
-/// Checks a witness of `bits` bits of work, and then samples so many places below 2^depth, as `draw_queries` does. It returns whether the
+/// Checks a witness of `bits` bits of work, and then samples so many places of `depth` bits, as `draw_queries` does. It returns whether the
 /// witness works, and the places. It fails with `Failed` if a call of the challenger had failed before, which then stays as it is, and
 /// else only with `Memory`.
 pub fn check_queries<
@@ -63,6 +65,7 @@ pub fn check_queries<
     ensures count { IfOk result (λ drawn. length drawn.1.items ≡ count) }
     ensures drawn { IfOk result (λ drawn. AreQueries C.passing C.checks C.gives_bits challenger.old bits (C.number witness) drawn.0 depth
         drawn.1.items challenger.new) }
+    ensures below { IfOk result (λ drawn. AreBelow C.gives_bits depth drawn.1.items) }
     ensures answer { IsOutcome (C.has_failed challenger.old) (C.has_failed challenger.new) (λ error. error ≡ Memory)
         (challenger.new ≡ challenger.old) result }
 {
@@ -88,6 +91,7 @@ fn places_of<F, C: CanSampleUniformBits<F>, A: Allocator>(
     ensures count { IfOk result (λ places. length places.items ≡ count) }
     ensures ok { IfOk result (λ places. InTurn (λ old place new. C.gives_bits old depth place new) places.items
         challenger.old challenger.new) }
+    ensures below { IfOk result (λ places. AreBelow C.gives_bits depth places.items) }
 {
     let mut places = Vec::new(alloc);
     'places: for _ in 0..count {

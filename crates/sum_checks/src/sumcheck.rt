@@ -39,10 +39,10 @@ pub struct Reduced<F: Field, A: Allocator> {
 }
 
 /// Proves that the sum of the terms over the cube of `rounds` coordinates is the claim: row i of the values has those of `count`
-/// polynomials at corner i. The values are folded in place. The statement is observed, then each round's message, after which its
-/// challenge is sampled. It fails with `Challenger` if a call of the challenger had failed before; else with `Shape` exactly if there are
-/// not 2^rounds rows, or 2^64 of them, or the claim cannot be stated (`can_be_stated`); and else only with `Memory`. The first two leave
-/// the challenger and the values as they are.
+/// polynomials at corner i. The values are folded in place: what they hold after a result is not said. The statement is observed, then each
+/// round's message, after which its challenge is sampled. It fails with `Challenger` if a call of the challenger had failed before; else
+/// with `Shape` exactly if there are not 2^rounds rows, or 2^64 of them, or the claim cannot be stated (`can_be_stated`); and else only with
+/// `Memory`. The first two leave the challenger and the values as they are.
 pub fn prove<F: Field, C: CanObserve<F> + CanSample<F>, A: Allocator + Copy>(
     alloc: A,
     challenger: &mut C,
@@ -373,8 +373,8 @@ fn node_values<F: Field, A: Allocator>(
 }
 
 /// Proves that the sum is what it is, and verifies the proof in a challenger that begins in the same state. The verifier accepts,
-/// whatever the challenger is. It fails with `Challenger` if a call of either challenger had failed before; else with `Shape` exactly if
-/// the claim cannot be stated (`can_be_stated`); and else only with `Memory`.
+/// whatever the challenger is. What the values hold after a result is not said. It fails with `Challenger` if a call of either challenger
+/// had failed before; else with `Shape` exactly if the claim cannot be stated (`can_be_stated`); and else only with `Memory`.
 pub fn prove_and_verify<F: Field, C: CanObserve<F> + CanSample<F>, A: Allocator + Copy>(
     alloc: A,
     prover: &mut C,

@@ -1,6 +1,7 @@
 use Rattle.std.proofs.Common.{ℕ, ◌∷◌, [], ◌∙◌, ap, arith, length, rules}
 use Rattle.std.proofs.lemmas.List.{length-append}
 use Rattle.transcripts.proofs.ListLemmas.{empty_in_turn, grown_in_turn}
+use Rattle.merkle_trees.proofs.Drawn.{below-in_turn}
 use Rattle.merkle_trees.proofs.queries.places_of.Goals as goal
 
 pub places-init : goal.places-init
@@ -19,3 +20,7 @@ places-preserved g c =
           c.in_ok-push.ensures.items c.places.invariant.1 c.in_ok-place.ensures.ok,
       c.in_ok-place.ensures.answer.goes_on,
     )
+
+pub returns-clause-below : goal.returns-clause-below
+returns-clause-below g c =
+    below-in_turn g.C.CanSampleBits.gives_bits c.args.depth c.places.places.items c.args.challenger.now c.places.challenger c.places.invariant.1
