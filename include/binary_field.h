@@ -2,78 +2,35 @@
  *
  * Written by scripts/make_c_header.py; do not edit.
  *
- * Elements. An element is an unsigned number, and a sum is the exclusive or. In the tower the low half of the bits is the part
- * without the root that the level adjoins. In a polynomial basis bit i is the coefficient of x^i; a block of GCM has its bits
- * the other way round. A bf_u128 has the low 64 bits in words[0]; a bf_u192 has the coefficient of 1 in words[0], that of y in
- * words[1] and that of y^2 in words[2].
+ * Elements. An element is an unsigned number, and a sum is the exclusive or. In the tower the low half of the bits is
+ * the part without the root that the level adjoins. In a polynomial basis bit i is the coefficient of x^i; a block of
+ * GCM has its bits the other way round. A bf_u128 has the low 64 bits in words[0]; a bf_u192 has the coefficient of 1
+ * in words[0], that of y in words[1] and that of y^2 in words[2].
  *
- * Arrays. An array is a pointer and a length, which counts elements and not bytes. The pointer may be NULL where the length is
- * 0; a scalar or a result is never NULL. Each pointer is aligned as C aligns its type. An array or a result that a function
- * writes may overlap no other array, result or scalar of the same call; what is only read may overlap each other. For x = x * y
- * there are the functions whose names end in _in_place. In arrays named space and places a call works: behind it, whatever the
- * status, nothing is said of what they hold. A comment begins with the name of what the function writes. Where it says nothing
- * of lengths, every length will do.
+ * Arrays. An array is a pointer and a length, which counts elements and not bytes. The pointer may be NULL where the
+ * length is 0; a scalar or a result is never NULL. Each pointer is aligned as C aligns its type. An array or a result
+ * that a function writes may overlap no other array, result or scalar of the same call; what is only read may overlap
+ * each other. For x = x * y there are the functions whose names end in _in_place. In arrays named space and places a
+ * call works: behind it, whatever the status, nothing is said of what they hold. A comment begins with the name of what
+ * the function writes. Where it says nothing of lengths, every length will do.
  *
- * Statuses. Every function but bf_version returns a status. On a status that is not BF_OK everything that the function could
- * write is as before the call, but for space and places. The first status applies, in the order in which a function's comment names them.
+ * Statuses. Every function but bf_version, bf_processor and bf_status_text returns a status. On a status that is not
+ * BF_OK everything that the function could write is as before the call, but for space and places. The first status
+ * applies, in the order in which a function's comment names them.
  *
- * Fields. For each field F, by its name in the sections below:
+ * Matrices. The elements of a matrix stand row after row. A number of rows or of columns may be 0, and others then as
+ * large as the lengths allow: a call takes no time for rows or columns without elements.
  *
- *   bf_F_add(left, right, sums)  sums: the sum of the elements at each place
- *   bf_F_multiply(left, right, products)  products: the product of the elements at each place
- *   bf_F_multiply_by(values, scalar, products)  products: the product of each element and the scalar
- *   bf_F_add_scaled(sums, scalar, values)  adds to each element of sums the scalar times the value at its place
- *   bf_F_square(values, squares)  squares: the square of each element
- *   bf_F_inverse(values, inverses)  inverses: the inverse of each element, and 0 for 0
- *   bf_F_batch_inverse(values, inverses)  inverses: the same as inverse; of few elements of p64 and g128 by one inverse
- *       and three products an element
- *   bf_F_square_root(values, roots)  roots: the square root of each element
- *   bf_F_power(values, exponent, powers)  powers: each element to the power of the exponent; to the power 0 it is 1
- *   bf_F_product(values, product)  product: the product of all elements, 1 of none
- *   bf_F_dot_product(left, right, sum)  sum: the sum of the products at each place, 0 of none
- *   bf_F_evaluate(coefficients, points, values)  values: the value at each point of the polynomial with these
- *       coefficients, the constant one first; any number of coefficients
- *   bf_F_add_in_place(sums, values)  adds to each element of sums the value at its place
- *   bf_F_multiply_in_place(products, values)  multiplies each element of products by the value at its place
- *   bf_F_multiply_by_in_place(values, scalar)  multiplies each element by the scalar
- *   bf_F_square_in_place(values)  squares each element
- *   bf_F_inverse_in_place(values)  leaves the inverse of each element, and 0 of 0
- *   bf_F_square_root_in_place(values)  leaves the square root of each element
- *   bf_F_power_in_place(values, exponent)  raises each element to the power of the exponent; to the power 0 it is 1
- *   bf_F_generator(generator)  generator: the generator of the field's multiplicative group that the library names
+ * Threads. A call reads and writes its arguments alone and keeps nothing, so that threads may call at the same time, as
+ * long as none writes what another reads or writes. Nothing is claimed on timing; of bf_tags_are_equal it is said what
+ * was looked at.
  *
- * Arrays have one length, but for evaluate, of whose arrays points and values have one, and coefficients any: else the status is
- * BF_LENGTH. In gf2, t2 and t4 each word that is read is an element: else it is BF_NOT_AN_ELEMENT.
- *
- * Matrices. The elements of a matrix stand row after row. For each field F:
- *
- *   bf_F_matrix_multiply(left, right, product, rows, inner, columns)  product: the product of left, of rows rows of inner
- *       elements, and right, of inner rows of columns elements. BF_LENGTH unless left has rows * inner elements, right
- *       inner * columns, and product rows * columns.
- *   bf_F_matrix_row_reduce(matrix, rows, columns, pivots, rank)  Brings a matrix of rows rows of columns elements to
- *       reduced row echelon form; rank is its rank, the first rank of the rows places of pivots become the columns of its
- *       leading entries, and the others stay. BF_LENGTH unless matrix has rows * columns elements, and pivots rows places.
- *   bf_F_matrix_rank(matrix, rows, columns, space, places, rank)  rank: the rank of a matrix of rows rows of columns
- *       elements, in as much space and rows places, which may be written whatever the status. BF_LENGTH unless matrix and
- *       space have rows * columns elements, and places has rows places.
- *   bf_F_matrix_determinant(matrix, size, space, determinant)  determinant: the determinant of a matrix of size rows of
- *       size elements, in as much space, which may be written whatever the status; 1 of no rows. BF_LENGTH unless matrix
- *       and space have size * size elements.
- *   bf_F_matrix_inverse(matrix, size, inverse, space, places)  inverse: the inverse of a matrix of size rows of size
- *       elements, in space for two of these and size places, which may be written whatever the status. BF_LENGTH unless
- *       matrix and inverse have size * size elements, space 2 * size * size, and places size places. BF_UNSOLVABLE unless
- *       the matrix has an inverse.
- *   bf_F_matrix_solve(matrix, rows, columns, right, solution, space, places)  solution: a solution x of matrix * x =
- *       right, of rows equations in columns unknowns, in space for rows times columns + 1 elements and rows places, which
- *       may be written whatever the status; an unknown that the others leave open is 0. BF_LENGTH unless matrix has rows *
- *       columns elements, right rows, solution columns, space rows * (columns + 1), and places rows places. BF_UNSOLVABLE
- *       unless there is a solution.
- *
- * In gf2, t2 and t4 each word that is read is an element, else BF_NOT_AN_ELEMENT, which comes behind BF_LENGTH. A number of rows or of
- * columns may be 0, and others then as large as the lengths allow: a call takes no time for rows or columns without elements.
- *
- * Threads. A call reads and writes its arguments alone and keeps nothing, so that threads may call at the same time, as long as
- * none writes what another reads or writes. Nothing is claimed on timing; of bf_tags_are_equal it is said what was looked at.
+ * Sections, in this order: gf2, t2, t4, t8, t16, t32, t64, t128, r8, p64, g128, p192, matrices over each field, changes
+ * of basis and linear maps, transforms, tags, codes over bytes, codes by transforms. Each field has functions
+ * bf_FIELD_NAME of these names: add, multiply, multiply_by, add_scaled, square, inverse, batch_inverse, square_root,
+ * power, product, dot_product, evaluate, add_in_place, multiply_in_place, multiply_by_in_place, square_in_place,
+ * inverse_in_place, square_root_in_place, power_in_place, generator, matrix_multiply, matrix_row_reduce, matrix_rank,
+ * matrix_determinant, matrix_inverse, matrix_solve.
  */
 #ifndef BINARY_FIELD_H
 #define BINARY_FIELD_H
@@ -101,9 +58,6 @@ extern "C" {
 typedef struct bf_u128 {
     uint64_t words[2];
 } bf_u128;
-
-/* How many bytes the tables of a Reed-Solomon code take, as bf_rs_tables_length gives it, for an array of that length. */
-#define BF_RS_TABLES_LENGTH(data, parity) ((size_t)128 * (data) * (((parity) + 3) / 4))
 
 /* Three numbers of 64 bits, the coefficient of 1 first. */
 typedef struct bf_u192 {
@@ -143,744 +97,1720 @@ static inline const char *bf_status_text(uint32_t status)
 /* The version of the library, 65536 times the major number, 256 times the minor one, and the patch. */
 uint32_t bf_version(void);
 
-/* --------------------------------------------------------------------------------------------------------------------- */
+/* The processor whose form of the functions is called: "x86-64-v2", "x86-64-v3" or "aarch64", and never NULL. The
+ * form is chosen once, before main, as the best that runs on the processor at hand. The environment variable
+ * BINARY_FIELD_PROCESSOR=x86-64-v2 lowers that choice, and never raises it. */
+const char *bf_processor(void);
+
+/* ------------------------------------------------------------------------------------------------------------------ */
 /* gf2: GF(2). An element is a uint8_t, below 2. */
 
-uint32_t bf_gf2_add(const uint8_t *left, size_t left_length, const uint8_t *right, size_t right_length, uint8_t *sums, size_t sums_length) BF_CHECKED;
-uint32_t bf_gf2_multiply(const uint8_t *left, size_t left_length, const uint8_t *right, size_t right_length, uint8_t *products, size_t products_length) BF_CHECKED;
-uint32_t bf_gf2_multiply_by(const uint8_t *values, size_t values_length, uint8_t scalar, uint8_t *products, size_t products_length) BF_CHECKED;
-uint32_t bf_gf2_add_scaled(uint8_t *sums, size_t sums_length, uint8_t scalar, const uint8_t *values, size_t values_length) BF_CHECKED;
+/* sums: the sum of the elements at each place. BF_LENGTH unless left, right and sums have one length.
+ * BF_NOT_AN_ELEMENT unless each word that is read is below 2. */
+uint32_t bf_gf2_add(const uint8_t *left, size_t left_length, const uint8_t *right, size_t right_length,
+    uint8_t *sums, size_t sums_length) BF_CHECKED;
+
+/* products: the product of the elements at each place. BF_LENGTH unless left, right and products have one length.
+ * BF_NOT_AN_ELEMENT unless each word that is read is below 2. */
+uint32_t bf_gf2_multiply(const uint8_t *left, size_t left_length, const uint8_t *right, size_t right_length,
+    uint8_t *products, size_t products_length) BF_CHECKED;
+
+/* products: the product of each element and the scalar. BF_LENGTH unless values and products have one length.
+ * BF_NOT_AN_ELEMENT unless each word that is read is below 2. */
+uint32_t bf_gf2_multiply_by(const uint8_t *values, size_t values_length, uint8_t scalar,
+    uint8_t *products, size_t products_length) BF_CHECKED;
+
+/* Adds to each element of sums the scalar times the value at its place. BF_LENGTH unless sums and values have one
+ * length. BF_NOT_AN_ELEMENT unless each word that is read is below 2. */
+uint32_t bf_gf2_add_scaled(uint8_t *sums, size_t sums_length, uint8_t scalar,
+    const uint8_t *values, size_t values_length) BF_CHECKED;
+
+/* squares: the square of each element. BF_LENGTH unless values and squares have one length. BF_NOT_AN_ELEMENT unless
+ * each word that is read is below 2. */
 uint32_t bf_gf2_square(const uint8_t *values, size_t values_length, uint8_t *squares, size_t squares_length) BF_CHECKED;
-uint32_t bf_gf2_inverse(const uint8_t *values, size_t values_length, uint8_t *inverses, size_t inverses_length) BF_CHECKED;
-uint32_t bf_gf2_batch_inverse(const uint8_t *values, size_t values_length, uint8_t *inverses, size_t inverses_length) BF_CHECKED;
-uint32_t bf_gf2_square_root(const uint8_t *values, size_t values_length, uint8_t *roots, size_t roots_length) BF_CHECKED;
-uint32_t bf_gf2_power(const uint8_t *values, size_t values_length, uint64_t exponent, uint8_t *powers, size_t powers_length) BF_CHECKED;
+
+/* inverses: the inverse of each element, and 0 for 0. BF_LENGTH unless values and inverses have one length.
+ * BF_NOT_AN_ELEMENT unless each word that is read is below 2. */
+uint32_t bf_gf2_inverse(const uint8_t *values, size_t values_length,
+    uint8_t *inverses, size_t inverses_length) BF_CHECKED;
+
+/* inverses: the same as inverse; of few elements of p64 and g128 by one inverse and three products an element.
+ * BF_LENGTH unless values and inverses have one length. BF_NOT_AN_ELEMENT unless each word that is read is below 2. */
+uint32_t bf_gf2_batch_inverse(const uint8_t *values, size_t values_length,
+    uint8_t *inverses, size_t inverses_length) BF_CHECKED;
+
+/* roots: the square root of each element. BF_LENGTH unless values and roots have one length. BF_NOT_AN_ELEMENT
+ * unless each word that is read is below 2. */
+uint32_t bf_gf2_square_root(const uint8_t *values, size_t values_length,
+    uint8_t *roots, size_t roots_length) BF_CHECKED;
+
+/* powers: each element to the power of the exponent; to the power 0 it is 1. BF_LENGTH unless values and powers have
+ * one length. BF_NOT_AN_ELEMENT unless each word that is read is below 2. */
+uint32_t bf_gf2_power(const uint8_t *values, size_t values_length, uint64_t exponent,
+    uint8_t *powers, size_t powers_length) BF_CHECKED;
+
+/* product: the product of all elements, 1 of none. BF_NOT_AN_ELEMENT unless each word that is read is below 2. */
 uint32_t bf_gf2_product(const uint8_t *values, size_t values_length, uint8_t *product) BF_CHECKED BF_NONNULL(3);
-uint32_t bf_gf2_dot_product(const uint8_t *left, size_t left_length, const uint8_t *right, size_t right_length, uint8_t *sum) BF_CHECKED BF_NONNULL(5);
-uint32_t bf_gf2_evaluate(const uint8_t *coefficients, size_t coefficients_length, const uint8_t *points, size_t points_length, uint8_t *values, size_t values_length) BF_CHECKED;
+
+/* sum: the sum of the products at each place, 0 of none. BF_LENGTH unless left and right have one length.
+ * BF_NOT_AN_ELEMENT unless each word that is read is below 2. */
+uint32_t bf_gf2_dot_product(const uint8_t *left, size_t left_length, const uint8_t *right, size_t right_length,
+    uint8_t *sum) BF_CHECKED BF_NONNULL(5);
+
+/* values: the value at each point of the polynomial with these coefficients, the constant one first; any number of
+ * coefficients. BF_LENGTH unless points and values have one length. BF_NOT_AN_ELEMENT unless each word that is read
+ * is below 2. */
+uint32_t bf_gf2_evaluate(const uint8_t *coefficients, size_t coefficients_length,
+    const uint8_t *points, size_t points_length, uint8_t *values, size_t values_length) BF_CHECKED;
+
+/* Adds to each element of sums the value at its place. BF_LENGTH unless sums and values have one length.
+ * BF_NOT_AN_ELEMENT unless each word that is read is below 2. */
 uint32_t bf_gf2_add_in_place(uint8_t *sums, size_t sums_length, const uint8_t *values, size_t values_length) BF_CHECKED;
-uint32_t bf_gf2_multiply_in_place(uint8_t *products, size_t products_length, const uint8_t *values, size_t values_length) BF_CHECKED;
+
+/* Multiplies each element of products by the value at its place. BF_LENGTH unless products and values have one
+ * length. BF_NOT_AN_ELEMENT unless each word that is read is below 2. */
+uint32_t bf_gf2_multiply_in_place(uint8_t *products, size_t products_length,
+    const uint8_t *values, size_t values_length) BF_CHECKED;
+
+/* Multiplies each element by the scalar. BF_NOT_AN_ELEMENT unless each word that is read is below 2. */
 uint32_t bf_gf2_multiply_by_in_place(uint8_t *values, size_t values_length, uint8_t scalar) BF_CHECKED;
+
+/* Squares each element. BF_NOT_AN_ELEMENT unless each word that is read is below 2. */
 uint32_t bf_gf2_square_in_place(uint8_t *values, size_t values_length) BF_CHECKED;
+
+/* Leaves the inverse of each element, and 0 of 0. BF_NOT_AN_ELEMENT unless each word that is read is below 2. */
 uint32_t bf_gf2_inverse_in_place(uint8_t *values, size_t values_length) BF_CHECKED;
+
+/* Leaves the square root of each element. BF_NOT_AN_ELEMENT unless each word that is read is below 2. */
 uint32_t bf_gf2_square_root_in_place(uint8_t *values, size_t values_length) BF_CHECKED;
+
+/* Raises each element to the power of the exponent; to the power 0 it is 1. BF_NOT_AN_ELEMENT unless each word that
+ * is read is below 2. */
 uint32_t bf_gf2_power_in_place(uint8_t *values, size_t values_length, uint64_t exponent) BF_CHECKED;
+
+/* generator: the generator of the field's multiplicative group that the library names. */
 uint32_t bf_gf2_generator(uint8_t *generator) BF_CHECKED BF_NONNULL(1);
 
-/* --------------------------------------------------------------------------------------------------------------------- */
+/* ------------------------------------------------------------------------------------------------------------------ */
 /* t2: GF(2^2), a level of the tower. An element is a uint8_t, below 4. */
 
-uint32_t bf_t2_add(const uint8_t *left, size_t left_length, const uint8_t *right, size_t right_length, uint8_t *sums, size_t sums_length) BF_CHECKED;
-uint32_t bf_t2_multiply(const uint8_t *left, size_t left_length, const uint8_t *right, size_t right_length, uint8_t *products, size_t products_length) BF_CHECKED;
-uint32_t bf_t2_multiply_by(const uint8_t *values, size_t values_length, uint8_t scalar, uint8_t *products, size_t products_length) BF_CHECKED;
-uint32_t bf_t2_add_scaled(uint8_t *sums, size_t sums_length, uint8_t scalar, const uint8_t *values, size_t values_length) BF_CHECKED;
+/* sums: the sum of the elements at each place. BF_LENGTH unless left, right and sums have one length.
+ * BF_NOT_AN_ELEMENT unless each word that is read is below 4. */
+uint32_t bf_t2_add(const uint8_t *left, size_t left_length, const uint8_t *right, size_t right_length,
+    uint8_t *sums, size_t sums_length) BF_CHECKED;
+
+/* products: the product of the elements at each place. BF_LENGTH unless left, right and products have one length.
+ * BF_NOT_AN_ELEMENT unless each word that is read is below 4. */
+uint32_t bf_t2_multiply(const uint8_t *left, size_t left_length, const uint8_t *right, size_t right_length,
+    uint8_t *products, size_t products_length) BF_CHECKED;
+
+/* products: the product of each element and the scalar. BF_LENGTH unless values and products have one length.
+ * BF_NOT_AN_ELEMENT unless each word that is read is below 4. */
+uint32_t bf_t2_multiply_by(const uint8_t *values, size_t values_length, uint8_t scalar,
+    uint8_t *products, size_t products_length) BF_CHECKED;
+
+/* Adds to each element of sums the scalar times the value at its place. BF_LENGTH unless sums and values have one
+ * length. BF_NOT_AN_ELEMENT unless each word that is read is below 4. */
+uint32_t bf_t2_add_scaled(uint8_t *sums, size_t sums_length, uint8_t scalar,
+    const uint8_t *values, size_t values_length) BF_CHECKED;
+
+/* squares: the square of each element. BF_LENGTH unless values and squares have one length. BF_NOT_AN_ELEMENT unless
+ * each word that is read is below 4. */
 uint32_t bf_t2_square(const uint8_t *values, size_t values_length, uint8_t *squares, size_t squares_length) BF_CHECKED;
-uint32_t bf_t2_inverse(const uint8_t *values, size_t values_length, uint8_t *inverses, size_t inverses_length) BF_CHECKED;
-uint32_t bf_t2_batch_inverse(const uint8_t *values, size_t values_length, uint8_t *inverses, size_t inverses_length) BF_CHECKED;
+
+/* inverses: the inverse of each element, and 0 for 0. BF_LENGTH unless values and inverses have one length.
+ * BF_NOT_AN_ELEMENT unless each word that is read is below 4. */
+uint32_t bf_t2_inverse(const uint8_t *values, size_t values_length,
+    uint8_t *inverses, size_t inverses_length) BF_CHECKED;
+
+/* inverses: the same as inverse; of few elements of p64 and g128 by one inverse and three products an element.
+ * BF_LENGTH unless values and inverses have one length. BF_NOT_AN_ELEMENT unless each word that is read is below 4. */
+uint32_t bf_t2_batch_inverse(const uint8_t *values, size_t values_length,
+    uint8_t *inverses, size_t inverses_length) BF_CHECKED;
+
+/* roots: the square root of each element. BF_LENGTH unless values and roots have one length. BF_NOT_AN_ELEMENT
+ * unless each word that is read is below 4. */
 uint32_t bf_t2_square_root(const uint8_t *values, size_t values_length, uint8_t *roots, size_t roots_length) BF_CHECKED;
-uint32_t bf_t2_power(const uint8_t *values, size_t values_length, uint64_t exponent, uint8_t *powers, size_t powers_length) BF_CHECKED;
+
+/* powers: each element to the power of the exponent; to the power 0 it is 1. BF_LENGTH unless values and powers have
+ * one length. BF_NOT_AN_ELEMENT unless each word that is read is below 4. */
+uint32_t bf_t2_power(const uint8_t *values, size_t values_length, uint64_t exponent,
+    uint8_t *powers, size_t powers_length) BF_CHECKED;
+
+/* product: the product of all elements, 1 of none. BF_NOT_AN_ELEMENT unless each word that is read is below 4. */
 uint32_t bf_t2_product(const uint8_t *values, size_t values_length, uint8_t *product) BF_CHECKED BF_NONNULL(3);
-uint32_t bf_t2_dot_product(const uint8_t *left, size_t left_length, const uint8_t *right, size_t right_length, uint8_t *sum) BF_CHECKED BF_NONNULL(5);
-uint32_t bf_t2_evaluate(const uint8_t *coefficients, size_t coefficients_length, const uint8_t *points, size_t points_length, uint8_t *values, size_t values_length) BF_CHECKED;
+
+/* sum: the sum of the products at each place, 0 of none. BF_LENGTH unless left and right have one length.
+ * BF_NOT_AN_ELEMENT unless each word that is read is below 4. */
+uint32_t bf_t2_dot_product(const uint8_t *left, size_t left_length, const uint8_t *right, size_t right_length,
+    uint8_t *sum) BF_CHECKED BF_NONNULL(5);
+
+/* values: the value at each point of the polynomial with these coefficients, the constant one first; any number of
+ * coefficients. BF_LENGTH unless points and values have one length. BF_NOT_AN_ELEMENT unless each word that is read
+ * is below 4. */
+uint32_t bf_t2_evaluate(const uint8_t *coefficients, size_t coefficients_length,
+    const uint8_t *points, size_t points_length, uint8_t *values, size_t values_length) BF_CHECKED;
+
+/* Adds to each element of sums the value at its place. BF_LENGTH unless sums and values have one length.
+ * BF_NOT_AN_ELEMENT unless each word that is read is below 4. */
 uint32_t bf_t2_add_in_place(uint8_t *sums, size_t sums_length, const uint8_t *values, size_t values_length) BF_CHECKED;
-uint32_t bf_t2_multiply_in_place(uint8_t *products, size_t products_length, const uint8_t *values, size_t values_length) BF_CHECKED;
+
+/* Multiplies each element of products by the value at its place. BF_LENGTH unless products and values have one
+ * length. BF_NOT_AN_ELEMENT unless each word that is read is below 4. */
+uint32_t bf_t2_multiply_in_place(uint8_t *products, size_t products_length,
+    const uint8_t *values, size_t values_length) BF_CHECKED;
+
+/* Multiplies each element by the scalar. BF_NOT_AN_ELEMENT unless each word that is read is below 4. */
 uint32_t bf_t2_multiply_by_in_place(uint8_t *values, size_t values_length, uint8_t scalar) BF_CHECKED;
+
+/* Squares each element. BF_NOT_AN_ELEMENT unless each word that is read is below 4. */
 uint32_t bf_t2_square_in_place(uint8_t *values, size_t values_length) BF_CHECKED;
+
+/* Leaves the inverse of each element, and 0 of 0. BF_NOT_AN_ELEMENT unless each word that is read is below 4. */
 uint32_t bf_t2_inverse_in_place(uint8_t *values, size_t values_length) BF_CHECKED;
+
+/* Leaves the square root of each element. BF_NOT_AN_ELEMENT unless each word that is read is below 4. */
 uint32_t bf_t2_square_root_in_place(uint8_t *values, size_t values_length) BF_CHECKED;
+
+/* Raises each element to the power of the exponent; to the power 0 it is 1. BF_NOT_AN_ELEMENT unless each word that
+ * is read is below 4. */
 uint32_t bf_t2_power_in_place(uint8_t *values, size_t values_length, uint64_t exponent) BF_CHECKED;
+
+/* generator: the generator of the field's multiplicative group that the library names. */
 uint32_t bf_t2_generator(uint8_t *generator) BF_CHECKED BF_NONNULL(1);
 
-/* --------------------------------------------------------------------------------------------------------------------- */
+/* ------------------------------------------------------------------------------------------------------------------ */
 /* t4: GF(2^4), a level of the tower. An element is a uint8_t, below 16. */
 
-uint32_t bf_t4_add(const uint8_t *left, size_t left_length, const uint8_t *right, size_t right_length, uint8_t *sums, size_t sums_length) BF_CHECKED;
-uint32_t bf_t4_multiply(const uint8_t *left, size_t left_length, const uint8_t *right, size_t right_length, uint8_t *products, size_t products_length) BF_CHECKED;
-uint32_t bf_t4_multiply_by(const uint8_t *values, size_t values_length, uint8_t scalar, uint8_t *products, size_t products_length) BF_CHECKED;
-uint32_t bf_t4_add_scaled(uint8_t *sums, size_t sums_length, uint8_t scalar, const uint8_t *values, size_t values_length) BF_CHECKED;
+/* sums: the sum of the elements at each place. BF_LENGTH unless left, right and sums have one length.
+ * BF_NOT_AN_ELEMENT unless each word that is read is below 16. */
+uint32_t bf_t4_add(const uint8_t *left, size_t left_length, const uint8_t *right, size_t right_length,
+    uint8_t *sums, size_t sums_length) BF_CHECKED;
+
+/* products: the product of the elements at each place. BF_LENGTH unless left, right and products have one length.
+ * BF_NOT_AN_ELEMENT unless each word that is read is below 16. */
+uint32_t bf_t4_multiply(const uint8_t *left, size_t left_length, const uint8_t *right, size_t right_length,
+    uint8_t *products, size_t products_length) BF_CHECKED;
+
+/* products: the product of each element and the scalar. BF_LENGTH unless values and products have one length.
+ * BF_NOT_AN_ELEMENT unless each word that is read is below 16. */
+uint32_t bf_t4_multiply_by(const uint8_t *values, size_t values_length, uint8_t scalar,
+    uint8_t *products, size_t products_length) BF_CHECKED;
+
+/* Adds to each element of sums the scalar times the value at its place. BF_LENGTH unless sums and values have one
+ * length. BF_NOT_AN_ELEMENT unless each word that is read is below 16. */
+uint32_t bf_t4_add_scaled(uint8_t *sums, size_t sums_length, uint8_t scalar,
+    const uint8_t *values, size_t values_length) BF_CHECKED;
+
+/* squares: the square of each element. BF_LENGTH unless values and squares have one length. BF_NOT_AN_ELEMENT unless
+ * each word that is read is below 16. */
 uint32_t bf_t4_square(const uint8_t *values, size_t values_length, uint8_t *squares, size_t squares_length) BF_CHECKED;
-uint32_t bf_t4_inverse(const uint8_t *values, size_t values_length, uint8_t *inverses, size_t inverses_length) BF_CHECKED;
-uint32_t bf_t4_batch_inverse(const uint8_t *values, size_t values_length, uint8_t *inverses, size_t inverses_length) BF_CHECKED;
+
+/* inverses: the inverse of each element, and 0 for 0. BF_LENGTH unless values and inverses have one length.
+ * BF_NOT_AN_ELEMENT unless each word that is read is below 16. */
+uint32_t bf_t4_inverse(const uint8_t *values, size_t values_length,
+    uint8_t *inverses, size_t inverses_length) BF_CHECKED;
+
+/* inverses: the same as inverse; of few elements of p64 and g128 by one inverse and three products an element.
+ * BF_LENGTH unless values and inverses have one length. BF_NOT_AN_ELEMENT unless each word that is read is below 16. */
+uint32_t bf_t4_batch_inverse(const uint8_t *values, size_t values_length,
+    uint8_t *inverses, size_t inverses_length) BF_CHECKED;
+
+/* roots: the square root of each element. BF_LENGTH unless values and roots have one length. BF_NOT_AN_ELEMENT
+ * unless each word that is read is below 16. */
 uint32_t bf_t4_square_root(const uint8_t *values, size_t values_length, uint8_t *roots, size_t roots_length) BF_CHECKED;
-uint32_t bf_t4_power(const uint8_t *values, size_t values_length, uint64_t exponent, uint8_t *powers, size_t powers_length) BF_CHECKED;
+
+/* powers: each element to the power of the exponent; to the power 0 it is 1. BF_LENGTH unless values and powers have
+ * one length. BF_NOT_AN_ELEMENT unless each word that is read is below 16. */
+uint32_t bf_t4_power(const uint8_t *values, size_t values_length, uint64_t exponent,
+    uint8_t *powers, size_t powers_length) BF_CHECKED;
+
+/* product: the product of all elements, 1 of none. BF_NOT_AN_ELEMENT unless each word that is read is below 16. */
 uint32_t bf_t4_product(const uint8_t *values, size_t values_length, uint8_t *product) BF_CHECKED BF_NONNULL(3);
-uint32_t bf_t4_dot_product(const uint8_t *left, size_t left_length, const uint8_t *right, size_t right_length, uint8_t *sum) BF_CHECKED BF_NONNULL(5);
-uint32_t bf_t4_evaluate(const uint8_t *coefficients, size_t coefficients_length, const uint8_t *points, size_t points_length, uint8_t *values, size_t values_length) BF_CHECKED;
+
+/* sum: the sum of the products at each place, 0 of none. BF_LENGTH unless left and right have one length.
+ * BF_NOT_AN_ELEMENT unless each word that is read is below 16. */
+uint32_t bf_t4_dot_product(const uint8_t *left, size_t left_length, const uint8_t *right, size_t right_length,
+    uint8_t *sum) BF_CHECKED BF_NONNULL(5);
+
+/* values: the value at each point of the polynomial with these coefficients, the constant one first; any number of
+ * coefficients. BF_LENGTH unless points and values have one length. BF_NOT_AN_ELEMENT unless each word that is read
+ * is below 16. */
+uint32_t bf_t4_evaluate(const uint8_t *coefficients, size_t coefficients_length,
+    const uint8_t *points, size_t points_length, uint8_t *values, size_t values_length) BF_CHECKED;
+
+/* Adds to each element of sums the value at its place. BF_LENGTH unless sums and values have one length.
+ * BF_NOT_AN_ELEMENT unless each word that is read is below 16. */
 uint32_t bf_t4_add_in_place(uint8_t *sums, size_t sums_length, const uint8_t *values, size_t values_length) BF_CHECKED;
-uint32_t bf_t4_multiply_in_place(uint8_t *products, size_t products_length, const uint8_t *values, size_t values_length) BF_CHECKED;
+
+/* Multiplies each element of products by the value at its place. BF_LENGTH unless products and values have one
+ * length. BF_NOT_AN_ELEMENT unless each word that is read is below 16. */
+uint32_t bf_t4_multiply_in_place(uint8_t *products, size_t products_length,
+    const uint8_t *values, size_t values_length) BF_CHECKED;
+
+/* Multiplies each element by the scalar. BF_NOT_AN_ELEMENT unless each word that is read is below 16. */
 uint32_t bf_t4_multiply_by_in_place(uint8_t *values, size_t values_length, uint8_t scalar) BF_CHECKED;
+
+/* Squares each element. BF_NOT_AN_ELEMENT unless each word that is read is below 16. */
 uint32_t bf_t4_square_in_place(uint8_t *values, size_t values_length) BF_CHECKED;
+
+/* Leaves the inverse of each element, and 0 of 0. BF_NOT_AN_ELEMENT unless each word that is read is below 16. */
 uint32_t bf_t4_inverse_in_place(uint8_t *values, size_t values_length) BF_CHECKED;
+
+/* Leaves the square root of each element. BF_NOT_AN_ELEMENT unless each word that is read is below 16. */
 uint32_t bf_t4_square_root_in_place(uint8_t *values, size_t values_length) BF_CHECKED;
+
+/* Raises each element to the power of the exponent; to the power 0 it is 1. BF_NOT_AN_ELEMENT unless each word that
+ * is read is below 16. */
 uint32_t bf_t4_power_in_place(uint8_t *values, size_t values_length, uint64_t exponent) BF_CHECKED;
+
+/* generator: the generator of the field's multiplicative group that the library names. */
 uint32_t bf_t4_generator(uint8_t *generator) BF_CHECKED BF_NONNULL(1);
 
-/* --------------------------------------------------------------------------------------------------------------------- */
+/* ------------------------------------------------------------------------------------------------------------------ */
 /* t8: GF(2^8), a level of the tower. An element is a uint8_t. */
 
-uint32_t bf_t8_add(const uint8_t *left, size_t left_length, const uint8_t *right, size_t right_length, uint8_t *sums, size_t sums_length) BF_CHECKED;
-uint32_t bf_t8_multiply(const uint8_t *left, size_t left_length, const uint8_t *right, size_t right_length, uint8_t *products, size_t products_length) BF_CHECKED;
-uint32_t bf_t8_multiply_by(const uint8_t *values, size_t values_length, uint8_t scalar, uint8_t *products, size_t products_length) BF_CHECKED;
-uint32_t bf_t8_add_scaled(uint8_t *sums, size_t sums_length, uint8_t scalar, const uint8_t *values, size_t values_length) BF_CHECKED;
+/* sums: the sum of the elements at each place. BF_LENGTH unless left, right and sums have one length. */
+uint32_t bf_t8_add(const uint8_t *left, size_t left_length, const uint8_t *right, size_t right_length,
+    uint8_t *sums, size_t sums_length) BF_CHECKED;
+
+/* products: the product of the elements at each place. BF_LENGTH unless left, right and products have one length. */
+uint32_t bf_t8_multiply(const uint8_t *left, size_t left_length, const uint8_t *right, size_t right_length,
+    uint8_t *products, size_t products_length) BF_CHECKED;
+
+/* products: the product of each element and the scalar. BF_LENGTH unless values and products have one length. */
+uint32_t bf_t8_multiply_by(const uint8_t *values, size_t values_length, uint8_t scalar,
+    uint8_t *products, size_t products_length) BF_CHECKED;
+
+/* Adds to each element of sums the scalar times the value at its place. BF_LENGTH unless sums and values have one
+ * length. */
+uint32_t bf_t8_add_scaled(uint8_t *sums, size_t sums_length, uint8_t scalar,
+    const uint8_t *values, size_t values_length) BF_CHECKED;
+
+/* squares: the square of each element. BF_LENGTH unless values and squares have one length. */
 uint32_t bf_t8_square(const uint8_t *values, size_t values_length, uint8_t *squares, size_t squares_length) BF_CHECKED;
-uint32_t bf_t8_inverse(const uint8_t *values, size_t values_length, uint8_t *inverses, size_t inverses_length) BF_CHECKED;
-uint32_t bf_t8_batch_inverse(const uint8_t *values, size_t values_length, uint8_t *inverses, size_t inverses_length) BF_CHECKED;
+
+/* inverses: the inverse of each element, and 0 for 0. BF_LENGTH unless values and inverses have one length. */
+uint32_t bf_t8_inverse(const uint8_t *values, size_t values_length,
+    uint8_t *inverses, size_t inverses_length) BF_CHECKED;
+
+/* inverses: the same as inverse; of few elements of p64 and g128 by one inverse and three products an element.
+ * BF_LENGTH unless values and inverses have one length. */
+uint32_t bf_t8_batch_inverse(const uint8_t *values, size_t values_length,
+    uint8_t *inverses, size_t inverses_length) BF_CHECKED;
+
+/* roots: the square root of each element. BF_LENGTH unless values and roots have one length. */
 uint32_t bf_t8_square_root(const uint8_t *values, size_t values_length, uint8_t *roots, size_t roots_length) BF_CHECKED;
-uint32_t bf_t8_power(const uint8_t *values, size_t values_length, uint64_t exponent, uint8_t *powers, size_t powers_length) BF_CHECKED;
+
+/* powers: each element to the power of the exponent; to the power 0 it is 1. BF_LENGTH unless values and powers have
+ * one length. */
+uint32_t bf_t8_power(const uint8_t *values, size_t values_length, uint64_t exponent,
+    uint8_t *powers, size_t powers_length) BF_CHECKED;
+
+/* product: the product of all elements, 1 of none. */
 uint32_t bf_t8_product(const uint8_t *values, size_t values_length, uint8_t *product) BF_CHECKED BF_NONNULL(3);
-uint32_t bf_t8_dot_product(const uint8_t *left, size_t left_length, const uint8_t *right, size_t right_length, uint8_t *sum) BF_CHECKED BF_NONNULL(5);
-uint32_t bf_t8_evaluate(const uint8_t *coefficients, size_t coefficients_length, const uint8_t *points, size_t points_length, uint8_t *values, size_t values_length) BF_CHECKED;
+
+/* sum: the sum of the products at each place, 0 of none. BF_LENGTH unless left and right have one length. */
+uint32_t bf_t8_dot_product(const uint8_t *left, size_t left_length, const uint8_t *right, size_t right_length,
+    uint8_t *sum) BF_CHECKED BF_NONNULL(5);
+
+/* values: the value at each point of the polynomial with these coefficients, the constant one first; any number of
+ * coefficients. BF_LENGTH unless points and values have one length. */
+uint32_t bf_t8_evaluate(const uint8_t *coefficients, size_t coefficients_length,
+    const uint8_t *points, size_t points_length, uint8_t *values, size_t values_length) BF_CHECKED;
+
+/* Adds to each element of sums the value at its place. BF_LENGTH unless sums and values have one length. */
 uint32_t bf_t8_add_in_place(uint8_t *sums, size_t sums_length, const uint8_t *values, size_t values_length) BF_CHECKED;
-uint32_t bf_t8_multiply_in_place(uint8_t *products, size_t products_length, const uint8_t *values, size_t values_length) BF_CHECKED;
+
+/* Multiplies each element of products by the value at its place. BF_LENGTH unless products and values have one
+ * length. */
+uint32_t bf_t8_multiply_in_place(uint8_t *products, size_t products_length,
+    const uint8_t *values, size_t values_length) BF_CHECKED;
+
+/* Multiplies each element by the scalar. */
 uint32_t bf_t8_multiply_by_in_place(uint8_t *values, size_t values_length, uint8_t scalar) BF_CHECKED;
+
+/* Squares each element. */
 uint32_t bf_t8_square_in_place(uint8_t *values, size_t values_length) BF_CHECKED;
+
+/* Leaves the inverse of each element, and 0 of 0. */
 uint32_t bf_t8_inverse_in_place(uint8_t *values, size_t values_length) BF_CHECKED;
+
+/* Leaves the square root of each element. */
 uint32_t bf_t8_square_root_in_place(uint8_t *values, size_t values_length) BF_CHECKED;
+
+/* Raises each element to the power of the exponent; to the power 0 it is 1. */
 uint32_t bf_t8_power_in_place(uint8_t *values, size_t values_length, uint64_t exponent) BF_CHECKED;
+
+/* generator: the generator of the field's multiplicative group that the library names. */
 uint32_t bf_t8_generator(uint8_t *generator) BF_CHECKED BF_NONNULL(1);
 
-/* --------------------------------------------------------------------------------------------------------------------- */
+/* ------------------------------------------------------------------------------------------------------------------ */
 /* t16: GF(2^16), a level of the tower. An element is a uint16_t. */
 
-uint32_t bf_t16_add(const uint16_t *left, size_t left_length, const uint16_t *right, size_t right_length, uint16_t *sums, size_t sums_length) BF_CHECKED;
-uint32_t bf_t16_multiply(const uint16_t *left, size_t left_length, const uint16_t *right, size_t right_length, uint16_t *products, size_t products_length) BF_CHECKED;
-uint32_t bf_t16_multiply_by(const uint16_t *values, size_t values_length, uint16_t scalar, uint16_t *products, size_t products_length) BF_CHECKED;
-uint32_t bf_t16_add_scaled(uint16_t *sums, size_t sums_length, uint16_t scalar, const uint16_t *values, size_t values_length) BF_CHECKED;
-uint32_t bf_t16_square(const uint16_t *values, size_t values_length, uint16_t *squares, size_t squares_length) BF_CHECKED;
-uint32_t bf_t16_inverse(const uint16_t *values, size_t values_length, uint16_t *inverses, size_t inverses_length) BF_CHECKED;
-uint32_t bf_t16_batch_inverse(const uint16_t *values, size_t values_length, uint16_t *inverses, size_t inverses_length) BF_CHECKED;
-uint32_t bf_t16_square_root(const uint16_t *values, size_t values_length, uint16_t *roots, size_t roots_length) BF_CHECKED;
-uint32_t bf_t16_power(const uint16_t *values, size_t values_length, uint64_t exponent, uint16_t *powers, size_t powers_length) BF_CHECKED;
+/* sums: the sum of the elements at each place. BF_LENGTH unless left, right and sums have one length. */
+uint32_t bf_t16_add(const uint16_t *left, size_t left_length, const uint16_t *right, size_t right_length,
+    uint16_t *sums, size_t sums_length) BF_CHECKED;
+
+/* products: the product of the elements at each place. BF_LENGTH unless left, right and products have one length. */
+uint32_t bf_t16_multiply(const uint16_t *left, size_t left_length, const uint16_t *right, size_t right_length,
+    uint16_t *products, size_t products_length) BF_CHECKED;
+
+/* products: the product of each element and the scalar. BF_LENGTH unless values and products have one length. */
+uint32_t bf_t16_multiply_by(const uint16_t *values, size_t values_length, uint16_t scalar,
+    uint16_t *products, size_t products_length) BF_CHECKED;
+
+/* Adds to each element of sums the scalar times the value at its place. BF_LENGTH unless sums and values have one
+ * length. */
+uint32_t bf_t16_add_scaled(uint16_t *sums, size_t sums_length, uint16_t scalar,
+    const uint16_t *values, size_t values_length) BF_CHECKED;
+
+/* squares: the square of each element. BF_LENGTH unless values and squares have one length. */
+uint32_t bf_t16_square(const uint16_t *values, size_t values_length,
+    uint16_t *squares, size_t squares_length) BF_CHECKED;
+
+/* inverses: the inverse of each element, and 0 for 0. BF_LENGTH unless values and inverses have one length. */
+uint32_t bf_t16_inverse(const uint16_t *values, size_t values_length,
+    uint16_t *inverses, size_t inverses_length) BF_CHECKED;
+
+/* inverses: the same as inverse; of few elements of p64 and g128 by one inverse and three products an element.
+ * BF_LENGTH unless values and inverses have one length. */
+uint32_t bf_t16_batch_inverse(const uint16_t *values, size_t values_length,
+    uint16_t *inverses, size_t inverses_length) BF_CHECKED;
+
+/* roots: the square root of each element. BF_LENGTH unless values and roots have one length. */
+uint32_t bf_t16_square_root(const uint16_t *values, size_t values_length,
+    uint16_t *roots, size_t roots_length) BF_CHECKED;
+
+/* powers: each element to the power of the exponent; to the power 0 it is 1. BF_LENGTH unless values and powers have
+ * one length. */
+uint32_t bf_t16_power(const uint16_t *values, size_t values_length, uint64_t exponent,
+    uint16_t *powers, size_t powers_length) BF_CHECKED;
+
+/* product: the product of all elements, 1 of none. */
 uint32_t bf_t16_product(const uint16_t *values, size_t values_length, uint16_t *product) BF_CHECKED BF_NONNULL(3);
-uint32_t bf_t16_dot_product(const uint16_t *left, size_t left_length, const uint16_t *right, size_t right_length, uint16_t *sum) BF_CHECKED BF_NONNULL(5);
-uint32_t bf_t16_evaluate(const uint16_t *coefficients, size_t coefficients_length, const uint16_t *points, size_t points_length, uint16_t *values, size_t values_length) BF_CHECKED;
-uint32_t bf_t16_add_in_place(uint16_t *sums, size_t sums_length, const uint16_t *values, size_t values_length) BF_CHECKED;
-uint32_t bf_t16_multiply_in_place(uint16_t *products, size_t products_length, const uint16_t *values, size_t values_length) BF_CHECKED;
+
+/* sum: the sum of the products at each place, 0 of none. BF_LENGTH unless left and right have one length. */
+uint32_t bf_t16_dot_product(const uint16_t *left, size_t left_length, const uint16_t *right, size_t right_length,
+    uint16_t *sum) BF_CHECKED BF_NONNULL(5);
+
+/* values: the value at each point of the polynomial with these coefficients, the constant one first; any number of
+ * coefficients. BF_LENGTH unless points and values have one length. */
+uint32_t bf_t16_evaluate(const uint16_t *coefficients, size_t coefficients_length,
+    const uint16_t *points, size_t points_length, uint16_t *values, size_t values_length) BF_CHECKED;
+
+/* Adds to each element of sums the value at its place. BF_LENGTH unless sums and values have one length. */
+uint32_t bf_t16_add_in_place(uint16_t *sums, size_t sums_length,
+    const uint16_t *values, size_t values_length) BF_CHECKED;
+
+/* Multiplies each element of products by the value at its place. BF_LENGTH unless products and values have one
+ * length. */
+uint32_t bf_t16_multiply_in_place(uint16_t *products, size_t products_length,
+    const uint16_t *values, size_t values_length) BF_CHECKED;
+
+/* Multiplies each element by the scalar. */
 uint32_t bf_t16_multiply_by_in_place(uint16_t *values, size_t values_length, uint16_t scalar) BF_CHECKED;
+
+/* Squares each element. */
 uint32_t bf_t16_square_in_place(uint16_t *values, size_t values_length) BF_CHECKED;
+
+/* Leaves the inverse of each element, and 0 of 0. */
 uint32_t bf_t16_inverse_in_place(uint16_t *values, size_t values_length) BF_CHECKED;
+
+/* Leaves the square root of each element. */
 uint32_t bf_t16_square_root_in_place(uint16_t *values, size_t values_length) BF_CHECKED;
+
+/* Raises each element to the power of the exponent; to the power 0 it is 1. */
 uint32_t bf_t16_power_in_place(uint16_t *values, size_t values_length, uint64_t exponent) BF_CHECKED;
+
+/* generator: the generator of the field's multiplicative group that the library names. */
 uint32_t bf_t16_generator(uint16_t *generator) BF_CHECKED BF_NONNULL(1);
 
-/* --------------------------------------------------------------------------------------------------------------------- */
+/* ------------------------------------------------------------------------------------------------------------------ */
 /* t32: GF(2^32), a level of the tower. An element is a uint32_t. */
 
-uint32_t bf_t32_add(const uint32_t *left, size_t left_length, const uint32_t *right, size_t right_length, uint32_t *sums, size_t sums_length) BF_CHECKED;
-uint32_t bf_t32_multiply(const uint32_t *left, size_t left_length, const uint32_t *right, size_t right_length, uint32_t *products, size_t products_length) BF_CHECKED;
-uint32_t bf_t32_multiply_by(const uint32_t *values, size_t values_length, uint32_t scalar, uint32_t *products, size_t products_length) BF_CHECKED;
-uint32_t bf_t32_add_scaled(uint32_t *sums, size_t sums_length, uint32_t scalar, const uint32_t *values, size_t values_length) BF_CHECKED;
-uint32_t bf_t32_square(const uint32_t *values, size_t values_length, uint32_t *squares, size_t squares_length) BF_CHECKED;
-uint32_t bf_t32_inverse(const uint32_t *values, size_t values_length, uint32_t *inverses, size_t inverses_length) BF_CHECKED;
-uint32_t bf_t32_batch_inverse(const uint32_t *values, size_t values_length, uint32_t *inverses, size_t inverses_length) BF_CHECKED;
-uint32_t bf_t32_square_root(const uint32_t *values, size_t values_length, uint32_t *roots, size_t roots_length) BF_CHECKED;
-uint32_t bf_t32_power(const uint32_t *values, size_t values_length, uint64_t exponent, uint32_t *powers, size_t powers_length) BF_CHECKED;
+/* sums: the sum of the elements at each place. BF_LENGTH unless left, right and sums have one length. */
+uint32_t bf_t32_add(const uint32_t *left, size_t left_length, const uint32_t *right, size_t right_length,
+    uint32_t *sums, size_t sums_length) BF_CHECKED;
+
+/* products: the product of the elements at each place. BF_LENGTH unless left, right and products have one length. */
+uint32_t bf_t32_multiply(const uint32_t *left, size_t left_length, const uint32_t *right, size_t right_length,
+    uint32_t *products, size_t products_length) BF_CHECKED;
+
+/* products: the product of each element and the scalar. BF_LENGTH unless values and products have one length. */
+uint32_t bf_t32_multiply_by(const uint32_t *values, size_t values_length, uint32_t scalar,
+    uint32_t *products, size_t products_length) BF_CHECKED;
+
+/* Adds to each element of sums the scalar times the value at its place. BF_LENGTH unless sums and values have one
+ * length. */
+uint32_t bf_t32_add_scaled(uint32_t *sums, size_t sums_length, uint32_t scalar,
+    const uint32_t *values, size_t values_length) BF_CHECKED;
+
+/* squares: the square of each element. BF_LENGTH unless values and squares have one length. */
+uint32_t bf_t32_square(const uint32_t *values, size_t values_length,
+    uint32_t *squares, size_t squares_length) BF_CHECKED;
+
+/* inverses: the inverse of each element, and 0 for 0. BF_LENGTH unless values and inverses have one length. */
+uint32_t bf_t32_inverse(const uint32_t *values, size_t values_length,
+    uint32_t *inverses, size_t inverses_length) BF_CHECKED;
+
+/* inverses: the same as inverse; of few elements of p64 and g128 by one inverse and three products an element.
+ * BF_LENGTH unless values and inverses have one length. */
+uint32_t bf_t32_batch_inverse(const uint32_t *values, size_t values_length,
+    uint32_t *inverses, size_t inverses_length) BF_CHECKED;
+
+/* roots: the square root of each element. BF_LENGTH unless values and roots have one length. */
+uint32_t bf_t32_square_root(const uint32_t *values, size_t values_length,
+    uint32_t *roots, size_t roots_length) BF_CHECKED;
+
+/* powers: each element to the power of the exponent; to the power 0 it is 1. BF_LENGTH unless values and powers have
+ * one length. */
+uint32_t bf_t32_power(const uint32_t *values, size_t values_length, uint64_t exponent,
+    uint32_t *powers, size_t powers_length) BF_CHECKED;
+
+/* product: the product of all elements, 1 of none. */
 uint32_t bf_t32_product(const uint32_t *values, size_t values_length, uint32_t *product) BF_CHECKED BF_NONNULL(3);
-uint32_t bf_t32_dot_product(const uint32_t *left, size_t left_length, const uint32_t *right, size_t right_length, uint32_t *sum) BF_CHECKED BF_NONNULL(5);
-uint32_t bf_t32_evaluate(const uint32_t *coefficients, size_t coefficients_length, const uint32_t *points, size_t points_length, uint32_t *values, size_t values_length) BF_CHECKED;
-uint32_t bf_t32_add_in_place(uint32_t *sums, size_t sums_length, const uint32_t *values, size_t values_length) BF_CHECKED;
-uint32_t bf_t32_multiply_in_place(uint32_t *products, size_t products_length, const uint32_t *values, size_t values_length) BF_CHECKED;
+
+/* sum: the sum of the products at each place, 0 of none. BF_LENGTH unless left and right have one length. */
+uint32_t bf_t32_dot_product(const uint32_t *left, size_t left_length, const uint32_t *right, size_t right_length,
+    uint32_t *sum) BF_CHECKED BF_NONNULL(5);
+
+/* values: the value at each point of the polynomial with these coefficients, the constant one first; any number of
+ * coefficients. BF_LENGTH unless points and values have one length. */
+uint32_t bf_t32_evaluate(const uint32_t *coefficients, size_t coefficients_length,
+    const uint32_t *points, size_t points_length, uint32_t *values, size_t values_length) BF_CHECKED;
+
+/* Adds to each element of sums the value at its place. BF_LENGTH unless sums and values have one length. */
+uint32_t bf_t32_add_in_place(uint32_t *sums, size_t sums_length,
+    const uint32_t *values, size_t values_length) BF_CHECKED;
+
+/* Multiplies each element of products by the value at its place. BF_LENGTH unless products and values have one
+ * length. */
+uint32_t bf_t32_multiply_in_place(uint32_t *products, size_t products_length,
+    const uint32_t *values, size_t values_length) BF_CHECKED;
+
+/* Multiplies each element by the scalar. */
 uint32_t bf_t32_multiply_by_in_place(uint32_t *values, size_t values_length, uint32_t scalar) BF_CHECKED;
+
+/* Squares each element. */
 uint32_t bf_t32_square_in_place(uint32_t *values, size_t values_length) BF_CHECKED;
+
+/* Leaves the inverse of each element, and 0 of 0. */
 uint32_t bf_t32_inverse_in_place(uint32_t *values, size_t values_length) BF_CHECKED;
+
+/* Leaves the square root of each element. */
 uint32_t bf_t32_square_root_in_place(uint32_t *values, size_t values_length) BF_CHECKED;
+
+/* Raises each element to the power of the exponent; to the power 0 it is 1. */
 uint32_t bf_t32_power_in_place(uint32_t *values, size_t values_length, uint64_t exponent) BF_CHECKED;
+
+/* generator: the generator of the field's multiplicative group that the library names. */
 uint32_t bf_t32_generator(uint32_t *generator) BF_CHECKED BF_NONNULL(1);
 
-/* --------------------------------------------------------------------------------------------------------------------- */
+/* ------------------------------------------------------------------------------------------------------------------ */
 /* t64: GF(2^64), a level of the tower. An element is a uint64_t. */
 
-uint32_t bf_t64_add(const uint64_t *left, size_t left_length, const uint64_t *right, size_t right_length, uint64_t *sums, size_t sums_length) BF_CHECKED;
-uint32_t bf_t64_multiply(const uint64_t *left, size_t left_length, const uint64_t *right, size_t right_length, uint64_t *products, size_t products_length) BF_CHECKED;
-uint32_t bf_t64_multiply_by(const uint64_t *values, size_t values_length, uint64_t scalar, uint64_t *products, size_t products_length) BF_CHECKED;
-uint32_t bf_t64_add_scaled(uint64_t *sums, size_t sums_length, uint64_t scalar, const uint64_t *values, size_t values_length) BF_CHECKED;
-uint32_t bf_t64_square(const uint64_t *values, size_t values_length, uint64_t *squares, size_t squares_length) BF_CHECKED;
-uint32_t bf_t64_inverse(const uint64_t *values, size_t values_length, uint64_t *inverses, size_t inverses_length) BF_CHECKED;
-uint32_t bf_t64_batch_inverse(const uint64_t *values, size_t values_length, uint64_t *inverses, size_t inverses_length) BF_CHECKED;
-uint32_t bf_t64_square_root(const uint64_t *values, size_t values_length, uint64_t *roots, size_t roots_length) BF_CHECKED;
-uint32_t bf_t64_power(const uint64_t *values, size_t values_length, uint64_t exponent, uint64_t *powers, size_t powers_length) BF_CHECKED;
+/* sums: the sum of the elements at each place. BF_LENGTH unless left, right and sums have one length. */
+uint32_t bf_t64_add(const uint64_t *left, size_t left_length, const uint64_t *right, size_t right_length,
+    uint64_t *sums, size_t sums_length) BF_CHECKED;
+
+/* products: the product of the elements at each place. BF_LENGTH unless left, right and products have one length. */
+uint32_t bf_t64_multiply(const uint64_t *left, size_t left_length, const uint64_t *right, size_t right_length,
+    uint64_t *products, size_t products_length) BF_CHECKED;
+
+/* products: the product of each element and the scalar. BF_LENGTH unless values and products have one length. */
+uint32_t bf_t64_multiply_by(const uint64_t *values, size_t values_length, uint64_t scalar,
+    uint64_t *products, size_t products_length) BF_CHECKED;
+
+/* Adds to each element of sums the scalar times the value at its place. BF_LENGTH unless sums and values have one
+ * length. */
+uint32_t bf_t64_add_scaled(uint64_t *sums, size_t sums_length, uint64_t scalar,
+    const uint64_t *values, size_t values_length) BF_CHECKED;
+
+/* squares: the square of each element. BF_LENGTH unless values and squares have one length. */
+uint32_t bf_t64_square(const uint64_t *values, size_t values_length,
+    uint64_t *squares, size_t squares_length) BF_CHECKED;
+
+/* inverses: the inverse of each element, and 0 for 0. BF_LENGTH unless values and inverses have one length. */
+uint32_t bf_t64_inverse(const uint64_t *values, size_t values_length,
+    uint64_t *inverses, size_t inverses_length) BF_CHECKED;
+
+/* inverses: the same as inverse; of few elements of p64 and g128 by one inverse and three products an element.
+ * BF_LENGTH unless values and inverses have one length. */
+uint32_t bf_t64_batch_inverse(const uint64_t *values, size_t values_length,
+    uint64_t *inverses, size_t inverses_length) BF_CHECKED;
+
+/* roots: the square root of each element. BF_LENGTH unless values and roots have one length. */
+uint32_t bf_t64_square_root(const uint64_t *values, size_t values_length,
+    uint64_t *roots, size_t roots_length) BF_CHECKED;
+
+/* powers: each element to the power of the exponent; to the power 0 it is 1. BF_LENGTH unless values and powers have
+ * one length. */
+uint32_t bf_t64_power(const uint64_t *values, size_t values_length, uint64_t exponent,
+    uint64_t *powers, size_t powers_length) BF_CHECKED;
+
+/* product: the product of all elements, 1 of none. */
 uint32_t bf_t64_product(const uint64_t *values, size_t values_length, uint64_t *product) BF_CHECKED BF_NONNULL(3);
-uint32_t bf_t64_dot_product(const uint64_t *left, size_t left_length, const uint64_t *right, size_t right_length, uint64_t *sum) BF_CHECKED BF_NONNULL(5);
-uint32_t bf_t64_evaluate(const uint64_t *coefficients, size_t coefficients_length, const uint64_t *points, size_t points_length, uint64_t *values, size_t values_length) BF_CHECKED;
-uint32_t bf_t64_add_in_place(uint64_t *sums, size_t sums_length, const uint64_t *values, size_t values_length) BF_CHECKED;
-uint32_t bf_t64_multiply_in_place(uint64_t *products, size_t products_length, const uint64_t *values, size_t values_length) BF_CHECKED;
+
+/* sum: the sum of the products at each place, 0 of none. BF_LENGTH unless left and right have one length. */
+uint32_t bf_t64_dot_product(const uint64_t *left, size_t left_length, const uint64_t *right, size_t right_length,
+    uint64_t *sum) BF_CHECKED BF_NONNULL(5);
+
+/* values: the value at each point of the polynomial with these coefficients, the constant one first; any number of
+ * coefficients. BF_LENGTH unless points and values have one length. */
+uint32_t bf_t64_evaluate(const uint64_t *coefficients, size_t coefficients_length,
+    const uint64_t *points, size_t points_length, uint64_t *values, size_t values_length) BF_CHECKED;
+
+/* Adds to each element of sums the value at its place. BF_LENGTH unless sums and values have one length. */
+uint32_t bf_t64_add_in_place(uint64_t *sums, size_t sums_length,
+    const uint64_t *values, size_t values_length) BF_CHECKED;
+
+/* Multiplies each element of products by the value at its place. BF_LENGTH unless products and values have one
+ * length. */
+uint32_t bf_t64_multiply_in_place(uint64_t *products, size_t products_length,
+    const uint64_t *values, size_t values_length) BF_CHECKED;
+
+/* Multiplies each element by the scalar. */
 uint32_t bf_t64_multiply_by_in_place(uint64_t *values, size_t values_length, uint64_t scalar) BF_CHECKED;
+
+/* Squares each element. */
 uint32_t bf_t64_square_in_place(uint64_t *values, size_t values_length) BF_CHECKED;
+
+/* Leaves the inverse of each element, and 0 of 0. */
 uint32_t bf_t64_inverse_in_place(uint64_t *values, size_t values_length) BF_CHECKED;
+
+/* Leaves the square root of each element. */
 uint32_t bf_t64_square_root_in_place(uint64_t *values, size_t values_length) BF_CHECKED;
+
+/* Raises each element to the power of the exponent; to the power 0 it is 1. */
 uint32_t bf_t64_power_in_place(uint64_t *values, size_t values_length, uint64_t exponent) BF_CHECKED;
+
+/* generator: the generator of the field's multiplicative group that the library names. */
 uint32_t bf_t64_generator(uint64_t *generator) BF_CHECKED BF_NONNULL(1);
 
-/* --------------------------------------------------------------------------------------------------------------------- */
+/* ------------------------------------------------------------------------------------------------------------------ */
 /* t128: GF(2^128), a level of the tower. An element is a bf_u128. */
 
-uint32_t bf_t128_add(const bf_u128 *left, size_t left_length, const bf_u128 *right, size_t right_length, bf_u128 *sums, size_t sums_length) BF_CHECKED;
-uint32_t bf_t128_multiply(const bf_u128 *left, size_t left_length, const bf_u128 *right, size_t right_length, bf_u128 *products, size_t products_length) BF_CHECKED;
-uint32_t bf_t128_multiply_by(const bf_u128 *values, size_t values_length, const bf_u128 *scalar, bf_u128 *products, size_t products_length) BF_CHECKED BF_NONNULL(3);
-uint32_t bf_t128_add_scaled(bf_u128 *sums, size_t sums_length, const bf_u128 *scalar, const bf_u128 *values, size_t values_length) BF_CHECKED BF_NONNULL(3);
-uint32_t bf_t128_square(const bf_u128 *values, size_t values_length, bf_u128 *squares, size_t squares_length) BF_CHECKED;
-uint32_t bf_t128_inverse(const bf_u128 *values, size_t values_length, bf_u128 *inverses, size_t inverses_length) BF_CHECKED;
-uint32_t bf_t128_batch_inverse(const bf_u128 *values, size_t values_length, bf_u128 *inverses, size_t inverses_length) BF_CHECKED;
-uint32_t bf_t128_square_root(const bf_u128 *values, size_t values_length, bf_u128 *roots, size_t roots_length) BF_CHECKED;
-uint32_t bf_t128_power(const bf_u128 *values, size_t values_length, uint64_t exponent, bf_u128 *powers, size_t powers_length) BF_CHECKED;
+/* sums: the sum of the elements at each place. BF_LENGTH unless left, right and sums have one length. */
+uint32_t bf_t128_add(const bf_u128 *left, size_t left_length, const bf_u128 *right, size_t right_length,
+    bf_u128 *sums, size_t sums_length) BF_CHECKED;
+
+/* products: the product of the elements at each place. BF_LENGTH unless left, right and products have one length. */
+uint32_t bf_t128_multiply(const bf_u128 *left, size_t left_length, const bf_u128 *right, size_t right_length,
+    bf_u128 *products, size_t products_length) BF_CHECKED;
+
+/* products: the product of each element and the scalar. BF_LENGTH unless values and products have one length. */
+uint32_t bf_t128_multiply_by(const bf_u128 *values, size_t values_length, const bf_u128 *scalar,
+    bf_u128 *products, size_t products_length) BF_CHECKED BF_NONNULL(3);
+
+/* Adds to each element of sums the scalar times the value at its place. BF_LENGTH unless sums and values have one
+ * length. */
+uint32_t bf_t128_add_scaled(bf_u128 *sums, size_t sums_length, const bf_u128 *scalar,
+    const bf_u128 *values, size_t values_length) BF_CHECKED BF_NONNULL(3);
+
+/* squares: the square of each element. BF_LENGTH unless values and squares have one length. */
+uint32_t bf_t128_square(const bf_u128 *values, size_t values_length,
+    bf_u128 *squares, size_t squares_length) BF_CHECKED;
+
+/* inverses: the inverse of each element, and 0 for 0. BF_LENGTH unless values and inverses have one length. */
+uint32_t bf_t128_inverse(const bf_u128 *values, size_t values_length,
+    bf_u128 *inverses, size_t inverses_length) BF_CHECKED;
+
+/* inverses: the same as inverse; of few elements of p64 and g128 by one inverse and three products an element.
+ * BF_LENGTH unless values and inverses have one length. */
+uint32_t bf_t128_batch_inverse(const bf_u128 *values, size_t values_length,
+    bf_u128 *inverses, size_t inverses_length) BF_CHECKED;
+
+/* roots: the square root of each element. BF_LENGTH unless values and roots have one length. */
+uint32_t bf_t128_square_root(const bf_u128 *values, size_t values_length,
+    bf_u128 *roots, size_t roots_length) BF_CHECKED;
+
+/* powers: each element to the power of the exponent; to the power 0 it is 1. BF_LENGTH unless values and powers have
+ * one length. */
+uint32_t bf_t128_power(const bf_u128 *values, size_t values_length, uint64_t exponent,
+    bf_u128 *powers, size_t powers_length) BF_CHECKED;
+
+/* product: the product of all elements, 1 of none. */
 uint32_t bf_t128_product(const bf_u128 *values, size_t values_length, bf_u128 *product) BF_CHECKED BF_NONNULL(3);
-uint32_t bf_t128_dot_product(const bf_u128 *left, size_t left_length, const bf_u128 *right, size_t right_length, bf_u128 *sum) BF_CHECKED BF_NONNULL(5);
-uint32_t bf_t128_evaluate(const bf_u128 *coefficients, size_t coefficients_length, const bf_u128 *points, size_t points_length, bf_u128 *values, size_t values_length) BF_CHECKED;
-uint32_t bf_t128_add_in_place(bf_u128 *sums, size_t sums_length, const bf_u128 *values, size_t values_length) BF_CHECKED;
-uint32_t bf_t128_multiply_in_place(bf_u128 *products, size_t products_length, const bf_u128 *values, size_t values_length) BF_CHECKED;
-uint32_t bf_t128_multiply_by_in_place(bf_u128 *values, size_t values_length, const bf_u128 *scalar) BF_CHECKED BF_NONNULL(3);
+
+/* sum: the sum of the products at each place, 0 of none. BF_LENGTH unless left and right have one length. */
+uint32_t bf_t128_dot_product(const bf_u128 *left, size_t left_length, const bf_u128 *right, size_t right_length,
+    bf_u128 *sum) BF_CHECKED BF_NONNULL(5);
+
+/* values: the value at each point of the polynomial with these coefficients, the constant one first; any number of
+ * coefficients. BF_LENGTH unless points and values have one length. */
+uint32_t bf_t128_evaluate(const bf_u128 *coefficients, size_t coefficients_length,
+    const bf_u128 *points, size_t points_length, bf_u128 *values, size_t values_length) BF_CHECKED;
+
+/* Adds to each element of sums the value at its place. BF_LENGTH unless sums and values have one length. */
+uint32_t bf_t128_add_in_place(bf_u128 *sums, size_t sums_length,
+    const bf_u128 *values, size_t values_length) BF_CHECKED;
+
+/* Multiplies each element of products by the value at its place. BF_LENGTH unless products and values have one
+ * length. */
+uint32_t bf_t128_multiply_in_place(bf_u128 *products, size_t products_length,
+    const bf_u128 *values, size_t values_length) BF_CHECKED;
+
+/* Multiplies each element by the scalar. */
+uint32_t bf_t128_multiply_by_in_place(bf_u128 *values, size_t values_length,
+    const bf_u128 *scalar) BF_CHECKED BF_NONNULL(3);
+
+/* Squares each element. */
 uint32_t bf_t128_square_in_place(bf_u128 *values, size_t values_length) BF_CHECKED;
+
+/* Leaves the inverse of each element, and 0 of 0. */
 uint32_t bf_t128_inverse_in_place(bf_u128 *values, size_t values_length) BF_CHECKED;
+
+/* Leaves the square root of each element. */
 uint32_t bf_t128_square_root_in_place(bf_u128 *values, size_t values_length) BF_CHECKED;
+
+/* Raises each element to the power of the exponent; to the power 0 it is 1. */
 uint32_t bf_t128_power_in_place(bf_u128 *values, size_t values_length, uint64_t exponent) BF_CHECKED;
+
+/* generator: the generator of the field's multiplicative group that the library names. */
 uint32_t bf_t128_generator(bf_u128 *generator) BF_CHECKED BF_NONNULL(1);
 
-/* --------------------------------------------------------------------------------------------------------------------- */
+/* ------------------------------------------------------------------------------------------------------------------ */
 /* r8: GF(2)[x] modulo x^8 + x^4 + x^3 + x + 1, the bytes of AES (FIPS 197). An element is a uint8_t. */
 
-uint32_t bf_r8_add(const uint8_t *left, size_t left_length, const uint8_t *right, size_t right_length, uint8_t *sums, size_t sums_length) BF_CHECKED;
-uint32_t bf_r8_multiply(const uint8_t *left, size_t left_length, const uint8_t *right, size_t right_length, uint8_t *products, size_t products_length) BF_CHECKED;
-uint32_t bf_r8_multiply_by(const uint8_t *values, size_t values_length, uint8_t scalar, uint8_t *products, size_t products_length) BF_CHECKED;
-uint32_t bf_r8_add_scaled(uint8_t *sums, size_t sums_length, uint8_t scalar, const uint8_t *values, size_t values_length) BF_CHECKED;
+/* sums: the sum of the elements at each place. BF_LENGTH unless left, right and sums have one length. */
+uint32_t bf_r8_add(const uint8_t *left, size_t left_length, const uint8_t *right, size_t right_length,
+    uint8_t *sums, size_t sums_length) BF_CHECKED;
+
+/* products: the product of the elements at each place. BF_LENGTH unless left, right and products have one length. */
+uint32_t bf_r8_multiply(const uint8_t *left, size_t left_length, const uint8_t *right, size_t right_length,
+    uint8_t *products, size_t products_length) BF_CHECKED;
+
+/* products: the product of each element and the scalar. BF_LENGTH unless values and products have one length. */
+uint32_t bf_r8_multiply_by(const uint8_t *values, size_t values_length, uint8_t scalar,
+    uint8_t *products, size_t products_length) BF_CHECKED;
+
+/* Adds to each element of sums the scalar times the value at its place. BF_LENGTH unless sums and values have one
+ * length. */
+uint32_t bf_r8_add_scaled(uint8_t *sums, size_t sums_length, uint8_t scalar,
+    const uint8_t *values, size_t values_length) BF_CHECKED;
+
+/* squares: the square of each element. BF_LENGTH unless values and squares have one length. */
 uint32_t bf_r8_square(const uint8_t *values, size_t values_length, uint8_t *squares, size_t squares_length) BF_CHECKED;
-uint32_t bf_r8_inverse(const uint8_t *values, size_t values_length, uint8_t *inverses, size_t inverses_length) BF_CHECKED;
-uint32_t bf_r8_batch_inverse(const uint8_t *values, size_t values_length, uint8_t *inverses, size_t inverses_length) BF_CHECKED;
+
+/* inverses: the inverse of each element, and 0 for 0. BF_LENGTH unless values and inverses have one length. */
+uint32_t bf_r8_inverse(const uint8_t *values, size_t values_length,
+    uint8_t *inverses, size_t inverses_length) BF_CHECKED;
+
+/* inverses: the same as inverse; of few elements of p64 and g128 by one inverse and three products an element.
+ * BF_LENGTH unless values and inverses have one length. */
+uint32_t bf_r8_batch_inverse(const uint8_t *values, size_t values_length,
+    uint8_t *inverses, size_t inverses_length) BF_CHECKED;
+
+/* roots: the square root of each element. BF_LENGTH unless values and roots have one length. */
 uint32_t bf_r8_square_root(const uint8_t *values, size_t values_length, uint8_t *roots, size_t roots_length) BF_CHECKED;
-uint32_t bf_r8_power(const uint8_t *values, size_t values_length, uint64_t exponent, uint8_t *powers, size_t powers_length) BF_CHECKED;
+
+/* powers: each element to the power of the exponent; to the power 0 it is 1. BF_LENGTH unless values and powers have
+ * one length. */
+uint32_t bf_r8_power(const uint8_t *values, size_t values_length, uint64_t exponent,
+    uint8_t *powers, size_t powers_length) BF_CHECKED;
+
+/* product: the product of all elements, 1 of none. */
 uint32_t bf_r8_product(const uint8_t *values, size_t values_length, uint8_t *product) BF_CHECKED BF_NONNULL(3);
-uint32_t bf_r8_dot_product(const uint8_t *left, size_t left_length, const uint8_t *right, size_t right_length, uint8_t *sum) BF_CHECKED BF_NONNULL(5);
-uint32_t bf_r8_evaluate(const uint8_t *coefficients, size_t coefficients_length, const uint8_t *points, size_t points_length, uint8_t *values, size_t values_length) BF_CHECKED;
+
+/* sum: the sum of the products at each place, 0 of none. BF_LENGTH unless left and right have one length. */
+uint32_t bf_r8_dot_product(const uint8_t *left, size_t left_length, const uint8_t *right, size_t right_length,
+    uint8_t *sum) BF_CHECKED BF_NONNULL(5);
+
+/* values: the value at each point of the polynomial with these coefficients, the constant one first; any number of
+ * coefficients. BF_LENGTH unless points and values have one length. */
+uint32_t bf_r8_evaluate(const uint8_t *coefficients, size_t coefficients_length,
+    const uint8_t *points, size_t points_length, uint8_t *values, size_t values_length) BF_CHECKED;
+
+/* Adds to each element of sums the value at its place. BF_LENGTH unless sums and values have one length. */
 uint32_t bf_r8_add_in_place(uint8_t *sums, size_t sums_length, const uint8_t *values, size_t values_length) BF_CHECKED;
-uint32_t bf_r8_multiply_in_place(uint8_t *products, size_t products_length, const uint8_t *values, size_t values_length) BF_CHECKED;
+
+/* Multiplies each element of products by the value at its place. BF_LENGTH unless products and values have one
+ * length. */
+uint32_t bf_r8_multiply_in_place(uint8_t *products, size_t products_length,
+    const uint8_t *values, size_t values_length) BF_CHECKED;
+
+/* Multiplies each element by the scalar. */
 uint32_t bf_r8_multiply_by_in_place(uint8_t *values, size_t values_length, uint8_t scalar) BF_CHECKED;
+
+/* Squares each element. */
 uint32_t bf_r8_square_in_place(uint8_t *values, size_t values_length) BF_CHECKED;
+
+/* Leaves the inverse of each element, and 0 of 0. */
 uint32_t bf_r8_inverse_in_place(uint8_t *values, size_t values_length) BF_CHECKED;
+
+/* Leaves the square root of each element. */
 uint32_t bf_r8_square_root_in_place(uint8_t *values, size_t values_length) BF_CHECKED;
+
+/* Raises each element to the power of the exponent; to the power 0 it is 1. */
 uint32_t bf_r8_power_in_place(uint8_t *values, size_t values_length, uint64_t exponent) BF_CHECKED;
+
+/* generator: the generator of the field's multiplicative group that the library names. */
 uint32_t bf_r8_generator(uint8_t *generator) BF_CHECKED BF_NONNULL(1);
 
-/* --------------------------------------------------------------------------------------------------------------------- */
+/* ------------------------------------------------------------------------------------------------------------------ */
 /* p64: GF(2)[x] modulo x^64 + x^4 + x^3 + x + 1. An element is a uint64_t. */
 
-uint32_t bf_p64_add(const uint64_t *left, size_t left_length, const uint64_t *right, size_t right_length, uint64_t *sums, size_t sums_length) BF_CHECKED;
-uint32_t bf_p64_multiply(const uint64_t *left, size_t left_length, const uint64_t *right, size_t right_length, uint64_t *products, size_t products_length) BF_CHECKED;
-uint32_t bf_p64_multiply_by(const uint64_t *values, size_t values_length, uint64_t scalar, uint64_t *products, size_t products_length) BF_CHECKED;
-uint32_t bf_p64_add_scaled(uint64_t *sums, size_t sums_length, uint64_t scalar, const uint64_t *values, size_t values_length) BF_CHECKED;
-uint32_t bf_p64_square(const uint64_t *values, size_t values_length, uint64_t *squares, size_t squares_length) BF_CHECKED;
-uint32_t bf_p64_inverse(const uint64_t *values, size_t values_length, uint64_t *inverses, size_t inverses_length) BF_CHECKED;
-uint32_t bf_p64_batch_inverse(const uint64_t *values, size_t values_length, uint64_t *inverses, size_t inverses_length) BF_CHECKED;
-uint32_t bf_p64_square_root(const uint64_t *values, size_t values_length, uint64_t *roots, size_t roots_length) BF_CHECKED;
-uint32_t bf_p64_power(const uint64_t *values, size_t values_length, uint64_t exponent, uint64_t *powers, size_t powers_length) BF_CHECKED;
+/* sums: the sum of the elements at each place. BF_LENGTH unless left, right and sums have one length. */
+uint32_t bf_p64_add(const uint64_t *left, size_t left_length, const uint64_t *right, size_t right_length,
+    uint64_t *sums, size_t sums_length) BF_CHECKED;
+
+/* products: the product of the elements at each place. BF_LENGTH unless left, right and products have one length. */
+uint32_t bf_p64_multiply(const uint64_t *left, size_t left_length, const uint64_t *right, size_t right_length,
+    uint64_t *products, size_t products_length) BF_CHECKED;
+
+/* products: the product of each element and the scalar. BF_LENGTH unless values and products have one length. */
+uint32_t bf_p64_multiply_by(const uint64_t *values, size_t values_length, uint64_t scalar,
+    uint64_t *products, size_t products_length) BF_CHECKED;
+
+/* Adds to each element of sums the scalar times the value at its place. BF_LENGTH unless sums and values have one
+ * length. */
+uint32_t bf_p64_add_scaled(uint64_t *sums, size_t sums_length, uint64_t scalar,
+    const uint64_t *values, size_t values_length) BF_CHECKED;
+
+/* squares: the square of each element. BF_LENGTH unless values and squares have one length. */
+uint32_t bf_p64_square(const uint64_t *values, size_t values_length,
+    uint64_t *squares, size_t squares_length) BF_CHECKED;
+
+/* inverses: the inverse of each element, and 0 for 0. BF_LENGTH unless values and inverses have one length. */
+uint32_t bf_p64_inverse(const uint64_t *values, size_t values_length,
+    uint64_t *inverses, size_t inverses_length) BF_CHECKED;
+
+/* inverses: the same as inverse; of few elements of p64 and g128 by one inverse and three products an element.
+ * BF_LENGTH unless values and inverses have one length. */
+uint32_t bf_p64_batch_inverse(const uint64_t *values, size_t values_length,
+    uint64_t *inverses, size_t inverses_length) BF_CHECKED;
+
+/* roots: the square root of each element. BF_LENGTH unless values and roots have one length. */
+uint32_t bf_p64_square_root(const uint64_t *values, size_t values_length,
+    uint64_t *roots, size_t roots_length) BF_CHECKED;
+
+/* powers: each element to the power of the exponent; to the power 0 it is 1. BF_LENGTH unless values and powers have
+ * one length. */
+uint32_t bf_p64_power(const uint64_t *values, size_t values_length, uint64_t exponent,
+    uint64_t *powers, size_t powers_length) BF_CHECKED;
+
+/* product: the product of all elements, 1 of none. */
 uint32_t bf_p64_product(const uint64_t *values, size_t values_length, uint64_t *product) BF_CHECKED BF_NONNULL(3);
-uint32_t bf_p64_dot_product(const uint64_t *left, size_t left_length, const uint64_t *right, size_t right_length, uint64_t *sum) BF_CHECKED BF_NONNULL(5);
-uint32_t bf_p64_evaluate(const uint64_t *coefficients, size_t coefficients_length, const uint64_t *points, size_t points_length, uint64_t *values, size_t values_length) BF_CHECKED;
-uint32_t bf_p64_add_in_place(uint64_t *sums, size_t sums_length, const uint64_t *values, size_t values_length) BF_CHECKED;
-uint32_t bf_p64_multiply_in_place(uint64_t *products, size_t products_length, const uint64_t *values, size_t values_length) BF_CHECKED;
+
+/* sum: the sum of the products at each place, 0 of none. BF_LENGTH unless left and right have one length. */
+uint32_t bf_p64_dot_product(const uint64_t *left, size_t left_length, const uint64_t *right, size_t right_length,
+    uint64_t *sum) BF_CHECKED BF_NONNULL(5);
+
+/* values: the value at each point of the polynomial with these coefficients, the constant one first; any number of
+ * coefficients. BF_LENGTH unless points and values have one length. */
+uint32_t bf_p64_evaluate(const uint64_t *coefficients, size_t coefficients_length,
+    const uint64_t *points, size_t points_length, uint64_t *values, size_t values_length) BF_CHECKED;
+
+/* Adds to each element of sums the value at its place. BF_LENGTH unless sums and values have one length. */
+uint32_t bf_p64_add_in_place(uint64_t *sums, size_t sums_length,
+    const uint64_t *values, size_t values_length) BF_CHECKED;
+
+/* Multiplies each element of products by the value at its place. BF_LENGTH unless products and values have one
+ * length. */
+uint32_t bf_p64_multiply_in_place(uint64_t *products, size_t products_length,
+    const uint64_t *values, size_t values_length) BF_CHECKED;
+
+/* Multiplies each element by the scalar. */
 uint32_t bf_p64_multiply_by_in_place(uint64_t *values, size_t values_length, uint64_t scalar) BF_CHECKED;
+
+/* Squares each element. */
 uint32_t bf_p64_square_in_place(uint64_t *values, size_t values_length) BF_CHECKED;
+
+/* Leaves the inverse of each element, and 0 of 0. */
 uint32_t bf_p64_inverse_in_place(uint64_t *values, size_t values_length) BF_CHECKED;
+
+/* Leaves the square root of each element. */
 uint32_t bf_p64_square_root_in_place(uint64_t *values, size_t values_length) BF_CHECKED;
+
+/* Raises each element to the power of the exponent; to the power 0 it is 1. */
 uint32_t bf_p64_power_in_place(uint64_t *values, size_t values_length, uint64_t exponent) BF_CHECKED;
+
+/* generator: the generator of the field's multiplicative group that the library names. */
 uint32_t bf_p64_generator(uint64_t *generator) BF_CHECKED BF_NONNULL(1);
 
-/* --------------------------------------------------------------------------------------------------------------------- */
-/* g128: GF(2)[x] modulo x^128 + x^7 + x^2 + x + 1, the field of GHASH (NIST SP 800-38D), bit i for x^i. An element is a
- * bf_u128. */
+/* ------------------------------------------------------------------------------------------------------------------ */
+/* g128: GF(2)[x] modulo x^128 + x^7 + x^2 + x + 1, the field of GHASH (NIST SP 800-38D), bit i for x^i. An element
+ * is a bf_u128. */
 
-uint32_t bf_g128_add(const bf_u128 *left, size_t left_length, const bf_u128 *right, size_t right_length, bf_u128 *sums, size_t sums_length) BF_CHECKED;
-uint32_t bf_g128_multiply(const bf_u128 *left, size_t left_length, const bf_u128 *right, size_t right_length, bf_u128 *products, size_t products_length) BF_CHECKED;
-uint32_t bf_g128_multiply_by(const bf_u128 *values, size_t values_length, const bf_u128 *scalar, bf_u128 *products, size_t products_length) BF_CHECKED BF_NONNULL(3);
-uint32_t bf_g128_add_scaled(bf_u128 *sums, size_t sums_length, const bf_u128 *scalar, const bf_u128 *values, size_t values_length) BF_CHECKED BF_NONNULL(3);
-uint32_t bf_g128_square(const bf_u128 *values, size_t values_length, bf_u128 *squares, size_t squares_length) BF_CHECKED;
-uint32_t bf_g128_inverse(const bf_u128 *values, size_t values_length, bf_u128 *inverses, size_t inverses_length) BF_CHECKED;
-uint32_t bf_g128_batch_inverse(const bf_u128 *values, size_t values_length, bf_u128 *inverses, size_t inverses_length) BF_CHECKED;
-uint32_t bf_g128_square_root(const bf_u128 *values, size_t values_length, bf_u128 *roots, size_t roots_length) BF_CHECKED;
-uint32_t bf_g128_power(const bf_u128 *values, size_t values_length, uint64_t exponent, bf_u128 *powers, size_t powers_length) BF_CHECKED;
+/* sums: the sum of the elements at each place. BF_LENGTH unless left, right and sums have one length. */
+uint32_t bf_g128_add(const bf_u128 *left, size_t left_length, const bf_u128 *right, size_t right_length,
+    bf_u128 *sums, size_t sums_length) BF_CHECKED;
+
+/* products: the product of the elements at each place. BF_LENGTH unless left, right and products have one length. */
+uint32_t bf_g128_multiply(const bf_u128 *left, size_t left_length, const bf_u128 *right, size_t right_length,
+    bf_u128 *products, size_t products_length) BF_CHECKED;
+
+/* products: the product of each element and the scalar. BF_LENGTH unless values and products have one length. */
+uint32_t bf_g128_multiply_by(const bf_u128 *values, size_t values_length, const bf_u128 *scalar,
+    bf_u128 *products, size_t products_length) BF_CHECKED BF_NONNULL(3);
+
+/* Adds to each element of sums the scalar times the value at its place. BF_LENGTH unless sums and values have one
+ * length. */
+uint32_t bf_g128_add_scaled(bf_u128 *sums, size_t sums_length, const bf_u128 *scalar,
+    const bf_u128 *values, size_t values_length) BF_CHECKED BF_NONNULL(3);
+
+/* squares: the square of each element. BF_LENGTH unless values and squares have one length. */
+uint32_t bf_g128_square(const bf_u128 *values, size_t values_length,
+    bf_u128 *squares, size_t squares_length) BF_CHECKED;
+
+/* inverses: the inverse of each element, and 0 for 0. BF_LENGTH unless values and inverses have one length. */
+uint32_t bf_g128_inverse(const bf_u128 *values, size_t values_length,
+    bf_u128 *inverses, size_t inverses_length) BF_CHECKED;
+
+/* inverses: the same as inverse; of few elements of p64 and g128 by one inverse and three products an element.
+ * BF_LENGTH unless values and inverses have one length. */
+uint32_t bf_g128_batch_inverse(const bf_u128 *values, size_t values_length,
+    bf_u128 *inverses, size_t inverses_length) BF_CHECKED;
+
+/* roots: the square root of each element. BF_LENGTH unless values and roots have one length. */
+uint32_t bf_g128_square_root(const bf_u128 *values, size_t values_length,
+    bf_u128 *roots, size_t roots_length) BF_CHECKED;
+
+/* powers: each element to the power of the exponent; to the power 0 it is 1. BF_LENGTH unless values and powers have
+ * one length. */
+uint32_t bf_g128_power(const bf_u128 *values, size_t values_length, uint64_t exponent,
+    bf_u128 *powers, size_t powers_length) BF_CHECKED;
+
+/* product: the product of all elements, 1 of none. */
 uint32_t bf_g128_product(const bf_u128 *values, size_t values_length, bf_u128 *product) BF_CHECKED BF_NONNULL(3);
-uint32_t bf_g128_dot_product(const bf_u128 *left, size_t left_length, const bf_u128 *right, size_t right_length, bf_u128 *sum) BF_CHECKED BF_NONNULL(5);
-uint32_t bf_g128_evaluate(const bf_u128 *coefficients, size_t coefficients_length, const bf_u128 *points, size_t points_length, bf_u128 *values, size_t values_length) BF_CHECKED;
-uint32_t bf_g128_add_in_place(bf_u128 *sums, size_t sums_length, const bf_u128 *values, size_t values_length) BF_CHECKED;
-uint32_t bf_g128_multiply_in_place(bf_u128 *products, size_t products_length, const bf_u128 *values, size_t values_length) BF_CHECKED;
-uint32_t bf_g128_multiply_by_in_place(bf_u128 *values, size_t values_length, const bf_u128 *scalar) BF_CHECKED BF_NONNULL(3);
+
+/* sum: the sum of the products at each place, 0 of none. BF_LENGTH unless left and right have one length. */
+uint32_t bf_g128_dot_product(const bf_u128 *left, size_t left_length, const bf_u128 *right, size_t right_length,
+    bf_u128 *sum) BF_CHECKED BF_NONNULL(5);
+
+/* values: the value at each point of the polynomial with these coefficients, the constant one first; any number of
+ * coefficients. BF_LENGTH unless points and values have one length. */
+uint32_t bf_g128_evaluate(const bf_u128 *coefficients, size_t coefficients_length,
+    const bf_u128 *points, size_t points_length, bf_u128 *values, size_t values_length) BF_CHECKED;
+
+/* Adds to each element of sums the value at its place. BF_LENGTH unless sums and values have one length. */
+uint32_t bf_g128_add_in_place(bf_u128 *sums, size_t sums_length,
+    const bf_u128 *values, size_t values_length) BF_CHECKED;
+
+/* Multiplies each element of products by the value at its place. BF_LENGTH unless products and values have one
+ * length. */
+uint32_t bf_g128_multiply_in_place(bf_u128 *products, size_t products_length,
+    const bf_u128 *values, size_t values_length) BF_CHECKED;
+
+/* Multiplies each element by the scalar. */
+uint32_t bf_g128_multiply_by_in_place(bf_u128 *values, size_t values_length,
+    const bf_u128 *scalar) BF_CHECKED BF_NONNULL(3);
+
+/* Squares each element. */
 uint32_t bf_g128_square_in_place(bf_u128 *values, size_t values_length) BF_CHECKED;
+
+/* Leaves the inverse of each element, and 0 of 0. */
 uint32_t bf_g128_inverse_in_place(bf_u128 *values, size_t values_length) BF_CHECKED;
+
+/* Leaves the square root of each element. */
 uint32_t bf_g128_square_root_in_place(bf_u128 *values, size_t values_length) BF_CHECKED;
+
+/* Raises each element to the power of the exponent; to the power 0 it is 1. */
 uint32_t bf_g128_power_in_place(bf_u128 *values, size_t values_length, uint64_t exponent) BF_CHECKED;
+
+/* generator: the generator of the field's multiplicative group that the library names. */
 uint32_t bf_g128_generator(bf_u128 *generator) BF_CHECKED BF_NONNULL(1);
 
-/* --------------------------------------------------------------------------------------------------------------------- */
+/* ------------------------------------------------------------------------------------------------------------------ */
 /* p192: GF(2^64)[y] modulo y^3 + y + 1 over p64, the coefficient of 1 first. An element is a bf_u192. */
 
-uint32_t bf_p192_add(const bf_u192 *left, size_t left_length, const bf_u192 *right, size_t right_length, bf_u192 *sums, size_t sums_length) BF_CHECKED;
-uint32_t bf_p192_multiply(const bf_u192 *left, size_t left_length, const bf_u192 *right, size_t right_length, bf_u192 *products, size_t products_length) BF_CHECKED;
-uint32_t bf_p192_multiply_by(const bf_u192 *values, size_t values_length, const bf_u192 *scalar, bf_u192 *products, size_t products_length) BF_CHECKED BF_NONNULL(3);
-uint32_t bf_p192_add_scaled(bf_u192 *sums, size_t sums_length, const bf_u192 *scalar, const bf_u192 *values, size_t values_length) BF_CHECKED BF_NONNULL(3);
-uint32_t bf_p192_square(const bf_u192 *values, size_t values_length, bf_u192 *squares, size_t squares_length) BF_CHECKED;
-uint32_t bf_p192_inverse(const bf_u192 *values, size_t values_length, bf_u192 *inverses, size_t inverses_length) BF_CHECKED;
-uint32_t bf_p192_batch_inverse(const bf_u192 *values, size_t values_length, bf_u192 *inverses, size_t inverses_length) BF_CHECKED;
-uint32_t bf_p192_square_root(const bf_u192 *values, size_t values_length, bf_u192 *roots, size_t roots_length) BF_CHECKED;
-uint32_t bf_p192_power(const bf_u192 *values, size_t values_length, uint64_t exponent, bf_u192 *powers, size_t powers_length) BF_CHECKED;
+/* sums: the sum of the elements at each place. BF_LENGTH unless left, right and sums have one length. */
+uint32_t bf_p192_add(const bf_u192 *left, size_t left_length, const bf_u192 *right, size_t right_length,
+    bf_u192 *sums, size_t sums_length) BF_CHECKED;
+
+/* products: the product of the elements at each place. BF_LENGTH unless left, right and products have one length. */
+uint32_t bf_p192_multiply(const bf_u192 *left, size_t left_length, const bf_u192 *right, size_t right_length,
+    bf_u192 *products, size_t products_length) BF_CHECKED;
+
+/* products: the product of each element and the scalar. BF_LENGTH unless values and products have one length. */
+uint32_t bf_p192_multiply_by(const bf_u192 *values, size_t values_length, const bf_u192 *scalar,
+    bf_u192 *products, size_t products_length) BF_CHECKED BF_NONNULL(3);
+
+/* Adds to each element of sums the scalar times the value at its place. BF_LENGTH unless sums and values have one
+ * length. */
+uint32_t bf_p192_add_scaled(bf_u192 *sums, size_t sums_length, const bf_u192 *scalar,
+    const bf_u192 *values, size_t values_length) BF_CHECKED BF_NONNULL(3);
+
+/* squares: the square of each element. BF_LENGTH unless values and squares have one length. */
+uint32_t bf_p192_square(const bf_u192 *values, size_t values_length,
+    bf_u192 *squares, size_t squares_length) BF_CHECKED;
+
+/* inverses: the inverse of each element, and 0 for 0. BF_LENGTH unless values and inverses have one length. */
+uint32_t bf_p192_inverse(const bf_u192 *values, size_t values_length,
+    bf_u192 *inverses, size_t inverses_length) BF_CHECKED;
+
+/* inverses: the same as inverse; of few elements of p64 and g128 by one inverse and three products an element.
+ * BF_LENGTH unless values and inverses have one length. */
+uint32_t bf_p192_batch_inverse(const bf_u192 *values, size_t values_length,
+    bf_u192 *inverses, size_t inverses_length) BF_CHECKED;
+
+/* roots: the square root of each element. BF_LENGTH unless values and roots have one length. */
+uint32_t bf_p192_square_root(const bf_u192 *values, size_t values_length,
+    bf_u192 *roots, size_t roots_length) BF_CHECKED;
+
+/* powers: each element to the power of the exponent; to the power 0 it is 1. BF_LENGTH unless values and powers have
+ * one length. */
+uint32_t bf_p192_power(const bf_u192 *values, size_t values_length, uint64_t exponent,
+    bf_u192 *powers, size_t powers_length) BF_CHECKED;
+
+/* product: the product of all elements, 1 of none. */
 uint32_t bf_p192_product(const bf_u192 *values, size_t values_length, bf_u192 *product) BF_CHECKED BF_NONNULL(3);
-uint32_t bf_p192_dot_product(const bf_u192 *left, size_t left_length, const bf_u192 *right, size_t right_length, bf_u192 *sum) BF_CHECKED BF_NONNULL(5);
-uint32_t bf_p192_evaluate(const bf_u192 *coefficients, size_t coefficients_length, const bf_u192 *points, size_t points_length, bf_u192 *values, size_t values_length) BF_CHECKED;
-uint32_t bf_p192_add_in_place(bf_u192 *sums, size_t sums_length, const bf_u192 *values, size_t values_length) BF_CHECKED;
-uint32_t bf_p192_multiply_in_place(bf_u192 *products, size_t products_length, const bf_u192 *values, size_t values_length) BF_CHECKED;
-uint32_t bf_p192_multiply_by_in_place(bf_u192 *values, size_t values_length, const bf_u192 *scalar) BF_CHECKED BF_NONNULL(3);
+
+/* sum: the sum of the products at each place, 0 of none. BF_LENGTH unless left and right have one length. */
+uint32_t bf_p192_dot_product(const bf_u192 *left, size_t left_length, const bf_u192 *right, size_t right_length,
+    bf_u192 *sum) BF_CHECKED BF_NONNULL(5);
+
+/* values: the value at each point of the polynomial with these coefficients, the constant one first; any number of
+ * coefficients. BF_LENGTH unless points and values have one length. */
+uint32_t bf_p192_evaluate(const bf_u192 *coefficients, size_t coefficients_length,
+    const bf_u192 *points, size_t points_length, bf_u192 *values, size_t values_length) BF_CHECKED;
+
+/* Adds to each element of sums the value at its place. BF_LENGTH unless sums and values have one length. */
+uint32_t bf_p192_add_in_place(bf_u192 *sums, size_t sums_length,
+    const bf_u192 *values, size_t values_length) BF_CHECKED;
+
+/* Multiplies each element of products by the value at its place. BF_LENGTH unless products and values have one
+ * length. */
+uint32_t bf_p192_multiply_in_place(bf_u192 *products, size_t products_length,
+    const bf_u192 *values, size_t values_length) BF_CHECKED;
+
+/* Multiplies each element by the scalar. */
+uint32_t bf_p192_multiply_by_in_place(bf_u192 *values, size_t values_length,
+    const bf_u192 *scalar) BF_CHECKED BF_NONNULL(3);
+
+/* Squares each element. */
 uint32_t bf_p192_square_in_place(bf_u192 *values, size_t values_length) BF_CHECKED;
+
+/* Leaves the inverse of each element, and 0 of 0. */
 uint32_t bf_p192_inverse_in_place(bf_u192 *values, size_t values_length) BF_CHECKED;
+
+/* Leaves the square root of each element. */
 uint32_t bf_p192_square_root_in_place(bf_u192 *values, size_t values_length) BF_CHECKED;
+
+/* Raises each element to the power of the exponent; to the power 0 it is 1. */
 uint32_t bf_p192_power_in_place(bf_u192 *values, size_t values_length, uint64_t exponent) BF_CHECKED;
+
+/* generator: the generator of the field's multiplicative group that the library names. */
 uint32_t bf_p192_generator(bf_u192 *generator) BF_CHECKED BF_NONNULL(1);
 
-/* --------------------------------------------------------------------------------------------------------------------- */
-/* Matrices over each field. */
+/* ------------------------------------------------------------------------------------------------------------------ */
+/* Matrices over gf2. */
 
-uint32_t bf_gf2_matrix_multiply(const uint8_t *left, size_t left_length, const uint8_t *right, size_t right_length, uint8_t *product, size_t product_length, size_t rows, size_t inner, size_t columns) BF_CHECKED;
-uint32_t bf_gf2_matrix_row_reduce(uint8_t *matrix, size_t matrix_length, size_t rows, size_t columns, size_t *pivots, size_t pivots_length, size_t *rank) BF_CHECKED BF_NONNULL(7);
-uint32_t bf_gf2_matrix_rank(const uint8_t *matrix, size_t matrix_length, size_t rows, size_t columns, uint8_t *space, size_t space_length, size_t *places, size_t places_length, size_t *rank) BF_CHECKED BF_NONNULL(9);
-uint32_t bf_gf2_matrix_determinant(const uint8_t *matrix, size_t matrix_length, size_t size, uint8_t *space, size_t space_length, uint8_t *determinant) BF_CHECKED BF_NONNULL(6);
-uint32_t bf_gf2_matrix_inverse(const uint8_t *matrix, size_t matrix_length, size_t size, uint8_t *inverse, size_t inverse_length, uint8_t *space, size_t space_length, size_t *places, size_t places_length) BF_CHECKED;
-uint32_t bf_gf2_matrix_solve(const uint8_t *matrix, size_t matrix_length, size_t rows, size_t columns, const uint8_t *right, size_t right_length, uint8_t *solution, size_t solution_length, uint8_t *space, size_t space_length, size_t *places, size_t places_length) BF_CHECKED;
-uint32_t bf_t2_matrix_multiply(const uint8_t *left, size_t left_length, const uint8_t *right, size_t right_length, uint8_t *product, size_t product_length, size_t rows, size_t inner, size_t columns) BF_CHECKED;
-uint32_t bf_t2_matrix_row_reduce(uint8_t *matrix, size_t matrix_length, size_t rows, size_t columns, size_t *pivots, size_t pivots_length, size_t *rank) BF_CHECKED BF_NONNULL(7);
-uint32_t bf_t2_matrix_rank(const uint8_t *matrix, size_t matrix_length, size_t rows, size_t columns, uint8_t *space, size_t space_length, size_t *places, size_t places_length, size_t *rank) BF_CHECKED BF_NONNULL(9);
-uint32_t bf_t2_matrix_determinant(const uint8_t *matrix, size_t matrix_length, size_t size, uint8_t *space, size_t space_length, uint8_t *determinant) BF_CHECKED BF_NONNULL(6);
-uint32_t bf_t2_matrix_inverse(const uint8_t *matrix, size_t matrix_length, size_t size, uint8_t *inverse, size_t inverse_length, uint8_t *space, size_t space_length, size_t *places, size_t places_length) BF_CHECKED;
-uint32_t bf_t2_matrix_solve(const uint8_t *matrix, size_t matrix_length, size_t rows, size_t columns, const uint8_t *right, size_t right_length, uint8_t *solution, size_t solution_length, uint8_t *space, size_t space_length, size_t *places, size_t places_length) BF_CHECKED;
-uint32_t bf_t4_matrix_multiply(const uint8_t *left, size_t left_length, const uint8_t *right, size_t right_length, uint8_t *product, size_t product_length, size_t rows, size_t inner, size_t columns) BF_CHECKED;
-uint32_t bf_t4_matrix_row_reduce(uint8_t *matrix, size_t matrix_length, size_t rows, size_t columns, size_t *pivots, size_t pivots_length, size_t *rank) BF_CHECKED BF_NONNULL(7);
-uint32_t bf_t4_matrix_rank(const uint8_t *matrix, size_t matrix_length, size_t rows, size_t columns, uint8_t *space, size_t space_length, size_t *places, size_t places_length, size_t *rank) BF_CHECKED BF_NONNULL(9);
-uint32_t bf_t4_matrix_determinant(const uint8_t *matrix, size_t matrix_length, size_t size, uint8_t *space, size_t space_length, uint8_t *determinant) BF_CHECKED BF_NONNULL(6);
-uint32_t bf_t4_matrix_inverse(const uint8_t *matrix, size_t matrix_length, size_t size, uint8_t *inverse, size_t inverse_length, uint8_t *space, size_t space_length, size_t *places, size_t places_length) BF_CHECKED;
-uint32_t bf_t4_matrix_solve(const uint8_t *matrix, size_t matrix_length, size_t rows, size_t columns, const uint8_t *right, size_t right_length, uint8_t *solution, size_t solution_length, uint8_t *space, size_t space_length, size_t *places, size_t places_length) BF_CHECKED;
-uint32_t bf_t8_matrix_multiply(const uint8_t *left, size_t left_length, const uint8_t *right, size_t right_length, uint8_t *product, size_t product_length, size_t rows, size_t inner, size_t columns) BF_CHECKED;
-uint32_t bf_t8_matrix_row_reduce(uint8_t *matrix, size_t matrix_length, size_t rows, size_t columns, size_t *pivots, size_t pivots_length, size_t *rank) BF_CHECKED BF_NONNULL(7);
-uint32_t bf_t8_matrix_rank(const uint8_t *matrix, size_t matrix_length, size_t rows, size_t columns, uint8_t *space, size_t space_length, size_t *places, size_t places_length, size_t *rank) BF_CHECKED BF_NONNULL(9);
-uint32_t bf_t8_matrix_determinant(const uint8_t *matrix, size_t matrix_length, size_t size, uint8_t *space, size_t space_length, uint8_t *determinant) BF_CHECKED BF_NONNULL(6);
-uint32_t bf_t8_matrix_inverse(const uint8_t *matrix, size_t matrix_length, size_t size, uint8_t *inverse, size_t inverse_length, uint8_t *space, size_t space_length, size_t *places, size_t places_length) BF_CHECKED;
-uint32_t bf_t8_matrix_solve(const uint8_t *matrix, size_t matrix_length, size_t rows, size_t columns, const uint8_t *right, size_t right_length, uint8_t *solution, size_t solution_length, uint8_t *space, size_t space_length, size_t *places, size_t places_length) BF_CHECKED;
-uint32_t bf_t16_matrix_multiply(const uint16_t *left, size_t left_length, const uint16_t *right, size_t right_length, uint16_t *product, size_t product_length, size_t rows, size_t inner, size_t columns) BF_CHECKED;
-uint32_t bf_t16_matrix_row_reduce(uint16_t *matrix, size_t matrix_length, size_t rows, size_t columns, size_t *pivots, size_t pivots_length, size_t *rank) BF_CHECKED BF_NONNULL(7);
-uint32_t bf_t16_matrix_rank(const uint16_t *matrix, size_t matrix_length, size_t rows, size_t columns, uint16_t *space, size_t space_length, size_t *places, size_t places_length, size_t *rank) BF_CHECKED BF_NONNULL(9);
-uint32_t bf_t16_matrix_determinant(const uint16_t *matrix, size_t matrix_length, size_t size, uint16_t *space, size_t space_length, uint16_t *determinant) BF_CHECKED BF_NONNULL(6);
-uint32_t bf_t16_matrix_inverse(const uint16_t *matrix, size_t matrix_length, size_t size, uint16_t *inverse, size_t inverse_length, uint16_t *space, size_t space_length, size_t *places, size_t places_length) BF_CHECKED;
-uint32_t bf_t16_matrix_solve(const uint16_t *matrix, size_t matrix_length, size_t rows, size_t columns, const uint16_t *right, size_t right_length, uint16_t *solution, size_t solution_length, uint16_t *space, size_t space_length, size_t *places, size_t places_length) BF_CHECKED;
-uint32_t bf_t32_matrix_multiply(const uint32_t *left, size_t left_length, const uint32_t *right, size_t right_length, uint32_t *product, size_t product_length, size_t rows, size_t inner, size_t columns) BF_CHECKED;
-uint32_t bf_t32_matrix_row_reduce(uint32_t *matrix, size_t matrix_length, size_t rows, size_t columns, size_t *pivots, size_t pivots_length, size_t *rank) BF_CHECKED BF_NONNULL(7);
-uint32_t bf_t32_matrix_rank(const uint32_t *matrix, size_t matrix_length, size_t rows, size_t columns, uint32_t *space, size_t space_length, size_t *places, size_t places_length, size_t *rank) BF_CHECKED BF_NONNULL(9);
-uint32_t bf_t32_matrix_determinant(const uint32_t *matrix, size_t matrix_length, size_t size, uint32_t *space, size_t space_length, uint32_t *determinant) BF_CHECKED BF_NONNULL(6);
-uint32_t bf_t32_matrix_inverse(const uint32_t *matrix, size_t matrix_length, size_t size, uint32_t *inverse, size_t inverse_length, uint32_t *space, size_t space_length, size_t *places, size_t places_length) BF_CHECKED;
-uint32_t bf_t32_matrix_solve(const uint32_t *matrix, size_t matrix_length, size_t rows, size_t columns, const uint32_t *right, size_t right_length, uint32_t *solution, size_t solution_length, uint32_t *space, size_t space_length, size_t *places, size_t places_length) BF_CHECKED;
-uint32_t bf_t64_matrix_multiply(const uint64_t *left, size_t left_length, const uint64_t *right, size_t right_length, uint64_t *product, size_t product_length, size_t rows, size_t inner, size_t columns) BF_CHECKED;
-uint32_t bf_t64_matrix_row_reduce(uint64_t *matrix, size_t matrix_length, size_t rows, size_t columns, size_t *pivots, size_t pivots_length, size_t *rank) BF_CHECKED BF_NONNULL(7);
-uint32_t bf_t64_matrix_rank(const uint64_t *matrix, size_t matrix_length, size_t rows, size_t columns, uint64_t *space, size_t space_length, size_t *places, size_t places_length, size_t *rank) BF_CHECKED BF_NONNULL(9);
-uint32_t bf_t64_matrix_determinant(const uint64_t *matrix, size_t matrix_length, size_t size, uint64_t *space, size_t space_length, uint64_t *determinant) BF_CHECKED BF_NONNULL(6);
-uint32_t bf_t64_matrix_inverse(const uint64_t *matrix, size_t matrix_length, size_t size, uint64_t *inverse, size_t inverse_length, uint64_t *space, size_t space_length, size_t *places, size_t places_length) BF_CHECKED;
-uint32_t bf_t64_matrix_solve(const uint64_t *matrix, size_t matrix_length, size_t rows, size_t columns, const uint64_t *right, size_t right_length, uint64_t *solution, size_t solution_length, uint64_t *space, size_t space_length, size_t *places, size_t places_length) BF_CHECKED;
-uint32_t bf_t128_matrix_multiply(const bf_u128 *left, size_t left_length, const bf_u128 *right, size_t right_length, bf_u128 *product, size_t product_length, size_t rows, size_t inner, size_t columns) BF_CHECKED;
-uint32_t bf_t128_matrix_row_reduce(bf_u128 *matrix, size_t matrix_length, size_t rows, size_t columns, size_t *pivots, size_t pivots_length, size_t *rank) BF_CHECKED BF_NONNULL(7);
-uint32_t bf_t128_matrix_rank(const bf_u128 *matrix, size_t matrix_length, size_t rows, size_t columns, bf_u128 *space, size_t space_length, size_t *places, size_t places_length, size_t *rank) BF_CHECKED BF_NONNULL(9);
-uint32_t bf_t128_matrix_determinant(const bf_u128 *matrix, size_t matrix_length, size_t size, bf_u128 *space, size_t space_length, bf_u128 *determinant) BF_CHECKED BF_NONNULL(6);
-uint32_t bf_t128_matrix_inverse(const bf_u128 *matrix, size_t matrix_length, size_t size, bf_u128 *inverse, size_t inverse_length, bf_u128 *space, size_t space_length, size_t *places, size_t places_length) BF_CHECKED;
-uint32_t bf_t128_matrix_solve(const bf_u128 *matrix, size_t matrix_length, size_t rows, size_t columns, const bf_u128 *right, size_t right_length, bf_u128 *solution, size_t solution_length, bf_u128 *space, size_t space_length, size_t *places, size_t places_length) BF_CHECKED;
-uint32_t bf_r8_matrix_multiply(const uint8_t *left, size_t left_length, const uint8_t *right, size_t right_length, uint8_t *product, size_t product_length, size_t rows, size_t inner, size_t columns) BF_CHECKED;
-uint32_t bf_r8_matrix_row_reduce(uint8_t *matrix, size_t matrix_length, size_t rows, size_t columns, size_t *pivots, size_t pivots_length, size_t *rank) BF_CHECKED BF_NONNULL(7);
-uint32_t bf_r8_matrix_rank(const uint8_t *matrix, size_t matrix_length, size_t rows, size_t columns, uint8_t *space, size_t space_length, size_t *places, size_t places_length, size_t *rank) BF_CHECKED BF_NONNULL(9);
-uint32_t bf_r8_matrix_determinant(const uint8_t *matrix, size_t matrix_length, size_t size, uint8_t *space, size_t space_length, uint8_t *determinant) BF_CHECKED BF_NONNULL(6);
-uint32_t bf_r8_matrix_inverse(const uint8_t *matrix, size_t matrix_length, size_t size, uint8_t *inverse, size_t inverse_length, uint8_t *space, size_t space_length, size_t *places, size_t places_length) BF_CHECKED;
-uint32_t bf_r8_matrix_solve(const uint8_t *matrix, size_t matrix_length, size_t rows, size_t columns, const uint8_t *right, size_t right_length, uint8_t *solution, size_t solution_length, uint8_t *space, size_t space_length, size_t *places, size_t places_length) BF_CHECKED;
-uint32_t bf_p64_matrix_multiply(const uint64_t *left, size_t left_length, const uint64_t *right, size_t right_length, uint64_t *product, size_t product_length, size_t rows, size_t inner, size_t columns) BF_CHECKED;
-uint32_t bf_p64_matrix_row_reduce(uint64_t *matrix, size_t matrix_length, size_t rows, size_t columns, size_t *pivots, size_t pivots_length, size_t *rank) BF_CHECKED BF_NONNULL(7);
-uint32_t bf_p64_matrix_rank(const uint64_t *matrix, size_t matrix_length, size_t rows, size_t columns, uint64_t *space, size_t space_length, size_t *places, size_t places_length, size_t *rank) BF_CHECKED BF_NONNULL(9);
-uint32_t bf_p64_matrix_determinant(const uint64_t *matrix, size_t matrix_length, size_t size, uint64_t *space, size_t space_length, uint64_t *determinant) BF_CHECKED BF_NONNULL(6);
-uint32_t bf_p64_matrix_inverse(const uint64_t *matrix, size_t matrix_length, size_t size, uint64_t *inverse, size_t inverse_length, uint64_t *space, size_t space_length, size_t *places, size_t places_length) BF_CHECKED;
-uint32_t bf_p64_matrix_solve(const uint64_t *matrix, size_t matrix_length, size_t rows, size_t columns, const uint64_t *right, size_t right_length, uint64_t *solution, size_t solution_length, uint64_t *space, size_t space_length, size_t *places, size_t places_length) BF_CHECKED;
-uint32_t bf_g128_matrix_multiply(const bf_u128 *left, size_t left_length, const bf_u128 *right, size_t right_length, bf_u128 *product, size_t product_length, size_t rows, size_t inner, size_t columns) BF_CHECKED;
-uint32_t bf_g128_matrix_row_reduce(bf_u128 *matrix, size_t matrix_length, size_t rows, size_t columns, size_t *pivots, size_t pivots_length, size_t *rank) BF_CHECKED BF_NONNULL(7);
-uint32_t bf_g128_matrix_rank(const bf_u128 *matrix, size_t matrix_length, size_t rows, size_t columns, bf_u128 *space, size_t space_length, size_t *places, size_t places_length, size_t *rank) BF_CHECKED BF_NONNULL(9);
-uint32_t bf_g128_matrix_determinant(const bf_u128 *matrix, size_t matrix_length, size_t size, bf_u128 *space, size_t space_length, bf_u128 *determinant) BF_CHECKED BF_NONNULL(6);
-uint32_t bf_g128_matrix_inverse(const bf_u128 *matrix, size_t matrix_length, size_t size, bf_u128 *inverse, size_t inverse_length, bf_u128 *space, size_t space_length, size_t *places, size_t places_length) BF_CHECKED;
-uint32_t bf_g128_matrix_solve(const bf_u128 *matrix, size_t matrix_length, size_t rows, size_t columns, const bf_u128 *right, size_t right_length, bf_u128 *solution, size_t solution_length, bf_u128 *space, size_t space_length, size_t *places, size_t places_length) BF_CHECKED;
-uint32_t bf_p192_matrix_multiply(const bf_u192 *left, size_t left_length, const bf_u192 *right, size_t right_length, bf_u192 *product, size_t product_length, size_t rows, size_t inner, size_t columns) BF_CHECKED;
-uint32_t bf_p192_matrix_row_reduce(bf_u192 *matrix, size_t matrix_length, size_t rows, size_t columns, size_t *pivots, size_t pivots_length, size_t *rank) BF_CHECKED BF_NONNULL(7);
-uint32_t bf_p192_matrix_rank(const bf_u192 *matrix, size_t matrix_length, size_t rows, size_t columns, bf_u192 *space, size_t space_length, size_t *places, size_t places_length, size_t *rank) BF_CHECKED BF_NONNULL(9);
-uint32_t bf_p192_matrix_determinant(const bf_u192 *matrix, size_t matrix_length, size_t size, bf_u192 *space, size_t space_length, bf_u192 *determinant) BF_CHECKED BF_NONNULL(6);
-uint32_t bf_p192_matrix_inverse(const bf_u192 *matrix, size_t matrix_length, size_t size, bf_u192 *inverse, size_t inverse_length, bf_u192 *space, size_t space_length, size_t *places, size_t places_length) BF_CHECKED;
-uint32_t bf_p192_matrix_solve(const bf_u192 *matrix, size_t matrix_length, size_t rows, size_t columns, const bf_u192 *right, size_t right_length, bf_u192 *solution, size_t solution_length, bf_u192 *space, size_t space_length, size_t *places, size_t places_length) BF_CHECKED;
+/* product: the product of left, of rows rows of inner elements, and right, of inner rows of columns elements.
+ * BF_LENGTH unless left has rows * inner elements, right inner * columns, and product rows * columns.
+ * BF_NOT_AN_ELEMENT unless each word that is read is below 2. */
+uint32_t bf_gf2_matrix_multiply(const uint8_t *left, size_t left_length, const uint8_t *right, size_t right_length,
+    uint8_t *product, size_t product_length, size_t rows, size_t inner, size_t columns) BF_CHECKED;
 
-/* --------------------------------------------------------------------------------------------------------------------- */
+/* Brings a matrix of rows rows of columns elements to reduced row echelon form; rank is its rank, the first rank of
+ * the rows places of pivots become the columns of its leading entries, and the others stay. BF_LENGTH unless matrix
+ * has rows * columns elements, and pivots rows places. BF_NOT_AN_ELEMENT unless each word that is read is below 2. */
+uint32_t bf_gf2_matrix_row_reduce(uint8_t *matrix, size_t matrix_length, size_t rows, size_t columns,
+    size_t *pivots, size_t pivots_length, size_t *rank) BF_CHECKED BF_NONNULL(7);
+
+/* rank: the rank of a matrix of rows rows of columns elements, in as much space and rows places, which may be
+ * written whatever the status. BF_LENGTH unless matrix and space have rows * columns elements, and places has rows
+ * places. BF_NOT_AN_ELEMENT unless each word that is read is below 2. */
+uint32_t bf_gf2_matrix_rank(const uint8_t *matrix, size_t matrix_length, size_t rows, size_t columns,
+    uint8_t *space, size_t space_length, size_t *places, size_t places_length, size_t *rank) BF_CHECKED BF_NONNULL(9);
+
+/* determinant: the determinant of a matrix of size rows of size elements, in as much space, which may be written
+ * whatever the status; 1 of no rows. BF_LENGTH unless matrix and space have size * size elements. BF_NOT_AN_ELEMENT
+ * unless each word that is read is below 2. */
+uint32_t bf_gf2_matrix_determinant(const uint8_t *matrix, size_t matrix_length, size_t size,
+    uint8_t *space, size_t space_length, uint8_t *determinant) BF_CHECKED BF_NONNULL(6);
+
+/* inverse: the inverse of a matrix of size rows of size elements, in space for two of these and size places, which
+ * may be written whatever the status. BF_LENGTH unless matrix and inverse have size * size elements, space 2 * size
+ * * size, and places size places. BF_NOT_AN_ELEMENT unless each word that is read is below 2. BF_UNSOLVABLE unless
+ * the matrix has an inverse. */
+uint32_t bf_gf2_matrix_inverse(const uint8_t *matrix, size_t matrix_length, size_t size,
+    uint8_t *inverse, size_t inverse_length, uint8_t *space, size_t space_length,
+    size_t *places, size_t places_length) BF_CHECKED;
+
+/* solution: a solution x of matrix * x = right, of rows equations in columns unknowns, in space for rows times
+ * columns + 1 elements and rows places, which may be written whatever the status; an unknown that the others leave
+ * open is 0. BF_LENGTH unless matrix has rows * columns elements, right rows, solution columns, space rows *
+ * (columns + 1), and places rows places. BF_NOT_AN_ELEMENT unless each word that is read is below 2. BF_UNSOLVABLE
+ * unless there is a solution. */
+uint32_t bf_gf2_matrix_solve(const uint8_t *matrix, size_t matrix_length, size_t rows, size_t columns,
+    const uint8_t *right, size_t right_length, uint8_t *solution, size_t solution_length,
+    uint8_t *space, size_t space_length, size_t *places, size_t places_length) BF_CHECKED;
+
+/* ------------------------------------------------------------------------------------------------------------------ */
+/* Matrices over t2. */
+
+/* product: the product of left, of rows rows of inner elements, and right, of inner rows of columns elements.
+ * BF_LENGTH unless left has rows * inner elements, right inner * columns, and product rows * columns.
+ * BF_NOT_AN_ELEMENT unless each word that is read is below 4. */
+uint32_t bf_t2_matrix_multiply(const uint8_t *left, size_t left_length, const uint8_t *right, size_t right_length,
+    uint8_t *product, size_t product_length, size_t rows, size_t inner, size_t columns) BF_CHECKED;
+
+/* Brings a matrix of rows rows of columns elements to reduced row echelon form; rank is its rank, the first rank of
+ * the rows places of pivots become the columns of its leading entries, and the others stay. BF_LENGTH unless matrix
+ * has rows * columns elements, and pivots rows places. BF_NOT_AN_ELEMENT unless each word that is read is below 4. */
+uint32_t bf_t2_matrix_row_reduce(uint8_t *matrix, size_t matrix_length, size_t rows, size_t columns,
+    size_t *pivots, size_t pivots_length, size_t *rank) BF_CHECKED BF_NONNULL(7);
+
+/* rank: the rank of a matrix of rows rows of columns elements, in as much space and rows places, which may be
+ * written whatever the status. BF_LENGTH unless matrix and space have rows * columns elements, and places has rows
+ * places. BF_NOT_AN_ELEMENT unless each word that is read is below 4. */
+uint32_t bf_t2_matrix_rank(const uint8_t *matrix, size_t matrix_length, size_t rows, size_t columns,
+    uint8_t *space, size_t space_length, size_t *places, size_t places_length, size_t *rank) BF_CHECKED BF_NONNULL(9);
+
+/* determinant: the determinant of a matrix of size rows of size elements, in as much space, which may be written
+ * whatever the status; 1 of no rows. BF_LENGTH unless matrix and space have size * size elements. BF_NOT_AN_ELEMENT
+ * unless each word that is read is below 4. */
+uint32_t bf_t2_matrix_determinant(const uint8_t *matrix, size_t matrix_length, size_t size,
+    uint8_t *space, size_t space_length, uint8_t *determinant) BF_CHECKED BF_NONNULL(6);
+
+/* inverse: the inverse of a matrix of size rows of size elements, in space for two of these and size places, which
+ * may be written whatever the status. BF_LENGTH unless matrix and inverse have size * size elements, space 2 * size
+ * * size, and places size places. BF_NOT_AN_ELEMENT unless each word that is read is below 4. BF_UNSOLVABLE unless
+ * the matrix has an inverse. */
+uint32_t bf_t2_matrix_inverse(const uint8_t *matrix, size_t matrix_length, size_t size,
+    uint8_t *inverse, size_t inverse_length, uint8_t *space, size_t space_length,
+    size_t *places, size_t places_length) BF_CHECKED;
+
+/* solution: a solution x of matrix * x = right, of rows equations in columns unknowns, in space for rows times
+ * columns + 1 elements and rows places, which may be written whatever the status; an unknown that the others leave
+ * open is 0. BF_LENGTH unless matrix has rows * columns elements, right rows, solution columns, space rows *
+ * (columns + 1), and places rows places. BF_NOT_AN_ELEMENT unless each word that is read is below 4. BF_UNSOLVABLE
+ * unless there is a solution. */
+uint32_t bf_t2_matrix_solve(const uint8_t *matrix, size_t matrix_length, size_t rows, size_t columns,
+    const uint8_t *right, size_t right_length, uint8_t *solution, size_t solution_length,
+    uint8_t *space, size_t space_length, size_t *places, size_t places_length) BF_CHECKED;
+
+/* ------------------------------------------------------------------------------------------------------------------ */
+/* Matrices over t4. */
+
+/* product: the product of left, of rows rows of inner elements, and right, of inner rows of columns elements.
+ * BF_LENGTH unless left has rows * inner elements, right inner * columns, and product rows * columns.
+ * BF_NOT_AN_ELEMENT unless each word that is read is below 16. */
+uint32_t bf_t4_matrix_multiply(const uint8_t *left, size_t left_length, const uint8_t *right, size_t right_length,
+    uint8_t *product, size_t product_length, size_t rows, size_t inner, size_t columns) BF_CHECKED;
+
+/* Brings a matrix of rows rows of columns elements to reduced row echelon form; rank is its rank, the first rank of
+ * the rows places of pivots become the columns of its leading entries, and the others stay. BF_LENGTH unless matrix
+ * has rows * columns elements, and pivots rows places. BF_NOT_AN_ELEMENT unless each word that is read is below 16. */
+uint32_t bf_t4_matrix_row_reduce(uint8_t *matrix, size_t matrix_length, size_t rows, size_t columns,
+    size_t *pivots, size_t pivots_length, size_t *rank) BF_CHECKED BF_NONNULL(7);
+
+/* rank: the rank of a matrix of rows rows of columns elements, in as much space and rows places, which may be
+ * written whatever the status. BF_LENGTH unless matrix and space have rows * columns elements, and places has rows
+ * places. BF_NOT_AN_ELEMENT unless each word that is read is below 16. */
+uint32_t bf_t4_matrix_rank(const uint8_t *matrix, size_t matrix_length, size_t rows, size_t columns,
+    uint8_t *space, size_t space_length, size_t *places, size_t places_length, size_t *rank) BF_CHECKED BF_NONNULL(9);
+
+/* determinant: the determinant of a matrix of size rows of size elements, in as much space, which may be written
+ * whatever the status; 1 of no rows. BF_LENGTH unless matrix and space have size * size elements. BF_NOT_AN_ELEMENT
+ * unless each word that is read is below 16. */
+uint32_t bf_t4_matrix_determinant(const uint8_t *matrix, size_t matrix_length, size_t size,
+    uint8_t *space, size_t space_length, uint8_t *determinant) BF_CHECKED BF_NONNULL(6);
+
+/* inverse: the inverse of a matrix of size rows of size elements, in space for two of these and size places, which
+ * may be written whatever the status. BF_LENGTH unless matrix and inverse have size * size elements, space 2 * size
+ * * size, and places size places. BF_NOT_AN_ELEMENT unless each word that is read is below 16. BF_UNSOLVABLE unless
+ * the matrix has an inverse. */
+uint32_t bf_t4_matrix_inverse(const uint8_t *matrix, size_t matrix_length, size_t size,
+    uint8_t *inverse, size_t inverse_length, uint8_t *space, size_t space_length,
+    size_t *places, size_t places_length) BF_CHECKED;
+
+/* solution: a solution x of matrix * x = right, of rows equations in columns unknowns, in space for rows times
+ * columns + 1 elements and rows places, which may be written whatever the status; an unknown that the others leave
+ * open is 0. BF_LENGTH unless matrix has rows * columns elements, right rows, solution columns, space rows *
+ * (columns + 1), and places rows places. BF_NOT_AN_ELEMENT unless each word that is read is below 16. BF_UNSOLVABLE
+ * unless there is a solution. */
+uint32_t bf_t4_matrix_solve(const uint8_t *matrix, size_t matrix_length, size_t rows, size_t columns,
+    const uint8_t *right, size_t right_length, uint8_t *solution, size_t solution_length,
+    uint8_t *space, size_t space_length, size_t *places, size_t places_length) BF_CHECKED;
+
+/* ------------------------------------------------------------------------------------------------------------------ */
+/* Matrices over t8. */
+
+/* product: the product of left, of rows rows of inner elements, and right, of inner rows of columns elements.
+ * BF_LENGTH unless left has rows * inner elements, right inner * columns, and product rows * columns. */
+uint32_t bf_t8_matrix_multiply(const uint8_t *left, size_t left_length, const uint8_t *right, size_t right_length,
+    uint8_t *product, size_t product_length, size_t rows, size_t inner, size_t columns) BF_CHECKED;
+
+/* Brings a matrix of rows rows of columns elements to reduced row echelon form; rank is its rank, the first rank of
+ * the rows places of pivots become the columns of its leading entries, and the others stay. BF_LENGTH unless matrix
+ * has rows * columns elements, and pivots rows places. */
+uint32_t bf_t8_matrix_row_reduce(uint8_t *matrix, size_t matrix_length, size_t rows, size_t columns,
+    size_t *pivots, size_t pivots_length, size_t *rank) BF_CHECKED BF_NONNULL(7);
+
+/* rank: the rank of a matrix of rows rows of columns elements, in as much space and rows places, which may be
+ * written whatever the status. BF_LENGTH unless matrix and space have rows * columns elements, and places has rows
+ * places. */
+uint32_t bf_t8_matrix_rank(const uint8_t *matrix, size_t matrix_length, size_t rows, size_t columns,
+    uint8_t *space, size_t space_length, size_t *places, size_t places_length, size_t *rank) BF_CHECKED BF_NONNULL(9);
+
+/* determinant: the determinant of a matrix of size rows of size elements, in as much space, which may be written
+ * whatever the status; 1 of no rows. BF_LENGTH unless matrix and space have size * size elements. */
+uint32_t bf_t8_matrix_determinant(const uint8_t *matrix, size_t matrix_length, size_t size,
+    uint8_t *space, size_t space_length, uint8_t *determinant) BF_CHECKED BF_NONNULL(6);
+
+/* inverse: the inverse of a matrix of size rows of size elements, in space for two of these and size places, which
+ * may be written whatever the status. BF_LENGTH unless matrix and inverse have size * size elements, space 2 * size
+ * * size, and places size places. BF_UNSOLVABLE unless the matrix has an inverse. */
+uint32_t bf_t8_matrix_inverse(const uint8_t *matrix, size_t matrix_length, size_t size,
+    uint8_t *inverse, size_t inverse_length, uint8_t *space, size_t space_length,
+    size_t *places, size_t places_length) BF_CHECKED;
+
+/* solution: a solution x of matrix * x = right, of rows equations in columns unknowns, in space for rows times
+ * columns + 1 elements and rows places, which may be written whatever the status; an unknown that the others leave
+ * open is 0. BF_LENGTH unless matrix has rows * columns elements, right rows, solution columns, space rows *
+ * (columns + 1), and places rows places. BF_UNSOLVABLE unless there is a solution. */
+uint32_t bf_t8_matrix_solve(const uint8_t *matrix, size_t matrix_length, size_t rows, size_t columns,
+    const uint8_t *right, size_t right_length, uint8_t *solution, size_t solution_length,
+    uint8_t *space, size_t space_length, size_t *places, size_t places_length) BF_CHECKED;
+
+/* ------------------------------------------------------------------------------------------------------------------ */
+/* Matrices over t16. */
+
+/* product: the product of left, of rows rows of inner elements, and right, of inner rows of columns elements.
+ * BF_LENGTH unless left has rows * inner elements, right inner * columns, and product rows * columns. */
+uint32_t bf_t16_matrix_multiply(const uint16_t *left, size_t left_length, const uint16_t *right, size_t right_length,
+    uint16_t *product, size_t product_length, size_t rows, size_t inner, size_t columns) BF_CHECKED;
+
+/* Brings a matrix of rows rows of columns elements to reduced row echelon form; rank is its rank, the first rank of
+ * the rows places of pivots become the columns of its leading entries, and the others stay. BF_LENGTH unless matrix
+ * has rows * columns elements, and pivots rows places. */
+uint32_t bf_t16_matrix_row_reduce(uint16_t *matrix, size_t matrix_length, size_t rows, size_t columns,
+    size_t *pivots, size_t pivots_length, size_t *rank) BF_CHECKED BF_NONNULL(7);
+
+/* rank: the rank of a matrix of rows rows of columns elements, in as much space and rows places, which may be
+ * written whatever the status. BF_LENGTH unless matrix and space have rows * columns elements, and places has rows
+ * places. */
+uint32_t bf_t16_matrix_rank(const uint16_t *matrix, size_t matrix_length, size_t rows, size_t columns,
+    uint16_t *space, size_t space_length, size_t *places, size_t places_length, size_t *rank) BF_CHECKED BF_NONNULL(9);
+
+/* determinant: the determinant of a matrix of size rows of size elements, in as much space, which may be written
+ * whatever the status; 1 of no rows. BF_LENGTH unless matrix and space have size * size elements. */
+uint32_t bf_t16_matrix_determinant(const uint16_t *matrix, size_t matrix_length, size_t size,
+    uint16_t *space, size_t space_length, uint16_t *determinant) BF_CHECKED BF_NONNULL(6);
+
+/* inverse: the inverse of a matrix of size rows of size elements, in space for two of these and size places, which
+ * may be written whatever the status. BF_LENGTH unless matrix and inverse have size * size elements, space 2 * size
+ * * size, and places size places. BF_UNSOLVABLE unless the matrix has an inverse. */
+uint32_t bf_t16_matrix_inverse(const uint16_t *matrix, size_t matrix_length, size_t size,
+    uint16_t *inverse, size_t inverse_length, uint16_t *space, size_t space_length,
+    size_t *places, size_t places_length) BF_CHECKED;
+
+/* solution: a solution x of matrix * x = right, of rows equations in columns unknowns, in space for rows times
+ * columns + 1 elements and rows places, which may be written whatever the status; an unknown that the others leave
+ * open is 0. BF_LENGTH unless matrix has rows * columns elements, right rows, solution columns, space rows *
+ * (columns + 1), and places rows places. BF_UNSOLVABLE unless there is a solution. */
+uint32_t bf_t16_matrix_solve(const uint16_t *matrix, size_t matrix_length, size_t rows, size_t columns,
+    const uint16_t *right, size_t right_length, uint16_t *solution, size_t solution_length,
+    uint16_t *space, size_t space_length, size_t *places, size_t places_length) BF_CHECKED;
+
+/* ------------------------------------------------------------------------------------------------------------------ */
+/* Matrices over t32. */
+
+/* product: the product of left, of rows rows of inner elements, and right, of inner rows of columns elements.
+ * BF_LENGTH unless left has rows * inner elements, right inner * columns, and product rows * columns. */
+uint32_t bf_t32_matrix_multiply(const uint32_t *left, size_t left_length, const uint32_t *right, size_t right_length,
+    uint32_t *product, size_t product_length, size_t rows, size_t inner, size_t columns) BF_CHECKED;
+
+/* Brings a matrix of rows rows of columns elements to reduced row echelon form; rank is its rank, the first rank of
+ * the rows places of pivots become the columns of its leading entries, and the others stay. BF_LENGTH unless matrix
+ * has rows * columns elements, and pivots rows places. */
+uint32_t bf_t32_matrix_row_reduce(uint32_t *matrix, size_t matrix_length, size_t rows, size_t columns,
+    size_t *pivots, size_t pivots_length, size_t *rank) BF_CHECKED BF_NONNULL(7);
+
+/* rank: the rank of a matrix of rows rows of columns elements, in as much space and rows places, which may be
+ * written whatever the status. BF_LENGTH unless matrix and space have rows * columns elements, and places has rows
+ * places. */
+uint32_t bf_t32_matrix_rank(const uint32_t *matrix, size_t matrix_length, size_t rows, size_t columns,
+    uint32_t *space, size_t space_length, size_t *places, size_t places_length, size_t *rank) BF_CHECKED BF_NONNULL(9);
+
+/* determinant: the determinant of a matrix of size rows of size elements, in as much space, which may be written
+ * whatever the status; 1 of no rows. BF_LENGTH unless matrix and space have size * size elements. */
+uint32_t bf_t32_matrix_determinant(const uint32_t *matrix, size_t matrix_length, size_t size,
+    uint32_t *space, size_t space_length, uint32_t *determinant) BF_CHECKED BF_NONNULL(6);
+
+/* inverse: the inverse of a matrix of size rows of size elements, in space for two of these and size places, which
+ * may be written whatever the status. BF_LENGTH unless matrix and inverse have size * size elements, space 2 * size
+ * * size, and places size places. BF_UNSOLVABLE unless the matrix has an inverse. */
+uint32_t bf_t32_matrix_inverse(const uint32_t *matrix, size_t matrix_length, size_t size,
+    uint32_t *inverse, size_t inverse_length, uint32_t *space, size_t space_length,
+    size_t *places, size_t places_length) BF_CHECKED;
+
+/* solution: a solution x of matrix * x = right, of rows equations in columns unknowns, in space for rows times
+ * columns + 1 elements and rows places, which may be written whatever the status; an unknown that the others leave
+ * open is 0. BF_LENGTH unless matrix has rows * columns elements, right rows, solution columns, space rows *
+ * (columns + 1), and places rows places. BF_UNSOLVABLE unless there is a solution. */
+uint32_t bf_t32_matrix_solve(const uint32_t *matrix, size_t matrix_length, size_t rows, size_t columns,
+    const uint32_t *right, size_t right_length, uint32_t *solution, size_t solution_length,
+    uint32_t *space, size_t space_length, size_t *places, size_t places_length) BF_CHECKED;
+
+/* ------------------------------------------------------------------------------------------------------------------ */
+/* Matrices over t64. */
+
+/* product: the product of left, of rows rows of inner elements, and right, of inner rows of columns elements.
+ * BF_LENGTH unless left has rows * inner elements, right inner * columns, and product rows * columns. */
+uint32_t bf_t64_matrix_multiply(const uint64_t *left, size_t left_length, const uint64_t *right, size_t right_length,
+    uint64_t *product, size_t product_length, size_t rows, size_t inner, size_t columns) BF_CHECKED;
+
+/* Brings a matrix of rows rows of columns elements to reduced row echelon form; rank is its rank, the first rank of
+ * the rows places of pivots become the columns of its leading entries, and the others stay. BF_LENGTH unless matrix
+ * has rows * columns elements, and pivots rows places. */
+uint32_t bf_t64_matrix_row_reduce(uint64_t *matrix, size_t matrix_length, size_t rows, size_t columns,
+    size_t *pivots, size_t pivots_length, size_t *rank) BF_CHECKED BF_NONNULL(7);
+
+/* rank: the rank of a matrix of rows rows of columns elements, in as much space and rows places, which may be
+ * written whatever the status. BF_LENGTH unless matrix and space have rows * columns elements, and places has rows
+ * places. */
+uint32_t bf_t64_matrix_rank(const uint64_t *matrix, size_t matrix_length, size_t rows, size_t columns,
+    uint64_t *space, size_t space_length, size_t *places, size_t places_length, size_t *rank) BF_CHECKED BF_NONNULL(9);
+
+/* determinant: the determinant of a matrix of size rows of size elements, in as much space, which may be written
+ * whatever the status; 1 of no rows. BF_LENGTH unless matrix and space have size * size elements. */
+uint32_t bf_t64_matrix_determinant(const uint64_t *matrix, size_t matrix_length, size_t size,
+    uint64_t *space, size_t space_length, uint64_t *determinant) BF_CHECKED BF_NONNULL(6);
+
+/* inverse: the inverse of a matrix of size rows of size elements, in space for two of these and size places, which
+ * may be written whatever the status. BF_LENGTH unless matrix and inverse have size * size elements, space 2 * size
+ * * size, and places size places. BF_UNSOLVABLE unless the matrix has an inverse. */
+uint32_t bf_t64_matrix_inverse(const uint64_t *matrix, size_t matrix_length, size_t size,
+    uint64_t *inverse, size_t inverse_length, uint64_t *space, size_t space_length,
+    size_t *places, size_t places_length) BF_CHECKED;
+
+/* solution: a solution x of matrix * x = right, of rows equations in columns unknowns, in space for rows times
+ * columns + 1 elements and rows places, which may be written whatever the status; an unknown that the others leave
+ * open is 0. BF_LENGTH unless matrix has rows * columns elements, right rows, solution columns, space rows *
+ * (columns + 1), and places rows places. BF_UNSOLVABLE unless there is a solution. */
+uint32_t bf_t64_matrix_solve(const uint64_t *matrix, size_t matrix_length, size_t rows, size_t columns,
+    const uint64_t *right, size_t right_length, uint64_t *solution, size_t solution_length,
+    uint64_t *space, size_t space_length, size_t *places, size_t places_length) BF_CHECKED;
+
+/* ------------------------------------------------------------------------------------------------------------------ */
+/* Matrices over t128. */
+
+/* product: the product of left, of rows rows of inner elements, and right, of inner rows of columns elements.
+ * BF_LENGTH unless left has rows * inner elements, right inner * columns, and product rows * columns. */
+uint32_t bf_t128_matrix_multiply(const bf_u128 *left, size_t left_length, const bf_u128 *right, size_t right_length,
+    bf_u128 *product, size_t product_length, size_t rows, size_t inner, size_t columns) BF_CHECKED;
+
+/* Brings a matrix of rows rows of columns elements to reduced row echelon form; rank is its rank, the first rank of
+ * the rows places of pivots become the columns of its leading entries, and the others stay. BF_LENGTH unless matrix
+ * has rows * columns elements, and pivots rows places. */
+uint32_t bf_t128_matrix_row_reduce(bf_u128 *matrix, size_t matrix_length, size_t rows, size_t columns,
+    size_t *pivots, size_t pivots_length, size_t *rank) BF_CHECKED BF_NONNULL(7);
+
+/* rank: the rank of a matrix of rows rows of columns elements, in as much space and rows places, which may be
+ * written whatever the status. BF_LENGTH unless matrix and space have rows * columns elements, and places has rows
+ * places. */
+uint32_t bf_t128_matrix_rank(const bf_u128 *matrix, size_t matrix_length, size_t rows, size_t columns,
+    bf_u128 *space, size_t space_length, size_t *places, size_t places_length, size_t *rank) BF_CHECKED BF_NONNULL(9);
+
+/* determinant: the determinant of a matrix of size rows of size elements, in as much space, which may be written
+ * whatever the status; 1 of no rows. BF_LENGTH unless matrix and space have size * size elements. */
+uint32_t bf_t128_matrix_determinant(const bf_u128 *matrix, size_t matrix_length, size_t size,
+    bf_u128 *space, size_t space_length, bf_u128 *determinant) BF_CHECKED BF_NONNULL(6);
+
+/* inverse: the inverse of a matrix of size rows of size elements, in space for two of these and size places, which
+ * may be written whatever the status. BF_LENGTH unless matrix and inverse have size * size elements, space 2 * size
+ * * size, and places size places. BF_UNSOLVABLE unless the matrix has an inverse. */
+uint32_t bf_t128_matrix_inverse(const bf_u128 *matrix, size_t matrix_length, size_t size,
+    bf_u128 *inverse, size_t inverse_length, bf_u128 *space, size_t space_length,
+    size_t *places, size_t places_length) BF_CHECKED;
+
+/* solution: a solution x of matrix * x = right, of rows equations in columns unknowns, in space for rows times
+ * columns + 1 elements and rows places, which may be written whatever the status; an unknown that the others leave
+ * open is 0. BF_LENGTH unless matrix has rows * columns elements, right rows, solution columns, space rows *
+ * (columns + 1), and places rows places. BF_UNSOLVABLE unless there is a solution. */
+uint32_t bf_t128_matrix_solve(const bf_u128 *matrix, size_t matrix_length, size_t rows, size_t columns,
+    const bf_u128 *right, size_t right_length, bf_u128 *solution, size_t solution_length,
+    bf_u128 *space, size_t space_length, size_t *places, size_t places_length) BF_CHECKED;
+
+/* ------------------------------------------------------------------------------------------------------------------ */
+/* Matrices over r8. */
+
+/* product: the product of left, of rows rows of inner elements, and right, of inner rows of columns elements.
+ * BF_LENGTH unless left has rows * inner elements, right inner * columns, and product rows * columns. */
+uint32_t bf_r8_matrix_multiply(const uint8_t *left, size_t left_length, const uint8_t *right, size_t right_length,
+    uint8_t *product, size_t product_length, size_t rows, size_t inner, size_t columns) BF_CHECKED;
+
+/* Brings a matrix of rows rows of columns elements to reduced row echelon form; rank is its rank, the first rank of
+ * the rows places of pivots become the columns of its leading entries, and the others stay. BF_LENGTH unless matrix
+ * has rows * columns elements, and pivots rows places. */
+uint32_t bf_r8_matrix_row_reduce(uint8_t *matrix, size_t matrix_length, size_t rows, size_t columns,
+    size_t *pivots, size_t pivots_length, size_t *rank) BF_CHECKED BF_NONNULL(7);
+
+/* rank: the rank of a matrix of rows rows of columns elements, in as much space and rows places, which may be
+ * written whatever the status. BF_LENGTH unless matrix and space have rows * columns elements, and places has rows
+ * places. */
+uint32_t bf_r8_matrix_rank(const uint8_t *matrix, size_t matrix_length, size_t rows, size_t columns,
+    uint8_t *space, size_t space_length, size_t *places, size_t places_length, size_t *rank) BF_CHECKED BF_NONNULL(9);
+
+/* determinant: the determinant of a matrix of size rows of size elements, in as much space, which may be written
+ * whatever the status; 1 of no rows. BF_LENGTH unless matrix and space have size * size elements. */
+uint32_t bf_r8_matrix_determinant(const uint8_t *matrix, size_t matrix_length, size_t size,
+    uint8_t *space, size_t space_length, uint8_t *determinant) BF_CHECKED BF_NONNULL(6);
+
+/* inverse: the inverse of a matrix of size rows of size elements, in space for two of these and size places, which
+ * may be written whatever the status. BF_LENGTH unless matrix and inverse have size * size elements, space 2 * size
+ * * size, and places size places. BF_UNSOLVABLE unless the matrix has an inverse. */
+uint32_t bf_r8_matrix_inverse(const uint8_t *matrix, size_t matrix_length, size_t size,
+    uint8_t *inverse, size_t inverse_length, uint8_t *space, size_t space_length,
+    size_t *places, size_t places_length) BF_CHECKED;
+
+/* solution: a solution x of matrix * x = right, of rows equations in columns unknowns, in space for rows times
+ * columns + 1 elements and rows places, which may be written whatever the status; an unknown that the others leave
+ * open is 0. BF_LENGTH unless matrix has rows * columns elements, right rows, solution columns, space rows *
+ * (columns + 1), and places rows places. BF_UNSOLVABLE unless there is a solution. */
+uint32_t bf_r8_matrix_solve(const uint8_t *matrix, size_t matrix_length, size_t rows, size_t columns,
+    const uint8_t *right, size_t right_length, uint8_t *solution, size_t solution_length,
+    uint8_t *space, size_t space_length, size_t *places, size_t places_length) BF_CHECKED;
+
+/* ------------------------------------------------------------------------------------------------------------------ */
+/* Matrices over p64. */
+
+/* product: the product of left, of rows rows of inner elements, and right, of inner rows of columns elements.
+ * BF_LENGTH unless left has rows * inner elements, right inner * columns, and product rows * columns. */
+uint32_t bf_p64_matrix_multiply(const uint64_t *left, size_t left_length, const uint64_t *right, size_t right_length,
+    uint64_t *product, size_t product_length, size_t rows, size_t inner, size_t columns) BF_CHECKED;
+
+/* Brings a matrix of rows rows of columns elements to reduced row echelon form; rank is its rank, the first rank of
+ * the rows places of pivots become the columns of its leading entries, and the others stay. BF_LENGTH unless matrix
+ * has rows * columns elements, and pivots rows places. */
+uint32_t bf_p64_matrix_row_reduce(uint64_t *matrix, size_t matrix_length, size_t rows, size_t columns,
+    size_t *pivots, size_t pivots_length, size_t *rank) BF_CHECKED BF_NONNULL(7);
+
+/* rank: the rank of a matrix of rows rows of columns elements, in as much space and rows places, which may be
+ * written whatever the status. BF_LENGTH unless matrix and space have rows * columns elements, and places has rows
+ * places. */
+uint32_t bf_p64_matrix_rank(const uint64_t *matrix, size_t matrix_length, size_t rows, size_t columns,
+    uint64_t *space, size_t space_length, size_t *places, size_t places_length, size_t *rank) BF_CHECKED BF_NONNULL(9);
+
+/* determinant: the determinant of a matrix of size rows of size elements, in as much space, which may be written
+ * whatever the status; 1 of no rows. BF_LENGTH unless matrix and space have size * size elements. */
+uint32_t bf_p64_matrix_determinant(const uint64_t *matrix, size_t matrix_length, size_t size,
+    uint64_t *space, size_t space_length, uint64_t *determinant) BF_CHECKED BF_NONNULL(6);
+
+/* inverse: the inverse of a matrix of size rows of size elements, in space for two of these and size places, which
+ * may be written whatever the status. BF_LENGTH unless matrix and inverse have size * size elements, space 2 * size
+ * * size, and places size places. BF_UNSOLVABLE unless the matrix has an inverse. */
+uint32_t bf_p64_matrix_inverse(const uint64_t *matrix, size_t matrix_length, size_t size,
+    uint64_t *inverse, size_t inverse_length, uint64_t *space, size_t space_length,
+    size_t *places, size_t places_length) BF_CHECKED;
+
+/* solution: a solution x of matrix * x = right, of rows equations in columns unknowns, in space for rows times
+ * columns + 1 elements and rows places, which may be written whatever the status; an unknown that the others leave
+ * open is 0. BF_LENGTH unless matrix has rows * columns elements, right rows, solution columns, space rows *
+ * (columns + 1), and places rows places. BF_UNSOLVABLE unless there is a solution. */
+uint32_t bf_p64_matrix_solve(const uint64_t *matrix, size_t matrix_length, size_t rows, size_t columns,
+    const uint64_t *right, size_t right_length, uint64_t *solution, size_t solution_length,
+    uint64_t *space, size_t space_length, size_t *places, size_t places_length) BF_CHECKED;
+
+/* ------------------------------------------------------------------------------------------------------------------ */
+/* Matrices over g128. */
+
+/* product: the product of left, of rows rows of inner elements, and right, of inner rows of columns elements.
+ * BF_LENGTH unless left has rows * inner elements, right inner * columns, and product rows * columns. */
+uint32_t bf_g128_matrix_multiply(const bf_u128 *left, size_t left_length, const bf_u128 *right, size_t right_length,
+    bf_u128 *product, size_t product_length, size_t rows, size_t inner, size_t columns) BF_CHECKED;
+
+/* Brings a matrix of rows rows of columns elements to reduced row echelon form; rank is its rank, the first rank of
+ * the rows places of pivots become the columns of its leading entries, and the others stay. BF_LENGTH unless matrix
+ * has rows * columns elements, and pivots rows places. */
+uint32_t bf_g128_matrix_row_reduce(bf_u128 *matrix, size_t matrix_length, size_t rows, size_t columns,
+    size_t *pivots, size_t pivots_length, size_t *rank) BF_CHECKED BF_NONNULL(7);
+
+/* rank: the rank of a matrix of rows rows of columns elements, in as much space and rows places, which may be
+ * written whatever the status. BF_LENGTH unless matrix and space have rows * columns elements, and places has rows
+ * places. */
+uint32_t bf_g128_matrix_rank(const bf_u128 *matrix, size_t matrix_length, size_t rows, size_t columns,
+    bf_u128 *space, size_t space_length, size_t *places, size_t places_length, size_t *rank) BF_CHECKED BF_NONNULL(9);
+
+/* determinant: the determinant of a matrix of size rows of size elements, in as much space, which may be written
+ * whatever the status; 1 of no rows. BF_LENGTH unless matrix and space have size * size elements. */
+uint32_t bf_g128_matrix_determinant(const bf_u128 *matrix, size_t matrix_length, size_t size,
+    bf_u128 *space, size_t space_length, bf_u128 *determinant) BF_CHECKED BF_NONNULL(6);
+
+/* inverse: the inverse of a matrix of size rows of size elements, in space for two of these and size places, which
+ * may be written whatever the status. BF_LENGTH unless matrix and inverse have size * size elements, space 2 * size
+ * * size, and places size places. BF_UNSOLVABLE unless the matrix has an inverse. */
+uint32_t bf_g128_matrix_inverse(const bf_u128 *matrix, size_t matrix_length, size_t size,
+    bf_u128 *inverse, size_t inverse_length, bf_u128 *space, size_t space_length,
+    size_t *places, size_t places_length) BF_CHECKED;
+
+/* solution: a solution x of matrix * x = right, of rows equations in columns unknowns, in space for rows times
+ * columns + 1 elements and rows places, which may be written whatever the status; an unknown that the others leave
+ * open is 0. BF_LENGTH unless matrix has rows * columns elements, right rows, solution columns, space rows *
+ * (columns + 1), and places rows places. BF_UNSOLVABLE unless there is a solution. */
+uint32_t bf_g128_matrix_solve(const bf_u128 *matrix, size_t matrix_length, size_t rows, size_t columns,
+    const bf_u128 *right, size_t right_length, bf_u128 *solution, size_t solution_length,
+    bf_u128 *space, size_t space_length, size_t *places, size_t places_length) BF_CHECKED;
+
+/* ------------------------------------------------------------------------------------------------------------------ */
+/* Matrices over p192. */
+
+/* product: the product of left, of rows rows of inner elements, and right, of inner rows of columns elements.
+ * BF_LENGTH unless left has rows * inner elements, right inner * columns, and product rows * columns. */
+uint32_t bf_p192_matrix_multiply(const bf_u192 *left, size_t left_length, const bf_u192 *right, size_t right_length,
+    bf_u192 *product, size_t product_length, size_t rows, size_t inner, size_t columns) BF_CHECKED;
+
+/* Brings a matrix of rows rows of columns elements to reduced row echelon form; rank is its rank, the first rank of
+ * the rows places of pivots become the columns of its leading entries, and the others stay. BF_LENGTH unless matrix
+ * has rows * columns elements, and pivots rows places. */
+uint32_t bf_p192_matrix_row_reduce(bf_u192 *matrix, size_t matrix_length, size_t rows, size_t columns,
+    size_t *pivots, size_t pivots_length, size_t *rank) BF_CHECKED BF_NONNULL(7);
+
+/* rank: the rank of a matrix of rows rows of columns elements, in as much space and rows places, which may be
+ * written whatever the status. BF_LENGTH unless matrix and space have rows * columns elements, and places has rows
+ * places. */
+uint32_t bf_p192_matrix_rank(const bf_u192 *matrix, size_t matrix_length, size_t rows, size_t columns,
+    bf_u192 *space, size_t space_length, size_t *places, size_t places_length, size_t *rank) BF_CHECKED BF_NONNULL(9);
+
+/* determinant: the determinant of a matrix of size rows of size elements, in as much space, which may be written
+ * whatever the status; 1 of no rows. BF_LENGTH unless matrix and space have size * size elements. */
+uint32_t bf_p192_matrix_determinant(const bf_u192 *matrix, size_t matrix_length, size_t size,
+    bf_u192 *space, size_t space_length, bf_u192 *determinant) BF_CHECKED BF_NONNULL(6);
+
+/* inverse: the inverse of a matrix of size rows of size elements, in space for two of these and size places, which
+ * may be written whatever the status. BF_LENGTH unless matrix and inverse have size * size elements, space 2 * size
+ * * size, and places size places. BF_UNSOLVABLE unless the matrix has an inverse. */
+uint32_t bf_p192_matrix_inverse(const bf_u192 *matrix, size_t matrix_length, size_t size,
+    bf_u192 *inverse, size_t inverse_length, bf_u192 *space, size_t space_length,
+    size_t *places, size_t places_length) BF_CHECKED;
+
+/* solution: a solution x of matrix * x = right, of rows equations in columns unknowns, in space for rows times
+ * columns + 1 elements and rows places, which may be written whatever the status; an unknown that the others leave
+ * open is 0. BF_LENGTH unless matrix has rows * columns elements, right rows, solution columns, space rows *
+ * (columns + 1), and places rows places. BF_UNSOLVABLE unless there is a solution. */
+uint32_t bf_p192_matrix_solve(const bf_u192 *matrix, size_t matrix_length, size_t rows, size_t columns,
+    const bf_u192 *right, size_t right_length, bf_u192 *solution, size_t solution_length,
+    bf_u192 *space, size_t space_length, size_t *places, size_t places_length) BF_CHECKED;
+
+/* ------------------------------------------------------------------------------------------------------------------ */
 /* Changes of basis, and linear maps over GF(2). */
 
-/* images: the image in r8 of each element of t8, by the isomorphism of the two fields. BF_LENGTH unless values and images
- * have one length. */
-uint32_t bf_t8_to_r8(
-    const uint8_t *values, size_t values_length, uint8_t *images, size_t images_length) BF_CHECKED;
-
-/* images: the image in t8 of each element of r8, by the isomorphism of the two fields. BF_LENGTH unless values and images
- * have one length. */
-uint32_t bf_r8_to_t8(
-    const uint8_t *values, size_t values_length, uint8_t *images, size_t images_length) BF_CHECKED;
-
-/* images: the image in p64 of each element of t64, by the isomorphism of the two fields. BF_LENGTH unless values and images
- * have one length. */
-uint32_t bf_t64_to_p64(
-    const uint64_t *values, size_t values_length, uint64_t *images, size_t images_length) BF_CHECKED;
-
-/* images: the image in t64 of each element of p64, by the isomorphism of the two fields. BF_LENGTH unless values and images
- * have one length. */
-uint32_t bf_p64_to_t64(
-    const uint64_t *values, size_t values_length, uint64_t *images, size_t images_length) BF_CHECKED;
-
-/* images: the image in g128 of each element of t128, by the isomorphism of the two fields. BF_LENGTH unless values and
+/* images: the image in r8 of each element of t8, by the isomorphism of the two fields. BF_LENGTH unless values and
  * images have one length. */
-uint32_t bf_t128_to_g128(
-    const bf_u128 *values, size_t values_length, bf_u128 *images, size_t images_length) BF_CHECKED;
+uint32_t bf_t8_to_r8(const uint8_t *values, size_t values_length, uint8_t *images, size_t images_length) BF_CHECKED;
 
-/* images: the image in t128 of each element of g128, by the isomorphism of the two fields. BF_LENGTH unless values and
+/* images: the image in t8 of each element of r8, by the isomorphism of the two fields. BF_LENGTH unless values and
  * images have one length. */
-uint32_t bf_g128_to_t128(
-    const bf_u128 *values, size_t values_length, bf_u128 *images, size_t images_length) BF_CHECKED;
+uint32_t bf_r8_to_t8(const uint8_t *values, size_t values_length, uint8_t *images, size_t images_length) BF_CHECKED;
 
-/* mapped: for each byte the sum of the images at its set bits; eight images, that of bit 0 first. BF_LENGTH unless values
- * and mapped have one length, and there are 8 images. */
-uint32_t bf_r8_linear_map(
-    const uint8_t *values, size_t values_length, const uint8_t *images, size_t images_length, uint8_t *mapped,
-    size_t mapped_length) BF_CHECKED;
+/* images: the image in p64 of each element of t64, by the isomorphism of the two fields. BF_LENGTH unless values and
+ * images have one length. */
+uint32_t bf_t64_to_p64(const uint64_t *values, size_t values_length, uint64_t *images, size_t images_length) BF_CHECKED;
 
-/* mapped: for each word the sum of the images at its set bits; 128 images, that of bit 0 first. BF_LENGTH unless values and
- * mapped have one length, and there are 128 images. */
-uint32_t bf_g128_linear_map(
-    const bf_u128 *values, size_t values_length, const bf_u128 *images, size_t images_length, bf_u128 *mapped,
-    size_t mapped_length) BF_CHECKED;
+/* images: the image in t64 of each element of p64, by the isomorphism of the two fields. BF_LENGTH unless values and
+ * images have one length. */
+uint32_t bf_p64_to_t64(const uint64_t *values, size_t values_length, uint64_t *images, size_t images_length) BF_CHECKED;
 
-/* --------------------------------------------------------------------------------------------------------------------- */
-/* Stages of additive transforms over g128, and the whole transform over g128 and levels of the tower. s_0(x) = x, and
- * s_(j+1)(x) = s_j(x)^2 + s_j(x). The basis of subspace polynomials is the products of the s_j: coefficient k is that of the
- * product of the s_j over the set bits j of k. Point p is the shift, and Cantor vector b for each set bit b of p; vector 0
- * is 1, and of v^2 + v each other vector v makes the one before. In the low stages the factor of stage j at place p is
- * shifts[j], and basis[t] for each set bit t of p >> (j + 1). */
+/* images: the image in g128 of each element of t128, by the isomorphism of the two fields. BF_LENGTH unless values
+ * and images have one length. */
+uint32_t bf_t128_to_g128(const bf_u128 *values, size_t values_length, bf_u128 *images, size_t images_length) BF_CHECKED;
+
+/* images: the image in t128 of each element of g128, by the isomorphism of the two fields. BF_LENGTH unless values
+ * and images have one length. */
+uint32_t bf_g128_to_t128(const bf_u128 *values, size_t values_length, bf_u128 *images, size_t images_length) BF_CHECKED;
+
+/* mapped: for each byte the sum of the images at its set bits; eight images, that of bit 0 first. BF_LENGTH unless
+ * values and mapped have one length, and there are 8 images. */
+uint32_t bf_r8_linear_map(const uint8_t *values, size_t values_length, const uint8_t *images, size_t images_length,
+    uint8_t *mapped, size_t mapped_length) BF_CHECKED;
+
+/* mapped: for each word the sum of the images at its set bits; 128 images, that of bit 0 first. BF_LENGTH unless
+ * values and mapped have one length, and there are 128 images. */
+uint32_t bf_g128_linear_map(const bf_u128 *values, size_t values_length, const bf_u128 *images, size_t images_length,
+    bf_u128 *mapped, size_t mapped_length) BF_CHECKED;
+
+/* ------------------------------------------------------------------------------------------------------------------ */
+/* Stages of additive transforms over g128, and the whole transform over g128 and levels of the tower. s_0(x) = x,
+ * and s_(j+1)(x) = s_j(x)^2 + s_j(x). The basis of subspace polynomials is the products of the s_j: coefficient k is
+ * that of the product of the s_j over the set bits j of k. Point p is the shift, and Cantor vector b for each set
+ * bit b of p; vector 0 is 1, and of v^2 + v each other vector v makes the one before. In the low stages the factor
+ * of stage j at place p is shifts[j], and basis[t] for each set bit t of p >> (j + 1). */
 
 /* low += scalar * high, and then high += low, at each place. BF_LENGTH unless low and high have one length. */
-uint32_t bf_g128_butterfly_forward(
-    bf_u128 *low, size_t low_length, bf_u128 *high, size_t high_length, const bf_u128 *scalar) BF_CHECKED BF_NONNULL(5);
+uint32_t bf_g128_butterfly_forward(bf_u128 *low, size_t low_length, bf_u128 *high, size_t high_length,
+    const bf_u128 *scalar) BF_CHECKED BF_NONNULL(5);
 
 /* high += low, and then low += scalar * high, at each place. BF_LENGTH unless low and high have one length. */
-uint32_t bf_g128_butterfly_inverse(
-    bf_u128 *low, size_t low_length, bf_u128 *high, size_t high_length, const bf_u128 *scalar) BF_CHECKED BF_NONNULL(5);
+uint32_t bf_g128_butterfly_inverse(bf_u128 *low, size_t low_length, bf_u128 *high, size_t high_length,
+    const bf_u128 *scalar) BF_CHECKED BF_NONNULL(5);
 
-/* The four lowest stages of an additive transform over runs of sixteen values, the first of which is run first_run; four
- * shifts, and a basis of 3 to 128 elements, 2 to the power of three less than which is at least the number behind the last
- * run. BF_LENGTH unless values has a multiple of 16, shifts 4 and basis 3 to 128; where there are values, first_run and the
- * number of runs are together at most 2 to the power of 3 less than the length of basis. */
-uint32_t bf_g128_low_stages(
-    bf_u128 *values, size_t values_length, const bf_u128 *shifts, size_t shifts_length, const bf_u128 *basis,
-    size_t basis_length, size_t first_run) BF_CHECKED;
+/* The four lowest stages of an additive transform over runs of sixteen values, the first of which is run first_run;
+ * four shifts, and a basis of 3 to 128 elements, 2 to the power of three less than which is at least the number
+ * behind the last run. BF_LENGTH unless values has a multiple of 16, shifts 4 and basis 3 to 128; where there are
+ * values, first_run and the number of runs are together at most 2 to the power of 3 less than the length of basis. */
+uint32_t bf_g128_low_stages(bf_u128 *values, size_t values_length, const bf_u128 *shifts, size_t shifts_length,
+    const bf_u128 *basis, size_t basis_length, size_t first_run) BF_CHECKED;
 
-/* The value at each of 2^m points, m from 0 to 40, of the polynomial with these coefficients in the basis of subspace
- * polynomials. BF_LENGTH unless values has 2^m elements, for an m from 0 to 40. */
-uint32_t bf_g128_transform(
-    bf_u128 *values, size_t values_length, const bf_u128 *shift) BF_CHECKED BF_NONNULL(3);
+/* The value at each of 2^m points, m from 0 to 40, of the polynomial with these coefficients in the basis of
+ * subspace polynomials. BF_LENGTH unless values has 2^m elements, for an m from 0 to 40. */
+uint32_t bf_g128_transform(bf_u128 *values, size_t values_length, const bf_u128 *shift) BF_CHECKED BF_NONNULL(3);
 
-/* The coefficients that g128_transform takes to these values. BF_LENGTH unless values has 2^m elements, for an m from 0 to
- * 40. */
-uint32_t bf_g128_inverse_transform(
-    bf_u128 *values, size_t values_length, const bf_u128 *shift) BF_CHECKED BF_NONNULL(3);
+/* The coefficients that bf_g128_transform takes to these values. BF_LENGTH unless values has 2^m elements, for an m
+ * from 0 to 40. */
+uint32_t bf_g128_inverse_transform(bf_u128 *values, size_t values_length,
+    const bf_u128 *shift) BF_CHECKED BF_NONNULL(3);
 
-/* The same as g128_transform, over t16; it is fastest where the shift is 0 or below 65536. BF_LENGTH unless values has 2^m
- * elements, for an m from 0 to 16. */
-uint32_t bf_t16_transform(
-    uint16_t *values, size_t values_length, uint16_t shift) BF_CHECKED;
+/* The same as bf_g128_transform, over t16; it is fastest where the shift is 0 or below 65536. BF_LENGTH unless
+ * values has 2^m elements, for an m from 0 to 16. */
+uint32_t bf_t16_transform(uint16_t *values, size_t values_length, uint16_t shift) BF_CHECKED;
 
-/* The coefficients that t16_transform takes to these values. BF_LENGTH unless values has 2^m elements, for an m from 0 to
- * 16. */
-uint32_t bf_t16_inverse_transform(
-    uint16_t *values, size_t values_length, uint16_t shift) BF_CHECKED;
+/* The coefficients that bf_t16_transform takes to these values. BF_LENGTH unless values has 2^m elements, for an m
+ * from 0 to 16. */
+uint32_t bf_t16_inverse_transform(uint16_t *values, size_t values_length, uint16_t shift) BF_CHECKED;
 
-/* The same as g128_transform, over t32; it is fastest where the shift is 0 or below 65536. BF_LENGTH unless values has 2^m
- * elements, for an m from 0 to 32. */
-uint32_t bf_t32_transform(
-    uint32_t *values, size_t values_length, uint32_t shift) BF_CHECKED;
+/* The same as bf_g128_transform, over t32; it is fastest where the shift is 0 or below 65536. BF_LENGTH unless
+ * values has 2^m elements, for an m from 0 to 32. */
+uint32_t bf_t32_transform(uint32_t *values, size_t values_length, uint32_t shift) BF_CHECKED;
 
-/* The coefficients that t32_transform takes to these values. BF_LENGTH unless values has 2^m elements, for an m from 0 to
- * 32. */
-uint32_t bf_t32_inverse_transform(
-    uint32_t *values, size_t values_length, uint32_t shift) BF_CHECKED;
+/* The coefficients that bf_t32_transform takes to these values. BF_LENGTH unless values has 2^m elements, for an m
+ * from 0 to 32. */
+uint32_t bf_t32_inverse_transform(uint32_t *values, size_t values_length, uint32_t shift) BF_CHECKED;
 
-/* The same as g128_transform, over t64; it is fastest where the shift is 0 or below 65536. BF_LENGTH unless values has 2^m
- * elements, for an m from 0 to 40. */
-uint32_t bf_t64_transform(
-    uint64_t *values, size_t values_length, uint64_t shift) BF_CHECKED;
+/* The same as bf_g128_transform, over t64; it is fastest where the shift is 0 or below 65536. BF_LENGTH unless
+ * values has 2^m elements, for an m from 0 to 40. */
+uint32_t bf_t64_transform(uint64_t *values, size_t values_length, uint64_t shift) BF_CHECKED;
 
-/* The coefficients that t64_transform takes to these values. BF_LENGTH unless values has 2^m elements, for an m from 0 to
- * 40. */
-uint32_t bf_t64_inverse_transform(
-    uint64_t *values, size_t values_length, uint64_t shift) BF_CHECKED;
+/* The coefficients that bf_t64_transform takes to these values. BF_LENGTH unless values has 2^m elements, for an m
+ * from 0 to 40. */
+uint32_t bf_t64_inverse_transform(uint64_t *values, size_t values_length, uint64_t shift) BF_CHECKED;
 
-/* The same as g128_transform, over t128; it is fastest where the shift is 0 or below 65536. BF_LENGTH unless values has 2^m
- * elements, for an m from 0 to 40. */
-uint32_t bf_t128_transform(
-    bf_u128 *values, size_t values_length, const bf_u128 *shift) BF_CHECKED BF_NONNULL(3);
+/* The same as bf_g128_transform, over t128; it is fastest where the shift is 0 or below 65536. BF_LENGTH unless
+ * values has 2^m elements, for an m from 0 to 40. */
+uint32_t bf_t128_transform(bf_u128 *values, size_t values_length, const bf_u128 *shift) BF_CHECKED BF_NONNULL(3);
 
-/* The coefficients that t128_transform takes to these values. BF_LENGTH unless values has 2^m elements, for an m from 0 to
- * 40. */
-uint32_t bf_t128_inverse_transform(
-    bf_u128 *values, size_t values_length, const bf_u128 *shift) BF_CHECKED BF_NONNULL(3);
+/* The coefficients that bf_t128_transform takes to these values. BF_LENGTH unless values has 2^m elements, for an m
+ * from 0 to 40. */
+uint32_t bf_t128_inverse_transform(bf_u128 *values, size_t values_length,
+    const bf_u128 *shift) BF_CHECKED BF_NONNULL(3);
 
-/* --------------------------------------------------------------------------------------------------------------------- */
-/* Hashes of authentication tags. Nothing is claimed on timing. Of a message in pieces nothing is kept but its hash so far,
- * which the caller makes 16 zeros at first. bf_tag_ghash_update takes pieces of whole blocks, and bf_tag_ghash_update_padded
- * the last one, of any length: behind each call hash is what bf_tag_ghash gives of all bytes so far. For GCM the associated
- * data come first and then the ciphertext, the last piece of each padded, and bf_tag_gcm_ghash_final makes of that what
- * bf_tag_gcm_ghash gives. GCM-SIV goes so by POLYVAL, over the plain text, and ends with bf_tag_polyval_update of 16 bytes:
- * both lengths in bits, 8 bytes each, the lowest first. A key of many calls is prepared once: bf_tag_ghash_update_prepared
- * takes what bf_tag_ghash_prepare made of it in place of the key, and pieces as bf_tag_ghash_update_padded does, and
- * bf_tag_polyval_update_prepared so of POLYVAL. What was made of a key tells the key. */
+/* ------------------------------------------------------------------------------------------------------------------ */
+/* Hashes of authentication tags. Nothing is claimed on timing. Of a message in pieces nothing is kept but its hash
+ * so far, which the caller makes 16 zeros at first. bf_tag_ghash_update takes pieces of whole blocks, and
+ * bf_tag_ghash_update_padded the last one, of any length: behind each call hash is what bf_tag_ghash gives of all
+ * bytes so far. For GCM the associated data come first and then the ciphertext, the last piece of each padded, and
+ * bf_tag_gcm_ghash_final makes of that what bf_tag_gcm_ghash gives. GCM-SIV goes so by POLYVAL, over the plain text,
+ * and ends with bf_tag_polyval_update of 16 bytes: both lengths in bits, 8 bytes each, the lowest first. A key of
+ * many calls is prepared once: bf_tag_ghash_update_prepared takes what bf_tag_ghash_prepare made of it in place of
+ * the key, and pieces as bf_tag_ghash_update_padded does, and bf_tag_polyval_update_prepared so of POLYVAL. What was
+ * made of a key tells the key. */
 
-/* hash: GHASH of the message (NIST SP 800-38D), zeros added to whole blocks; key and hash have 16 bytes. BF_LENGTH unless
+/* hash: GHASH of the message (NIST SP 800-38D), zeros added to whole blocks; key and hash have 16 bytes. BF_LENGTH
+ * unless key and hash have 16 bytes. */
+uint32_t bf_tag_ghash(const uint8_t *key, size_t key_length, const uint8_t *message, size_t message_length,
+    uint8_t *hash, size_t hash_length) BF_CHECKED;
+
+/* hash: POLYVAL of the message (RFC 8452), zeros added to whole blocks; key and hash have 16 bytes. BF_LENGTH unless
  * key and hash have 16 bytes. */
-uint32_t bf_tag_ghash(
-    const uint8_t *key, size_t key_length, const uint8_t *message, size_t message_length, uint8_t *hash,
-    size_t hash_length) BF_CHECKED;
+uint32_t bf_tag_polyval(const uint8_t *key, size_t key_length, const uint8_t *message, size_t message_length,
+    uint8_t *hash, size_t hash_length) BF_CHECKED;
 
-/* hash: POLYVAL of the message (RFC 8452), zeros added to whole blocks; key and hash have 16 bytes. BF_LENGTH unless key and
- * hash have 16 bytes. */
-uint32_t bf_tag_polyval(
-    const uint8_t *key, size_t key_length, const uint8_t *message, size_t message_length, uint8_t *hash,
-    size_t hash_length) BF_CHECKED;
-
-/* hash: the hash of GCM over associated data and ciphertext, each below 2^61 bytes, with the block of their lengths; key and
- * hash have 16 bytes. BF_LENGTH unless key and hash have 16 bytes, and associated and ciphertext below 2^61 each. */
-uint32_t bf_tag_gcm_ghash(
-    const uint8_t *key, size_t key_length, const uint8_t *associated, size_t associated_length,
+/* hash: the hash of GCM over associated data and ciphertext, each below 2^61 bytes, with the block of their lengths;
+ * key and hash have 16 bytes. BF_LENGTH unless key and hash have 16 bytes, and associated and ciphertext below 2^61
+ * each. */
+uint32_t bf_tag_gcm_ghash(const uint8_t *key, size_t key_length, const uint8_t *associated, size_t associated_length,
     const uint8_t *ciphertext, size_t ciphertext_length, uint8_t *hash, size_t hash_length) BF_CHECKED;
 
-/* GHASH of more whole blocks: hash is that of the blocks before, and then that of these too; key and hash have 16 bytes.
- * BF_LENGTH unless key and hash have 16 bytes, and blocks a multiple of 16. */
-uint32_t bf_tag_ghash_update(
-    const uint8_t *key, size_t key_length, const uint8_t *blocks, size_t blocks_length, uint8_t *hash,
-    size_t hash_length) BF_CHECKED;
-
-/* GHASH of more bytes, zeros added to whole blocks: hash is that of the blocks before, and then that of these too; key and
- * hash have 16 bytes. BF_LENGTH unless key and hash have 16 bytes. */
-uint32_t bf_tag_ghash_update_padded(
-    const uint8_t *key, size_t key_length, const uint8_t *message, size_t message_length, uint8_t *hash,
-    size_t hash_length) BF_CHECKED;
-
-/* prepared: what hashes under the key go by, for tag_ghash_update_prepared: the element by which the field multiplies for
- * it, and its powers up to the fourth; key has 16 bytes, and prepared 64. BF_LENGTH unless key has 16 bytes, and prepared
- * 64. */
-uint32_t bf_tag_ghash_prepare(
-    const uint8_t *key, size_t key_length, uint8_t *prepared, size_t prepared_length) BF_CHECKED;
-
-/* The same as tag_ghash_update_padded, by what tag_ghash_prepare wrote for the key; by other bytes it writes 16 bytes of
- * which nothing is said; prepared has 64 bytes, and hash 16. BF_LENGTH unless prepared has 64 bytes, and hash 16. */
-uint32_t bf_tag_ghash_update_prepared(
-    const uint8_t *prepared, size_t prepared_length, const uint8_t *message, size_t message_length,
+/* GHASH of more whole blocks: hash is that of the blocks before, and then that of these too; key and hash have 16
+ * bytes. BF_LENGTH unless key and hash have 16 bytes, and blocks a multiple of 16. */
+uint32_t bf_tag_ghash_update(const uint8_t *key, size_t key_length, const uint8_t *blocks, size_t blocks_length,
     uint8_t *hash, size_t hash_length) BF_CHECKED;
 
-/* POLYVAL of more whole blocks: hash is that of the blocks before, and then that of these too; key and hash have 16 bytes.
- * BF_LENGTH unless key and hash have 16 bytes, and blocks a multiple of 16. */
-uint32_t bf_tag_polyval_update(
-    const uint8_t *key, size_t key_length, const uint8_t *blocks, size_t blocks_length, uint8_t *hash,
-    size_t hash_length) BF_CHECKED;
+/* GHASH of more bytes, zeros added to whole blocks: hash is that of the blocks before, and then that of these too;
+ * key and hash have 16 bytes. BF_LENGTH unless key and hash have 16 bytes. */
+uint32_t bf_tag_ghash_update_padded(const uint8_t *key, size_t key_length,
+    const uint8_t *message, size_t message_length, uint8_t *hash, size_t hash_length) BF_CHECKED;
 
-/* POLYVAL of more bytes, zeros added to whole blocks: hash is that of the blocks before, and then that of these too; key and
- * hash have 16 bytes. BF_LENGTH unless key and hash have 16 bytes. */
-uint32_t bf_tag_polyval_update_padded(
-    const uint8_t *key, size_t key_length, const uint8_t *message, size_t message_length, uint8_t *hash,
-    size_t hash_length) BF_CHECKED;
+/* prepared: what hashes under the key go by, for bf_tag_ghash_update_prepared: the element by which the field
+ * multiplies for it, and its powers up to the fourth; key has 16 bytes, and prepared 64. BF_LENGTH unless key has 16
+ * bytes, and prepared 64. */
+uint32_t bf_tag_ghash_prepare(const uint8_t *key, size_t key_length,
+    uint8_t *prepared, size_t prepared_length) BF_CHECKED;
 
-/* prepared: what hashes under the key go by, for tag_polyval_update_prepared: the element by which the field multiplies for
- * it, and its powers up to the fourth; key has 16 bytes, and prepared 64. BF_LENGTH unless key has 16 bytes, and prepared
- * 64. */
-uint32_t bf_tag_polyval_prepare(
-    const uint8_t *key, size_t key_length, uint8_t *prepared, size_t prepared_length) BF_CHECKED;
+/* The same as bf_tag_ghash_update_padded, by what bf_tag_ghash_prepare wrote for the key; by other bytes it writes
+ * 16 bytes of which nothing is said; prepared has 64 bytes, and hash 16. BF_LENGTH unless prepared has 64 bytes, and
+ * hash 16. */
+uint32_t bf_tag_ghash_update_prepared(const uint8_t *prepared, size_t prepared_length,
+    const uint8_t *message, size_t message_length, uint8_t *hash, size_t hash_length) BF_CHECKED;
 
-/* The same as tag_polyval_update_padded, by what tag_polyval_prepare wrote for the key; by other bytes it writes 16 bytes of
- * which nothing is said; prepared has 64 bytes, and hash 16. BF_LENGTH unless prepared has 64 bytes, and hash 16. */
-uint32_t bf_tag_polyval_update_prepared(
-    const uint8_t *prepared, size_t prepared_length, const uint8_t *message, size_t message_length,
+/* POLYVAL of more whole blocks: hash is that of the blocks before, and then that of these too; key and hash have 16
+ * bytes. BF_LENGTH unless key and hash have 16 bytes, and blocks a multiple of 16. */
+uint32_t bf_tag_polyval_update(const uint8_t *key, size_t key_length, const uint8_t *blocks, size_t blocks_length,
     uint8_t *hash, size_t hash_length) BF_CHECKED;
 
-/* GHASH of the block of two lengths in bytes, each below 2^61, as GCM has them: hash is that of the blocks before, and then
- * that of this one too; key and hash have 16 bytes. BF_LENGTH unless key and hash have 16 bytes, and both lengths are below
- * 2^61. */
-uint32_t bf_tag_gcm_ghash_final(
-    const uint8_t *key, size_t key_length, size_t associated_length, size_t ciphertext_length, uint8_t *hash,
-    size_t hash_length) BF_CHECKED;
+/* POLYVAL of more bytes, zeros added to whole blocks: hash is that of the blocks before, and then that of these too;
+ * key and hash have 16 bytes. BF_LENGTH unless key and hash have 16 bytes. */
+uint32_t bf_tag_polyval_update_padded(const uint8_t *key, size_t key_length,
+    const uint8_t *message, size_t message_length, uint8_t *hash, size_t hash_length) BF_CHECKED;
 
-/* equal: 1 where the two have the same bytes, else 0. What a compiler made of it was looked at: all bytes are read whatever
- * they are, and one test comes at the end; unlike lengths return at once. No other function was looked at for its timing. */
-uint32_t bf_tags_are_equal(
-    const uint8_t *left, size_t left_length, const uint8_t *right, size_t right_length, uint8_t *equal) BF_CHECKED BF_NONNULL(5);
+/* prepared: what hashes under the key go by, for bf_tag_polyval_update_prepared: the element by which the field
+ * multiplies for it, and its powers up to the fourth; key has 16 bytes, and prepared 64. BF_LENGTH unless key has 16
+ * bytes, and prepared 64. */
+uint32_t bf_tag_polyval_prepare(const uint8_t *key, size_t key_length,
+    uint8_t *prepared, size_t prepared_length) BF_CHECKED;
 
-/* --------------------------------------------------------------------------------------------------------------------- */
-/* Reed-Solomon codes over bytes modulo x^8 + x^4 + x^3 + x^2 + 1: shard i has the values at the byte i of the polynomials
- * that the data determine. */
+/* The same as bf_tag_polyval_update_padded, by what bf_tag_polyval_prepare wrote for the key; by other bytes it
+ * writes 16 bytes of which nothing is said; prepared has 64 bytes, and hash 16. BF_LENGTH unless prepared has 64
+ * bytes, and hash 16. */
+uint32_t bf_tag_polyval_update_prepared(const uint8_t *prepared, size_t prepared_length,
+    const uint8_t *message, size_t message_length, uint8_t *hash, size_t hash_length) BF_CHECKED;
 
-/* Writes the shards of parity, which stand behind those of data; all shards stand one after the other and have one size.
- * BF_CODE if data and parity are not both at least 1 and together at most 256. BF_LENGTH unless shards has a multiple, but
- * not 0, of data + parity bytes. */
-uint32_t bf_rs_encode(
-    size_t data, size_t parity, uint8_t *shards, size_t shards_length) BF_CHECKED;
+/* GHASH of the block of two lengths in bytes, each below 2^61, as GCM has them: hash is that of the blocks before,
+ * and then that of this one too; key and hash have 16 bytes. BF_LENGTH unless key and hash have 16 bytes, and both
+ * lengths are below 2^61. */
+uint32_t bf_tag_gcm_ghash_final(const uint8_t *key, size_t key_length, size_t associated_length,
+    size_t ciphertext_length, uint8_t *hash, size_t hash_length) BF_CHECKED;
 
-/* whole: 1 where the shards of parity are those of the data, else 0. BF_CODE if data and parity are not both at least 1 and
- * together at most 256. BF_LENGTH unless shards has a multiple, but not 0, of data + parity bytes. */
-uint32_t bf_rs_verify(
-    size_t data, size_t parity, const uint8_t *shards, size_t shards_length, uint8_t *whole) BF_CHECKED BF_NONNULL(5);
+/* equal: 1 where the two have the same bytes, else 0. What a compiler made of it was looked at: all bytes are read
+ * whatever they are, and one test comes at the end; unlike lengths return at once. No other function was looked at
+ * for its timing. */
+uint32_t bf_tags_are_equal(const uint8_t *left, size_t left_length, const uint8_t *right, size_t right_length,
+    uint8_t *equal) BF_CHECKED BF_NONNULL(5);
 
-/* length: how many bytes the tables of the code take: 32 for each pair of a shard of data and one of parity, parity counted
- * up to a multiple of 4. BF_CODE if data and parity are not both at least 1 and together at most 256. */
-uint32_t bf_rs_tables_length(
-    size_t data, size_t parity, uint64_t *length) BF_CHECKED BF_NONNULL(3);
+/* ------------------------------------------------------------------------------------------------------------------ */
+/* Reed-Solomon codes over bytes modulo x^8 + x^4 + x^3 + x^2 + 1: shard i has the values at the byte i of the
+ * polynomials that the data determine. */
 
-/* tables: the tables of the code, by which rs_encode_prepared and rs_verify_prepared work; they are read faster from a
- * multiple of 16 on. BF_CODE if data and parity are not both at least 1 and together at most 256. BF_LENGTH unless tables
- * has the bytes that bf_rs_tables_length gives. */
-uint32_t bf_rs_prepare(
-    size_t data, size_t parity, uint8_t *tables, size_t tables_length) BF_CHECKED;
+/* How many bytes the tables of a code take, as bf_rs_tables_length gives it, for an array of that length. */
+#define BF_RS_TABLES_LENGTH(data, parity) ((size_t)128 * (data) * (((parity) + 3) / 4))
 
-/* Writes the shards of parity, as rs_encode does, by the tables that rs_prepare wrote for this code; by other bytes it
- * writes parity of which nothing is said, and the data stay. BF_CODE if data and parity are not both at least 1 and together
- * at most 256. BF_LENGTH unless tables has the bytes that bf_rs_tables_length gives, and shards a multiple, but not 0, of
- * data + parity. */
-uint32_t bf_rs_encode_prepared(
-    size_t data, size_t parity, const uint8_t *tables, size_t tables_length, uint8_t *shards,
-    size_t shards_length) BF_CHECKED;
+/* length: how many bytes the tables of the code take: 32 for each pair of a shard of data and one of parity, parity
+ * counted up to a multiple of 4. BF_CODE if data and parity are not both at least 1 and together at most 256. */
+uint32_t bf_rs_tables_length(size_t data, size_t parity, uint64_t *length) BF_CHECKED BF_NONNULL(3);
 
-/* whole: 1 where the shards of parity are those of the data, else 0, by the tables that rs_prepare wrote for this code; by
- * other bytes it is 0 or 1. BF_CODE if data and parity are not both at least 1 and together at most 256. BF_LENGTH unless
- * tables has the bytes that bf_rs_tables_length gives, and shards a multiple, but not 0, of data + parity. */
-uint32_t bf_rs_verify_prepared(
-    size_t data, size_t parity, const uint8_t *tables, size_t tables_length, const uint8_t *shards,
-    size_t shards_length, uint8_t *whole) BF_CHECKED BF_NONNULL(7);
+/* tables: the tables of the code, by which bf_rs_encode_prepared and bf_rs_verify_prepared work; they are read
+ * faster from a multiple of 16 on. BF_CODE if data and parity are not both at least 1 and together at most 256.
+ * BF_LENGTH unless tables has the bytes that bf_rs_tables_length gives. */
+uint32_t bf_rs_prepare(size_t data, size_t parity, uint8_t *tables, size_t tables_length) BF_CHECKED;
 
-/* Adds to sums what a shard of data is in a shard of parity, by the tables that rs_prepare wrote for this code; once each
- * shard of data was added to zeros, in any order, sums is that shard of parity. BF_CODE if data and parity are not both at
- * least 1 and together at most 256. BF_LENGTH unless tables has the bytes that bf_rs_tables_length gives, data_shard is
- * below data and parity_shard below parity, and shard and sums have one length. */
-uint32_t bf_rs_add_shard(
-    size_t data, size_t parity, const uint8_t *tables, size_t tables_length, size_t data_shard,
+/* Adds to sums what a shard of data is in a shard of parity, by the tables that bf_rs_prepare wrote for this code;
+ * once each shard of data was added to zeros, in any order, sums is that shard of parity. BF_CODE if data and parity
+ * are not both at least 1 and together at most 256. BF_LENGTH unless tables has the bytes that bf_rs_tables_length
+ * gives, data_shard is below data and parity_shard below parity, and shard and sums have one length. */
+uint32_t bf_rs_add_shard(size_t data, size_t parity, const uint8_t *tables, size_t tables_length, size_t data_shard,
     size_t parity_shard, const uint8_t *shard, size_t shard_length, uint8_t *sums, size_t sums_length) BF_CHECKED;
 
-/* Writes the missing shards: shard i is missing where present[i] is 0. BF_CODE if data and parity are not both at least 1
- * and together at most 256. BF_LENGTH unless shards has a multiple, but not 0, of data + parity bytes, and present has data
- * + parity. BF_TOO_FEW_SHARDS unless at least as many entries of present as data are not 0. */
-uint32_t bf_rs_reconstruct(
-    size_t data, size_t parity, uint8_t *shards, size_t shards_length, const uint8_t *present,
-    size_t present_length) BF_CHECKED;
+/* Writes the shards of parity, which stand behind those of data; all shards stand one after the other and have one
+ * size. BF_CODE if data and parity are not both at least 1 and together at most 256. BF_LENGTH unless shards has a
+ * multiple, but not 0, of data + parity bytes. */
+uint32_t bf_rs_encode(size_t data, size_t parity, uint8_t *shards, size_t shards_length) BF_CHECKED;
 
-/* Writes the missing shards of data alone. BF_CODE if data and parity are not both at least 1 and together at most 256.
- * BF_LENGTH unless shards has a multiple, but not 0, of data + parity bytes, and present has data + parity.
- * BF_TOO_FEW_SHARDS unless at least as many entries of present as data are not 0. */
-uint32_t bf_rs_reconstruct_data(
-    size_t data, size_t parity, uint8_t *shards, size_t shards_length, const uint8_t *present,
-    size_t present_length) BF_CHECKED;
+/* Writes the shards of parity, as bf_rs_encode does, by the tables that bf_rs_prepare wrote for this code; by other
+ * bytes it writes parity of which nothing is said, and the data stay. BF_CODE if data and parity are not both at
+ * least 1 and together at most 256. BF_LENGTH unless tables has the bytes that bf_rs_tables_length gives, and shards
+ * a multiple, but not 0, of data + parity. */
+uint32_t bf_rs_encode_prepared(size_t data, size_t parity, const uint8_t *tables, size_t tables_length,
+    uint8_t *shards, size_t shards_length) BF_CHECKED;
 
-/* --------------------------------------------------------------------------------------------------------------------- */
-/* Reed-Solomon codes over t16 by additive transforms, of thousands of shards: column i of the shards, their word i, has the
- * values of one polynomial. With 2^n the least power of two that is at least data, it has a degree below 2^n; shard j of
- * data is its value at point j, shard j of parity that at point 2^n + j, and it is 0 at the points from data to 2^n. Point p
- * is the sum of Cantor vector b for each set bit b of p, as above. Shards of data stand one after the other, and so do those
- * of parity, in an array of their own. A call works in space, with as many columns at once as pays; what that has before
- * does not matter, and behind the call nothing is said of it. */
-
-/* length: how many words of space each call of the code takes: 40 times the least power of two that is at least data,
- * counted up to a power of two, and parity together. BF_CODE if data and parity are not both at least 1, or data, counted up
- * to a power of two, and parity are together more than 65536. */
-uint32_t bf_erasure_space(
-    size_t data, size_t parity, uint64_t *length) BF_CHECKED BF_NONNULL(3);
-
-/* parity_shards: the shards of parity of these shards of data. BF_CODE if data and parity are not both at least 1, or data,
- * counted up to a power of two, and parity are together more than 65536. BF_LENGTH unless shards has data, and parity_shards
- * parity, times one number of words, which is not 0, and space at least what bf_erasure_space gives. */
-uint32_t bf_erasure_encode(
-    size_t data, size_t parity, const uint16_t *shards, size_t shards_length, uint16_t *parity_shards,
-    size_t parity_shards_length, uint16_t *space, size_t space_length) BF_CHECKED;
-
-/* whole: 1 where the shards of parity are those of the data, else 0. BF_CODE if data and parity are not both at least 1, or
- * data, counted up to a power of two, and parity are together more than 65536. BF_LENGTH unless shards has data, and
- * parity_shards parity, times one number of words, which is not 0, and space at least what bf_erasure_space gives. */
-uint32_t bf_erasure_verify(
-    size_t data, size_t parity, const uint16_t *shards, size_t shards_length, const uint16_t *parity_shards,
-    size_t parity_shards_length, uint16_t *space, size_t space_length, uint8_t *whole) BF_CHECKED BF_NONNULL(9);
-
-/* Writes the missing shards: shard i, of the data and then of the parity, is missing where present[i] is 0. BF_CODE if data
- * and parity are not both at least 1, or data, counted up to a power of two, and parity are together more than 65536.
- * BF_LENGTH unless shards has data, and parity_shards parity, times one number of words, which is not 0, and space at least
- * what bf_erasure_space gives, and present has data + parity. BF_TOO_FEW_SHARDS unless at least as many entries of present
- * as data are not 0. It takes 64 KiB of the stack, for the flags of the shards. */
-uint32_t bf_erasure_reconstruct(
-    size_t data, size_t parity, uint16_t *shards, size_t shards_length, uint16_t *parity_shards,
-    size_t parity_shards_length, const uint8_t *present, size_t present_length, uint16_t *space,
-    size_t space_length) BF_CHECKED;
-
-/* --------------------------------------------------------------------------------------------------------------------- */
-/* Second forms, made for x86-64-v3, whose vectors have 256 bits. Each gives the same as the function without _wide, in every
- * library; in one built for x86-64-v2 most are slower than that. The file libbinary_field.cpu beside the library says which
- * it is. */
-
-uint32_t bf_g128_multiply_wide(const bf_u128 *left, size_t left_length, const bf_u128 *right, size_t right_length, bf_u128 *products, size_t products_length) BF_CHECKED;
-uint32_t bf_g128_multiply_in_place_wide(bf_u128 *products, size_t products_length, const bf_u128 *values, size_t values_length) BF_CHECKED;
-uint32_t bf_g128_multiply_by_wide(const bf_u128 *values, size_t values_length, const bf_u128 *scalar, bf_u128 *products, size_t products_length) BF_CHECKED BF_NONNULL(3);
-uint32_t bf_g128_multiply_by_in_place_wide(bf_u128 *values, size_t values_length, const bf_u128 *scalar) BF_CHECKED BF_NONNULL(3);
-uint32_t bf_g128_add_scaled_wide(bf_u128 *sums, size_t sums_length, const bf_u128 *scalar, const bf_u128 *values, size_t values_length) BF_CHECKED BF_NONNULL(3);
-uint32_t bf_g128_dot_product_wide(const bf_u128 *left, size_t left_length, const bf_u128 *right, size_t right_length, bf_u128 *sum) BF_CHECKED BF_NONNULL(5);
-uint32_t bf_g128_butterfly_forward_wide(bf_u128 *low, size_t low_length, bf_u128 *high, size_t high_length, const bf_u128 *scalar) BF_CHECKED BF_NONNULL(5);
-uint32_t bf_g128_butterfly_inverse_wide(bf_u128 *low, size_t low_length, bf_u128 *high, size_t high_length, const bf_u128 *scalar) BF_CHECKED BF_NONNULL(5);
-uint32_t bf_g128_low_stages_wide(bf_u128 *values, size_t values_length, const bf_u128 *shifts, size_t shifts_length, const bf_u128 *basis, size_t basis_length, size_t first_run) BF_CHECKED;
-uint32_t bf_g128_transform_wide(bf_u128 *values, size_t values_length, const bf_u128 *shift) BF_CHECKED BF_NONNULL(3);
-uint32_t bf_g128_inverse_transform_wide(bf_u128 *values, size_t values_length, const bf_u128 *shift) BF_CHECKED BF_NONNULL(3);
-uint32_t bf_t16_multiply_wide(const uint16_t *left, size_t left_length, const uint16_t *right, size_t right_length, uint16_t *products, size_t products_length) BF_CHECKED;
-uint32_t bf_t16_multiply_in_place_wide(uint16_t *products, size_t products_length, const uint16_t *values, size_t values_length) BF_CHECKED;
-uint32_t bf_t16_inverse_wide(const uint16_t *values, size_t values_length, uint16_t *inverses, size_t inverses_length) BF_CHECKED;
-uint32_t bf_t16_inverse_in_place_wide(uint16_t *values, size_t values_length) BF_CHECKED;
-uint32_t bf_t16_batch_inverse_wide(const uint16_t *values, size_t values_length, uint16_t *inverses, size_t inverses_length) BF_CHECKED;
-uint32_t bf_t32_multiply_wide(const uint32_t *left, size_t left_length, const uint32_t *right, size_t right_length, uint32_t *products, size_t products_length) BF_CHECKED;
-uint32_t bf_t32_multiply_in_place_wide(uint32_t *products, size_t products_length, const uint32_t *values, size_t values_length) BF_CHECKED;
-uint32_t bf_t32_inverse_wide(const uint32_t *values, size_t values_length, uint32_t *inverses, size_t inverses_length) BF_CHECKED;
-uint32_t bf_t32_inverse_in_place_wide(uint32_t *values, size_t values_length) BF_CHECKED;
-uint32_t bf_t32_batch_inverse_wide(const uint32_t *values, size_t values_length, uint32_t *inverses, size_t inverses_length) BF_CHECKED;
-uint32_t bf_t64_multiply_wide(const uint64_t *left, size_t left_length, const uint64_t *right, size_t right_length, uint64_t *products, size_t products_length) BF_CHECKED;
-uint32_t bf_t64_multiply_in_place_wide(uint64_t *products, size_t products_length, const uint64_t *values, size_t values_length) BF_CHECKED;
-uint32_t bf_t64_inverse_wide(const uint64_t *values, size_t values_length, uint64_t *inverses, size_t inverses_length) BF_CHECKED;
-uint32_t bf_t64_inverse_in_place_wide(uint64_t *values, size_t values_length) BF_CHECKED;
-uint32_t bf_t64_batch_inverse_wide(const uint64_t *values, size_t values_length, uint64_t *inverses, size_t inverses_length) BF_CHECKED;
-uint32_t bf_t128_multiply_wide(const bf_u128 *left, size_t left_length, const bf_u128 *right, size_t right_length, bf_u128 *products, size_t products_length) BF_CHECKED;
-uint32_t bf_t128_multiply_in_place_wide(bf_u128 *products, size_t products_length, const bf_u128 *values, size_t values_length) BF_CHECKED;
-uint32_t bf_t128_inverse_wide(const bf_u128 *values, size_t values_length, bf_u128 *inverses, size_t inverses_length) BF_CHECKED;
-uint32_t bf_t128_inverse_in_place_wide(bf_u128 *values, size_t values_length) BF_CHECKED;
-uint32_t bf_t128_batch_inverse_wide(const bf_u128 *values, size_t values_length, bf_u128 *inverses, size_t inverses_length) BF_CHECKED;
-uint32_t bf_p64_multiply_wide(const uint64_t *left, size_t left_length, const uint64_t *right, size_t right_length, uint64_t *products, size_t products_length) BF_CHECKED;
-uint32_t bf_p64_multiply_in_place_wide(uint64_t *products, size_t products_length, const uint64_t *values, size_t values_length) BF_CHECKED;
-uint32_t bf_p64_inverse_wide(const uint64_t *values, size_t values_length, uint64_t *inverses, size_t inverses_length) BF_CHECKED;
-uint32_t bf_p64_inverse_in_place_wide(uint64_t *values, size_t values_length) BF_CHECKED;
-uint32_t bf_p64_batch_inverse_wide(const uint64_t *values, size_t values_length, uint64_t *inverses, size_t inverses_length) BF_CHECKED;
-uint32_t bf_g128_inverse_wide(const bf_u128 *values, size_t values_length, bf_u128 *inverses, size_t inverses_length) BF_CHECKED;
-uint32_t bf_g128_inverse_in_place_wide(bf_u128 *values, size_t values_length) BF_CHECKED;
-uint32_t bf_g128_batch_inverse_wide(const bf_u128 *values, size_t values_length, bf_u128 *inverses, size_t inverses_length) BF_CHECKED;
-uint32_t bf_g128_matrix_multiply_wide(const bf_u128 *left, size_t left_length, const bf_u128 *right, size_t right_length, bf_u128 *product, size_t product_length, size_t rows, size_t inner, size_t columns) BF_CHECKED;
-uint32_t bf_g128_matrix_row_reduce_wide(bf_u128 *matrix, size_t matrix_length, size_t rows, size_t columns, size_t *pivots, size_t pivots_length, size_t *rank) BF_CHECKED BF_NONNULL(7);
-uint32_t bf_g128_matrix_rank_wide(const bf_u128 *matrix, size_t matrix_length, size_t rows, size_t columns, bf_u128 *space, size_t space_length, size_t *places, size_t places_length, size_t *rank) BF_CHECKED BF_NONNULL(9);
-uint32_t bf_g128_matrix_determinant_wide(const bf_u128 *matrix, size_t matrix_length, size_t size, bf_u128 *space, size_t space_length, bf_u128 *determinant) BF_CHECKED BF_NONNULL(6);
-uint32_t bf_g128_matrix_inverse_wide(const bf_u128 *matrix, size_t matrix_length, size_t size, bf_u128 *inverse, size_t inverse_length, bf_u128 *space, size_t space_length, size_t *places, size_t places_length) BF_CHECKED;
-uint32_t bf_g128_matrix_solve_wide(const bf_u128 *matrix, size_t matrix_length, size_t rows, size_t columns, const bf_u128 *right, size_t right_length, bf_u128 *solution, size_t solution_length, bf_u128 *space, size_t space_length, size_t *places, size_t places_length) BF_CHECKED;
-uint32_t bf_tag_ghash_wide(const uint8_t *key, size_t key_length, const uint8_t *message, size_t message_length, uint8_t *hash, size_t hash_length) BF_CHECKED;
-uint32_t bf_tag_polyval_wide(const uint8_t *key, size_t key_length, const uint8_t *message, size_t message_length, uint8_t *hash, size_t hash_length) BF_CHECKED;
-uint32_t bf_tag_gcm_ghash_wide(const uint8_t *key, size_t key_length, const uint8_t *associated, size_t associated_length, const uint8_t *ciphertext, size_t ciphertext_length, uint8_t *hash, size_t hash_length) BF_CHECKED;
-uint32_t bf_tag_ghash_update_wide(const uint8_t *key, size_t key_length, const uint8_t *blocks, size_t blocks_length, uint8_t *hash, size_t hash_length) BF_CHECKED;
-uint32_t bf_tag_ghash_update_padded_wide(const uint8_t *key, size_t key_length, const uint8_t *message, size_t message_length, uint8_t *hash, size_t hash_length) BF_CHECKED;
-uint32_t bf_tag_ghash_update_prepared_wide(const uint8_t *prepared, size_t prepared_length, const uint8_t *message, size_t message_length, uint8_t *hash, size_t hash_length) BF_CHECKED;
-uint32_t bf_tag_polyval_update_wide(const uint8_t *key, size_t key_length, const uint8_t *blocks, size_t blocks_length, uint8_t *hash, size_t hash_length) BF_CHECKED;
-uint32_t bf_tag_polyval_update_padded_wide(const uint8_t *key, size_t key_length, const uint8_t *message, size_t message_length, uint8_t *hash, size_t hash_length) BF_CHECKED;
-uint32_t bf_tag_polyval_update_prepared_wide(const uint8_t *prepared, size_t prepared_length, const uint8_t *message, size_t message_length, uint8_t *hash, size_t hash_length) BF_CHECKED;
-
-/* Writes the shards of parity of shards that stand apart, each of size bytes: the pointers are those of the shards of data and of parity, of
- * which none of parity overlaps another shard. tables is what bf_rs_prepare wrote for this code. It is bf_rs_add_shard for each pair of shards,
- * and no function of the library: it is tested and not proved. BF_CODE and BF_LENGTH are those of bf_rs_add_shard. */
-static inline uint32_t BF_CHECKED bf_rs_encode_pointers(
-    size_t data, size_t parity, const uint8_t *tables, size_t tables_length, const uint8_t *const *shards, uint8_t *const *parity_shards,
-    size_t size)
+/* Writes the shards of parity of shards that stand apart, each of size bytes: the pointers are those of the shards of
+ * data and of parity, of which none of parity overlaps another shard. tables is what bf_rs_prepare wrote for this code.
+ * It is bf_rs_add_shard for each pair of shards, and no function of the library: it is tested and not proved. BF_CODE
+ * and BF_LENGTH are those of bf_rs_add_shard. */
+static inline uint32_t BF_CHECKED bf_rs_encode_pointers(size_t data, size_t parity, const uint8_t *tables,
+    size_t tables_length, const uint8_t *const *shards, uint8_t *const *parity_shards, size_t size)
 {
     size_t row, place, at;
     /* Without bytes a call tells whether the counts and the tables fit, before anything is written. */
@@ -890,11 +1820,73 @@ static inline uint32_t BF_CHECKED bf_rs_encode_pointers(
             parity_shards[row][place] = 0;
         }
         for (at = 0; status == BF_OK && at < data; at++) {
-            status = bf_rs_add_shard(data, parity, tables, tables_length, at, row, shards[at], size, parity_shards[row], size);
+            status = bf_rs_add_shard(
+                data, parity, tables, tables_length, at, row, shards[at], size, parity_shards[row], size);
         }
     }
     return status;
 }
+
+/* whole: 1 where the shards of parity are those of the data, else 0. BF_CODE if data and parity are not both at
+ * least 1 and together at most 256. BF_LENGTH unless shards has a multiple, but not 0, of data + parity bytes. */
+uint32_t bf_rs_verify(size_t data, size_t parity, const uint8_t *shards, size_t shards_length,
+    uint8_t *whole) BF_CHECKED BF_NONNULL(5);
+
+/* whole: 1 where the shards of parity are those of the data, else 0, by the tables that bf_rs_prepare wrote for this
+ * code; by other bytes it is 0 or 1. BF_CODE if data and parity are not both at least 1 and together at most 256.
+ * BF_LENGTH unless tables has the bytes that bf_rs_tables_length gives, and shards a multiple, but not 0, of data +
+ * parity. */
+uint32_t bf_rs_verify_prepared(size_t data, size_t parity, const uint8_t *tables, size_t tables_length,
+    const uint8_t *shards, size_t shards_length, uint8_t *whole) BF_CHECKED BF_NONNULL(7);
+
+/* Writes the missing shards: shard i is missing where present[i] is 0. BF_CODE if data and parity are not both at
+ * least 1 and together at most 256. BF_LENGTH unless shards has a multiple, but not 0, of data + parity bytes, and
+ * present has data + parity. BF_TOO_FEW_SHARDS unless at least as many entries of present as data are not 0. */
+uint32_t bf_rs_reconstruct(size_t data, size_t parity, uint8_t *shards, size_t shards_length,
+    const uint8_t *present, size_t present_length) BF_CHECKED;
+
+/* Writes the missing shards of data alone. BF_CODE if data and parity are not both at least 1 and together at most
+ * 256. BF_LENGTH unless shards has a multiple, but not 0, of data + parity bytes, and present has data + parity.
+ * BF_TOO_FEW_SHARDS unless at least as many entries of present as data are not 0. */
+uint32_t bf_rs_reconstruct_data(size_t data, size_t parity, uint8_t *shards, size_t shards_length,
+    const uint8_t *present, size_t present_length) BF_CHECKED;
+
+/* ------------------------------------------------------------------------------------------------------------------ */
+/* Reed-Solomon codes over t16 by additive transforms, of thousands of shards: column i of the shards, their word i,
+ * has the values of one polynomial. With 2^n the least power of two that is at least data, it has a degree below
+ * 2^n; shard j of data is its value at point j, shard j of parity that at point 2^n + j, and it is 0 at the points
+ * from data to 2^n. Point p is the sum of Cantor vector b for each set bit b of p, as above. Shards of data stand
+ * one after the other, and so do those of parity, in an array of their own. A call works in space, with as many
+ * columns at once as pays; what that has before does not matter, and behind the call nothing is said of it. */
+
+/* length: how many words of space each call of the code takes: 40 times the least power of two that is at least
+ * data, counted up to a power of two, and parity together. BF_CODE if data and parity are not both at least 1, or
+ * data, counted up to a power of two, and parity are together more than 65536. */
+uint32_t bf_erasure_space(size_t data, size_t parity, uint64_t *length) BF_CHECKED BF_NONNULL(3);
+
+/* parity_shards: the shards of parity of these shards of data. BF_CODE if data and parity are not both at least 1,
+ * or data, counted up to a power of two, and parity are together more than 65536. BF_LENGTH unless shards has data,
+ * and parity_shards parity, times one number of words, which is not 0, and space at least what bf_erasure_space
+ * gives. */
+uint32_t bf_erasure_encode(size_t data, size_t parity, const uint16_t *shards, size_t shards_length,
+    uint16_t *parity_shards, size_t parity_shards_length, uint16_t *space, size_t space_length) BF_CHECKED;
+
+/* whole: 1 where the shards of parity are those of the data, else 0. BF_CODE if data and parity are not both at
+ * least 1, or data, counted up to a power of two, and parity are together more than 65536. BF_LENGTH unless shards
+ * has data, and parity_shards parity, times one number of words, which is not 0, and space at least what
+ * bf_erasure_space gives. */
+uint32_t bf_erasure_verify(size_t data, size_t parity, const uint16_t *shards, size_t shards_length,
+    const uint16_t *parity_shards, size_t parity_shards_length, uint16_t *space, size_t space_length,
+    uint8_t *whole) BF_CHECKED BF_NONNULL(9);
+
+/* Writes the missing shards: shard i, of the data and then of the parity, is missing where present[i] is 0. BF_CODE
+ * if data and parity are not both at least 1, or data, counted up to a power of two, and parity are together more
+ * than 65536. BF_LENGTH unless shards has data, and parity_shards parity, times one number of words, which is not 0,
+ * and space at least what bf_erasure_space gives, and present has data + parity. BF_TOO_FEW_SHARDS unless at least
+ * as many entries of present as data are not 0. It takes 64 KiB of the stack, for the flags of the shards. */
+uint32_t bf_erasure_reconstruct(size_t data, size_t parity, uint16_t *shards, size_t shards_length,
+    uint16_t *parity_shards, size_t parity_shards_length, const uint8_t *present, size_t present_length,
+    uint16_t *space, size_t space_length) BF_CHECKED;
 
 #ifdef __cplusplus
 }

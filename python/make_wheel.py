@@ -1,5 +1,4 @@
-"""Writes the wheel of the Python package: make_wheel.py LIBRARY.so FOLDER. It needs neither a network nor a compiler. The file LIBRARY.cpu
-says for which processor the library was built.
+"""Writes the wheel of the Python package: make_wheel.py LIBRARY.so FOLDER. It needs neither a network nor a compiler.
 
 A wheel is a zip archive (the Python Packaging User Guide, binary distribution format). The same files give the same bytes.
 """
@@ -33,7 +32,6 @@ def main():
     library, folder = map(pathlib.Path, sys.argv[1:])
     files = {f"binary_field/{it.name}": it.read_bytes() for it in sorted((HERE / "binary_field").glob("*")) if it.suffix in (".py", ".typed")}
     files["binary_field/libbinary_field.so"] = library.read_bytes()
-    files["binary_field/libbinary_field.cpu"] = library.with_suffix(".cpu").read_bytes()
     for it in ("LICENSE-MIT", "LICENSE-APACHE"):
         files[f"{INFO}/{it}"] = (HERE.parent / it).read_bytes()
     files[f"{INFO}/METADATA"] = METADATA.encode()

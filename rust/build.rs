@@ -1,5 +1,4 @@
-//! Links the static library: BINARY_FIELD_LIBRARY names the folder of libbinary_field.a, which scripts/build-library makes. The file
-//! libbinary_field.cpu there says for which processor it was built: for x86-64-v3 the crate calls the functions made for that.
+//! Links the static library: BINARY_FIELD_LIBRARY names the folder of libbinary_field.a, which scripts/build-library makes.
 
 use std::env;
 use std::path::{Path, PathBuf};
@@ -8,7 +7,6 @@ const ARCHIVE: &str = "libbinary_field.a";
 
 fn main() {
     println!("cargo::rerun-if-env-changed=BINARY_FIELD_LIBRARY");
-    println!("cargo::rustc-check-cfg=cfg(binary_field_wide)");
     println!("cargo::rustc-check-cfg=cfg(feature, values(\"serde\", \"rand\", \"num-traits\"))");
     let Some(folder) = library() else {
         let named = match env::var("BINARY_FIELD_LIBRARY") {
@@ -23,11 +21,6 @@ fn main() {
     };
     let folder = folder.display();
     println!("cargo::rerun-if-changed={folder}/{ARCHIVE}");
-    println!("cargo::rerun-if-changed={folder}/libbinary_field.cpu");
-    let cpu = std::fs::read_to_string(format!("{folder}/libbinary_field.cpu")).unwrap_or_default();
-    if cpu.trim() == "x86-64-v3" {
-        println!("cargo::rustc-cfg=binary_field_wide");
-    }
     println!("cargo::rustc-link-search=native={folder}");
     println!("cargo::rustc-link-lib=static=binary_field");
 }

@@ -158,8 +158,8 @@ OTHER_FUNCTIONS = [
      "writes the missing shards: shard i, of the data and then of the parity, is missing where present[i] is 0"),
 ]
 
-# Of these there is a second form, bf_NAME_wide. It gives the same, and is made for x86-64-v3, whose vectors have 256 bits: in a library
-# built for x86-64-v2 most of them are the slower form.
+# Of these the proved crate exports a second form too, which gives the same and is made for x86-64-v3, whose vectors have 256 bits. No caller
+# names it: where the library goes by its code for x86-64-v3, the second form stands behind the name of the first (`second_forms`).
 WIDE = [
     "g128_multiply", "g128_multiply_in_place", "g128_multiply_by", "g128_multiply_by_in_place", "g128_add_scaled", "g128_dot_product",
     "g128_butterfly_forward", "g128_butterfly_inverse", "g128_low_stages", "g128_transform", "g128_inverse_transform",
@@ -171,16 +171,38 @@ WIDE = [
     *[f"tag_{name}_{how}" for name in ("ghash", "polyval") for how in ("update", "update_padded", "update_prepared")],
 ]
 
-# These return no status.
+# This returns no status.
 PLAIN_FUNCTIONS = [
     ("version", "uint32_t", "the version of the library, 65536 times the major number, 256 times the minor one, and the patch"),
+]
+
+# These return no status either, and no crate exports them: they stand where the library is made of what is proved.
+CHOICE_FUNCTIONS = [
+    ("processor", "const char *",
+     'the processor whose form of the functions is called: "x86-64-v2", "x86-64-v3" or "aarch64", and never NULL. The form is chosen once, before main, '
+     "as the best that runs on the processor at hand. The environment variable BINARY_FIELD_PROCESSOR=x86-64-v2 lowers that choice, and never raises it"),
 ]
 
 
 def functions():
     """Every function that returns a status: its name without `bf_`, its parameters with their words, and what it computes."""
-    yield from first_functions()
-    yield from wide_functions()
+    for functions in (FIELD_FUNCTIONS, MATRIX_FUNCTIONS):
+        for field in FIELDS:
+            for name, parameters, text in functions:
+                yield f"{field.name}_{name}", typed(parameters, field.word), text
+    yield from other_functions()
+
+
+def other_functions():
+    """Those of no field, of the same form."""
+    for name, parameters, text in OTHER_FUNCTIONS:
+        yield name, [it if len(it) == 3 else (*it, "u64") for it in parameters], text
+
+
+def second_forms():
+    """The pairs of a function that has a second form and of that form, both without `bf_`."""
+    for name in WIDE:
+        yield name, f"{name}_wide"
 
 
 def sentence(text, parameters=()):
@@ -192,20 +214,3 @@ def sentence(text, parameters=()):
 def typed(parameters, word):
     """The parameters of a function of a field, with the field's word."""
     return [(*it, word)[:3] if it[0] not in ("number", "count") else (*it, "u64") for it in parameters]
-
-
-def first_functions():
-    """Those that are no second forms."""
-    for functions in (FIELD_FUNCTIONS, MATRIX_FUNCTIONS):
-        for field in FIELDS:
-            for name, parameters, text in functions:
-                yield f"{field.name}_{name}", typed(parameters, field.word), text
-    for name, parameters, text in OTHER_FUNCTIONS:
-        yield name, [it if len(it) == 3 else (*it, "u64") for it in parameters], text
-
-
-def wide_functions():
-    """The second forms."""
-    named = {name: parameters for name, parameters, _ in first_functions()}
-    for name in WIDE:
-        yield f"{name}_wide", named[name], f"the same as {name}, made for x86-64-v3"

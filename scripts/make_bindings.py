@@ -105,26 +105,29 @@ def rust_function(name, parameters, bits, text):
     """A function that Rust declares, with its comment. A doc comment reads an index in brackets as a link."""
     comment = told(name, parameters, bits, text).replace("[", "\\[").replace("]", "\\]")
     out = [f"    /// {line}\n" for line in textwrap.wrap(comment, 110, break_long_words=False)]
-    if name in c_library.WIDE:
-        out.append(f'    #[cfg_attr(binary_field_wide, link_name = "bf_{name}_wide")]\n')
     rows = "".join(f"        {it},\n" for it in rust_declared(parameters))
     return "".join([*out, f"    pub fn bf_{name}(\n{rows}    ) -> u32;\n"])
 
 
 def rust_functions():
-    """The functions that the crate calls, as Rust declares foreign ones. A second form is linked in place of the first."""
+    """The functions that the crate calls, as Rust declares foreign ones."""
     out = [f"""\
 //! The functions of libbinary_field. {WRITTEN}
 //!
 //! An array is a pointer, which may be null beside a length of 0, and a length that counts elements. What is written overlaps
 //! nothing else of the call. On a status that is not `BF_OK` everything that a function could write is as before, but for `space` and
-//! `places`, in which it works. Where the library was built for x86-64-v3, a function that has a form `_wide` is that form.
+//! `places`, in which it works.
+
+use core::ffi::c_char;
 
 """]
     out += [f"/// {sentence(text)}\npub const {name}: u32 = {value};\n" for name, value, text in c_library.STATUSES]
     out.append('\nunsafe extern "C" {\n')
-    for _, rows in sections():
-        out += [rust_function(name, parameters, bits, text) for name, parameters, text, bits in rows if not name.endswith(("_wide", "_generator"))]
+    for name, _, text in c_library.CHOICE_FUNCTIONS:
+        lines = "".join(f"    /// {line}\n" for line in textwrap.wrap(sentence(text), 110, break_long_words=False))
+        out.append(f"{lines}    pub fn bf_{name}() -> *const c_char;\n")
+    for section in sections():
+        out += [rust_function(name, parameters, bits, text) for name, parameters, text, bits in section.rows if not name.endswith("_generator")]
     return "".join([*out, "}\n"])
 
 

@@ -308,11 +308,11 @@ def other_function(name, parameters, text):
     return function(name, parameters, text, of_width(call, NARROW), clause)
 
 
-def wide_function(name, parameters):
-    """The second form of a function."""
+def wide_function(name, second, parameters):
+    """The second form of a function, by its own name."""
     field_name, own = name.split("_", 1)
     if own in MATRIX_CALLS:
-        return matrix_function(fields.field_named(field_name), f"{own}_wide", parameters, f"the same as `bf_{name}`", WIDE)
+        return matrix_function(fields.field_named(field_name), second.removeprefix(f"{field_name}_"), parameters, f"the same as `bf_{name}`", WIDE)
     if name in OTHER_CALLS:
         _, call, clause = OTHER_CALLS[name]
         called = of_width(call, WIDE)
@@ -320,7 +320,7 @@ def wide_function(name, parameters):
         field = fields.field_named(field_name)
         typed = [(kind, it, WORDS.get(word, word)) for kind, it, word in parameters]
         called, clause = called_on_many(field, own, WIDE), field_clause(CALLS[own][1], field.contract, typed, own.endswith("_in_place"))
-    return function(f"{name}_wide", parameters, f"the same as `bf_{name}`", called, clause)
+    return function(second, parameters, f"the same as `bf_{name}`", called, clause)
 
 
 def brought_in(clauses):
@@ -405,13 +405,13 @@ def main():
         ]
         write(field.name, f"Calls over slices of elements of {field.about}.", functions)
     groups = {it: [] for it in ABOUT}
-    named = {name: parameters for name, parameters, _ in c_library.first_functions()}
-    for name, parameters, text in c_library.first_functions():
+    named = {name: parameters for name, parameters, _ in c_library.functions()}
+    for name, parameters, text in c_library.functions():
         if "_to_" in name:
             groups["changes"].append(change_of_basis(name, parameters, text))
         elif name in OTHER_CALLS:
             groups[OTHER_CALLS[name][0]].append(other_function(name, parameters, text))
-    groups["wide"] = [wide_function(name, named[name]) for name in c_library.WIDE]
+    groups["wide"] = [wide_function(name, second, named[name]) for name, second in c_library.second_forms()]
     for name, functions in groups.items():
         write(name, ABOUT[name], functions)
     write_version()

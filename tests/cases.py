@@ -476,7 +476,7 @@ def empty_cases():
     elements: a call may not go over rows or columns that have none."""
     most = (1 << 64) - 1
     for name, parameters in FUNCTIONS.items():
-        own = name.removesuffix("_wide").partition("_")[2]
+        own = name.partition("_")[2]
         taken = sum(kind == "count" for kind, _, _ in parameters)
         for counts in itertools.product((0, 1 << 63, most), repeat=taken) if taken else ():
             status = "BF_CODE" if name.startswith(("rs_", "erasure_")) else "BF_LENGTH"
@@ -488,14 +488,6 @@ def empty_cases():
             yield made if status == "BF_OK" else refused(made, status)
     # There is no run, whatever the number of the first.
     yield case("g128_low_stages", ([], []), [1] * 4, [1] * 3, most)
-
-
-def with_second_forms(cases):
-    """The cases, and those of each function with a second form again by that."""
-    for it in cases:
-        yield it
-        if it.name in c_library.WIDE:
-            yield dataclasses.replace(it, name=f"{it.name}_wide")
 
 
 def replayed_cases():
@@ -523,7 +515,7 @@ def all_cases():
     for them in (basis_cases, stage_cases, tag_cases, code_cases, erasure_cases, long_cases):
         cases += them(draw)
     worked = [case(name, *values) for name, *values in published.rows()]
-    cases = list(with_second_forms(cases + list(status_cases(cases)) + worked))
+    cases += [*status_cases(cases), *worked]
     missing = FUNCTIONS.keys() - {it.name for it in cases}
     assert not missing, f"no case calls {sorted(missing)}"
     return [*cases, *replayed_cases()]

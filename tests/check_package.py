@@ -7,8 +7,11 @@ import itertools
 import multiprocessing
 import operator
 import os
+import pathlib
 import pickle
 import random
+import subprocess
+import sys
 import threading
 import unittest
 from unittest import mock
@@ -513,6 +516,36 @@ class Bytes(unittest.TestCase):
         many = bf.TransformCode(3000, 1000)
         shards = many.encode(np.frombuffer(random.Random(51).randbytes(6000), np.uint8).reshape(3000, 2))
         self.assertTrue((many.reconstruct([None] * 1000 + list(shards[1000:])) == shards).all())
+
+
+class Processor(unittest.TestCase):
+    """Which form of the library is called."""
+
+    # What a processor has, as Linux names it, that runs the form for x86-64-v3.
+    FLAGS = {"abm", "avx2", "bmi1", "bmi2", "f16c", "fma", "movbe"}
+
+    def named(self, asked):
+        """What a process says that has this in its environment, and nothing where it is None."""
+        environment = {name: it for name, it in os.environ.items() if name != "BINARY_FIELD_PROCESSOR"}
+        if asked is not None:
+            environment["BINARY_FIELD_PROCESSOR"] = asked
+        command = [sys.executable, "-B", "-c", "import binary_field; print(binary_field.processor())"]
+        return subprocess.run(command, env=environment, capture_output=True, text=True, check=True).stdout.strip()
+
+    def test_the_environment_lowers_it_and_never_raises_it(self):
+        own = self.named(None)
+        self.assertEqual([self.named(it) for it in ("x86-64-v3", "x86-64-v4", "aarch64", "")], [own] * 4)
+        self.assertEqual(bf.processor(), self.named(os.environ.get("BINARY_FIELD_PROCESSOR")))
+        maps = pathlib.Path("/proc/self/maps").read_text(encoding="utf-8").splitlines()
+        library = next(it.split(maxsplit=5)[5] for it in maps if "libbinary_field.so" in it)
+        # The names of the forms that it has.
+        names = [it for it in ("aarch64", "x86-64-v2", "x86-64-v3") if it.encode() in pathlib.Path(library).read_bytes()]
+        if len(names) == 1:
+            self.assertEqual([own, self.named("x86-64-v2")], names * 2)
+        else:
+            flags = next((it.split() for it in pathlib.Path("/proc/cpuinfo").read_text(encoding="utf-8").splitlines() if it.startswith("flags")), [])
+            self.assertEqual(names, ["x86-64-v2", "x86-64-v3"])
+            self.assertEqual((own, self.named("x86-64-v2")), (names[self.FLAGS <= set(flags)], "x86-64-v2"))
 
 
 if __name__ == "__main__":

@@ -46,6 +46,7 @@ from ._fields import (
     Rijndael8b,
 )
 from ._functions import VERSION_TEXT as __version__
+from ._library import processor
 from ._poly import Poly, egcd, gcd, irreducible_poly, lagrange_poly
 from ._transforms import (
     butterfly_forward,
@@ -65,6 +66,6 @@ __all__ = [
     "Gf2", "Ghash128", "Poly", "Poly192", "Poly64", "ReedSolomon", "Rijndael8b", "TransformCode", "butterfly_forward", "butterfly_inverse",
     "egcd", "from_powers", "gcd", "gcm_ghash", "gcm_ghash_final", "get_workers", "ghash", "ghash_prepare", "ghash_update", "ghash_update_padded",
     "ghash_update_prepared", "inverse_transform", "irreducible_poly", "lagrange_poly", "linear_map", "low_stages", "polyval", "polyval_prepare",
-    "polyval_update", "polyval_update_padded", "polyval_update_prepared", "set_workers", "tags_are_equal", "to_powers", "transform",
-    "transform_points",
+    "polyval_update", "polyval_update_padded", "polyval_update_prepared", "processor", "set_workers", "tags_are_equal", "to_powers",
+    "transform", "transform_points",
 ]

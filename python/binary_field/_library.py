@@ -1,8 +1,7 @@
 """The library, found and loaded, and calls of its functions.
 
 It is looked for in the folder that the environment variable BINARY_FIELD_LIBRARY names, then beside this file, where a wheel has
-it, and then where the system looks for libraries. Where the file libbinary_field.cpu beside it says that it was built for x86-64-v3, a
-function that has a form made for that processor is that form, which gives the same.
+it, and then where the system looks for libraries. It has the form of its functions that runs best on this processor; `processor` names it.
 """
 
 import ctypes
@@ -35,8 +34,8 @@ TAKEN_WHOLE = ("coefficients", "images")
 EMPTY = ctypes.create_string_buffer(32)
 
 
-def _load() -> dict[str, Any]:
-    """The functions by their names, each with its types."""
+def _load() -> tuple[dict[str, Any], str]:
+    """The functions by their names, each with its types, and the processor whose form of them is called."""
     named = os.environ.get("BINARY_FIELD_LIBRARY")
     beside = pathlib.Path(__file__).with_name("libbinary_field.so")
     path = f"{named}/{beside.name}" if named else str(beside) if beside.exists() else beside.name
@@ -47,24 +46,29 @@ def _load() -> dict[str, Any]:
     library.bf_version.restype = ctypes.c_uint32
     if library.bf_version() != VERSION:
         raise ImportError(f"binary_field: {path} has version {library.bf_version()}, but this package needs {VERSION}")
-    is_wide = _cpu(path) == "x86-64-v3"
-    functions = {name: library[f"bf_{name}_wide" if is_wide and f"{name}_wide" in FUNCTIONS else f"bf_{name}"] for name in FUNCTIONS}
+    functions = {name: library[f"bf_{name}"] for name in FUNCTIONS}
     for name, function in functions.items():
         function.restype = ctypes.c_uint32
         function.argtypes = [it for kind, _, word in FUNCTIONS[name] for it in _types(kind, word)]
-    return functions
-
-
-def _cpu(path: str) -> str:
-    """The processor that the library was built for, or nothing where no file beside it says so."""
-    beside = pathlib.Path(path).with_suffix(".cpu")
-    return beside.read_text(encoding="ascii").strip() if "/" in path and beside.is_file() else ""
+    library.bf_processor.restype = ctypes.c_char_p
+    return functions, library.bf_processor().decode("ascii")
 
 
 def _types(kind: str, word: str) -> list[Any]:
     if kind in ARRAYS:
         return [ctypes.c_void_p, ctypes.c_size_t]
     return [NARROW[word]] if kind == "number" or (kind == "scalar" and word in NARROW) else [ctypes.c_void_p]
+
+
+_FUNCTIONS, _PROCESSOR = _load()
+
+
+def processor() -> str:
+    """The processor whose form of the functions is called: "x86-64-v2", "x86-64-v3" or "aarch64".
+
+    The library chooses it when it is loaded, as the best that runs on this processor. Where the environment variable BINARY_FIELD_PROCESSOR is
+    x86-64-v2 then, that form is taken; the variable never raises the choice. Results are the same by each form."""
+    return _PROCESSOR
 
 
 # Of each function itself, and of each parameter its name, whether it is a plain number, an array, and written, and the type of numpy that
@@ -77,7 +81,7 @@ _CALLED = {
             for kind, parameter, word in FUNCTIONS[name]
         ],
     )
-    for name, function in _load().items()
+    for name, function in _FUNCTIONS.items()
 }
 
 

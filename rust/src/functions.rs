@@ -2,7 +2,9 @@
 //!
 //! An array is a pointer, which may be null beside a length of 0, and a length that counts elements. What is written overlaps
 //! nothing else of the call. On a status that is not `BF_OK` everything that a function could write is as before, but for `space` and
-//! `places`, in which it works. Where the library was built for x86-64-v3, a function that has a form `_wide` is that form.
+//! `places`, in which it works.
+
+use core::ffi::c_char;
 
 /// Success.
 pub const BF_OK: u32 = 0;
@@ -20,6 +22,10 @@ pub const BF_TOO_FEW_SHARDS: u32 = 5;
 pub const BF_UNSOLVABLE: u32 = 6;
 
 unsafe extern "C" {
+    /// The processor whose form of the functions is called: "x86-64-v2", "x86-64-v3" or "aarch64", and never NULL.
+    /// The form is chosen once, before main, as the best that runs on the processor at hand. The environment variable
+    /// BINARY_FIELD_PROCESSOR=x86-64-v2 lowers that choice, and never raises it.
+    pub fn bf_processor() -> *const c_char;
     /// sums: the sum of the elements at each place. BF_LENGTH unless left, right and sums have one length.
     /// BF_NOT_AN_ELEMENT unless each word that is read is below 2.
     pub fn bf_gf2_add(
@@ -621,7 +627,6 @@ unsafe extern "C" {
     ) -> u32;
     /// products: the product of the elements at each place. BF_LENGTH unless left, right and products have one
     /// length.
-    #[cfg_attr(binary_field_wide, link_name = "bf_t16_multiply_wide")]
     pub fn bf_t16_multiply(
         left: *const u16,
         left_length: usize,
@@ -655,7 +660,6 @@ unsafe extern "C" {
         squares_length: usize,
     ) -> u32;
     /// inverses: the inverse of each element, and 0 for 0. BF_LENGTH unless values and inverses have one length.
-    #[cfg_attr(binary_field_wide, link_name = "bf_t16_inverse_wide")]
     pub fn bf_t16_inverse(
         values: *const u16,
         values_length: usize,
@@ -664,7 +668,6 @@ unsafe extern "C" {
     ) -> u32;
     /// inverses: the same as inverse; of few elements of p64 and g128 by one inverse and three products an element.
     /// BF_LENGTH unless values and inverses have one length.
-    #[cfg_attr(binary_field_wide, link_name = "bf_t16_batch_inverse_wide")]
     pub fn bf_t16_batch_inverse(
         values: *const u16,
         values_length: usize,
@@ -720,7 +723,6 @@ unsafe extern "C" {
     ) -> u32;
     /// Multiplies each element of products by the value at its place. BF_LENGTH unless products and values have one
     /// length.
-    #[cfg_attr(binary_field_wide, link_name = "bf_t16_multiply_in_place_wide")]
     pub fn bf_t16_multiply_in_place(
         products: *mut u16,
         products_length: usize,
@@ -739,7 +741,6 @@ unsafe extern "C" {
         values_length: usize,
     ) -> u32;
     /// Leaves the inverse of each element, and 0 of 0.
-    #[cfg_attr(binary_field_wide, link_name = "bf_t16_inverse_in_place_wide")]
     pub fn bf_t16_inverse_in_place(
         values: *mut u16,
         values_length: usize,
@@ -766,7 +767,6 @@ unsafe extern "C" {
     ) -> u32;
     /// products: the product of the elements at each place. BF_LENGTH unless left, right and products have one
     /// length.
-    #[cfg_attr(binary_field_wide, link_name = "bf_t32_multiply_wide")]
     pub fn bf_t32_multiply(
         left: *const u32,
         left_length: usize,
@@ -800,7 +800,6 @@ unsafe extern "C" {
         squares_length: usize,
     ) -> u32;
     /// inverses: the inverse of each element, and 0 for 0. BF_LENGTH unless values and inverses have one length.
-    #[cfg_attr(binary_field_wide, link_name = "bf_t32_inverse_wide")]
     pub fn bf_t32_inverse(
         values: *const u32,
         values_length: usize,
@@ -809,7 +808,6 @@ unsafe extern "C" {
     ) -> u32;
     /// inverses: the same as inverse; of few elements of p64 and g128 by one inverse and three products an element.
     /// BF_LENGTH unless values and inverses have one length.
-    #[cfg_attr(binary_field_wide, link_name = "bf_t32_batch_inverse_wide")]
     pub fn bf_t32_batch_inverse(
         values: *const u32,
         values_length: usize,
@@ -865,7 +863,6 @@ unsafe extern "C" {
     ) -> u32;
     /// Multiplies each element of products by the value at its place. BF_LENGTH unless products and values have one
     /// length.
-    #[cfg_attr(binary_field_wide, link_name = "bf_t32_multiply_in_place_wide")]
     pub fn bf_t32_multiply_in_place(
         products: *mut u32,
         products_length: usize,
@@ -884,7 +881,6 @@ unsafe extern "C" {
         values_length: usize,
     ) -> u32;
     /// Leaves the inverse of each element, and 0 of 0.
-    #[cfg_attr(binary_field_wide, link_name = "bf_t32_inverse_in_place_wide")]
     pub fn bf_t32_inverse_in_place(
         values: *mut u32,
         values_length: usize,
@@ -911,7 +907,6 @@ unsafe extern "C" {
     ) -> u32;
     /// products: the product of the elements at each place. BF_LENGTH unless left, right and products have one
     /// length.
-    #[cfg_attr(binary_field_wide, link_name = "bf_t64_multiply_wide")]
     pub fn bf_t64_multiply(
         left: *const u64,
         left_length: usize,
@@ -945,7 +940,6 @@ unsafe extern "C" {
         squares_length: usize,
     ) -> u32;
     /// inverses: the inverse of each element, and 0 for 0. BF_LENGTH unless values and inverses have one length.
-    #[cfg_attr(binary_field_wide, link_name = "bf_t64_inverse_wide")]
     pub fn bf_t64_inverse(
         values: *const u64,
         values_length: usize,
@@ -954,7 +948,6 @@ unsafe extern "C" {
     ) -> u32;
     /// inverses: the same as inverse; of few elements of p64 and g128 by one inverse and three products an element.
     /// BF_LENGTH unless values and inverses have one length.
-    #[cfg_attr(binary_field_wide, link_name = "bf_t64_batch_inverse_wide")]
     pub fn bf_t64_batch_inverse(
         values: *const u64,
         values_length: usize,
@@ -1010,7 +1003,6 @@ unsafe extern "C" {
     ) -> u32;
     /// Multiplies each element of products by the value at its place. BF_LENGTH unless products and values have one
     /// length.
-    #[cfg_attr(binary_field_wide, link_name = "bf_t64_multiply_in_place_wide")]
     pub fn bf_t64_multiply_in_place(
         products: *mut u64,
         products_length: usize,
@@ -1029,7 +1021,6 @@ unsafe extern "C" {
         values_length: usize,
     ) -> u32;
     /// Leaves the inverse of each element, and 0 of 0.
-    #[cfg_attr(binary_field_wide, link_name = "bf_t64_inverse_in_place_wide")]
     pub fn bf_t64_inverse_in_place(
         values: *mut u64,
         values_length: usize,
@@ -1056,7 +1047,6 @@ unsafe extern "C" {
     ) -> u32;
     /// products: the product of the elements at each place. BF_LENGTH unless left, right and products have one
     /// length.
-    #[cfg_attr(binary_field_wide, link_name = "bf_t128_multiply_wide")]
     pub fn bf_t128_multiply(
         left: *const [u64; 2],
         left_length: usize,
@@ -1090,7 +1080,6 @@ unsafe extern "C" {
         squares_length: usize,
     ) -> u32;
     /// inverses: the inverse of each element, and 0 for 0. BF_LENGTH unless values and inverses have one length.
-    #[cfg_attr(binary_field_wide, link_name = "bf_t128_inverse_wide")]
     pub fn bf_t128_inverse(
         values: *const [u64; 2],
         values_length: usize,
@@ -1099,7 +1088,6 @@ unsafe extern "C" {
     ) -> u32;
     /// inverses: the same as inverse; of few elements of p64 and g128 by one inverse and three products an element.
     /// BF_LENGTH unless values and inverses have one length.
-    #[cfg_attr(binary_field_wide, link_name = "bf_t128_batch_inverse_wide")]
     pub fn bf_t128_batch_inverse(
         values: *const [u64; 2],
         values_length: usize,
@@ -1155,7 +1143,6 @@ unsafe extern "C" {
     ) -> u32;
     /// Multiplies each element of products by the value at its place. BF_LENGTH unless products and values have one
     /// length.
-    #[cfg_attr(binary_field_wide, link_name = "bf_t128_multiply_in_place_wide")]
     pub fn bf_t128_multiply_in_place(
         products: *mut [u64; 2],
         products_length: usize,
@@ -1174,7 +1161,6 @@ unsafe extern "C" {
         values_length: usize,
     ) -> u32;
     /// Leaves the inverse of each element, and 0 of 0.
-    #[cfg_attr(binary_field_wide, link_name = "bf_t128_inverse_in_place_wide")]
     pub fn bf_t128_inverse_in_place(
         values: *mut [u64; 2],
         values_length: usize,
@@ -1341,7 +1327,6 @@ unsafe extern "C" {
     ) -> u32;
     /// products: the product of the elements at each place. BF_LENGTH unless left, right and products have one
     /// length.
-    #[cfg_attr(binary_field_wide, link_name = "bf_p64_multiply_wide")]
     pub fn bf_p64_multiply(
         left: *const u64,
         left_length: usize,
@@ -1375,7 +1360,6 @@ unsafe extern "C" {
         squares_length: usize,
     ) -> u32;
     /// inverses: the inverse of each element, and 0 for 0. BF_LENGTH unless values and inverses have one length.
-    #[cfg_attr(binary_field_wide, link_name = "bf_p64_inverse_wide")]
     pub fn bf_p64_inverse(
         values: *const u64,
         values_length: usize,
@@ -1384,7 +1368,6 @@ unsafe extern "C" {
     ) -> u32;
     /// inverses: the same as inverse; of few elements of p64 and g128 by one inverse and three products an element.
     /// BF_LENGTH unless values and inverses have one length.
-    #[cfg_attr(binary_field_wide, link_name = "bf_p64_batch_inverse_wide")]
     pub fn bf_p64_batch_inverse(
         values: *const u64,
         values_length: usize,
@@ -1440,7 +1423,6 @@ unsafe extern "C" {
     ) -> u32;
     /// Multiplies each element of products by the value at its place. BF_LENGTH unless products and values have one
     /// length.
-    #[cfg_attr(binary_field_wide, link_name = "bf_p64_multiply_in_place_wide")]
     pub fn bf_p64_multiply_in_place(
         products: *mut u64,
         products_length: usize,
@@ -1459,7 +1441,6 @@ unsafe extern "C" {
         values_length: usize,
     ) -> u32;
     /// Leaves the inverse of each element, and 0 of 0.
-    #[cfg_attr(binary_field_wide, link_name = "bf_p64_inverse_in_place_wide")]
     pub fn bf_p64_inverse_in_place(
         values: *mut u64,
         values_length: usize,
@@ -1486,7 +1467,6 @@ unsafe extern "C" {
     ) -> u32;
     /// products: the product of the elements at each place. BF_LENGTH unless left, right and products have one
     /// length.
-    #[cfg_attr(binary_field_wide, link_name = "bf_g128_multiply_wide")]
     pub fn bf_g128_multiply(
         left: *const [u64; 2],
         left_length: usize,
@@ -1496,7 +1476,6 @@ unsafe extern "C" {
         products_length: usize,
     ) -> u32;
     /// products: the product of each element and the scalar. BF_LENGTH unless values and products have one length.
-    #[cfg_attr(binary_field_wide, link_name = "bf_g128_multiply_by_wide")]
     pub fn bf_g128_multiply_by(
         values: *const [u64; 2],
         values_length: usize,
@@ -1506,7 +1485,6 @@ unsafe extern "C" {
     ) -> u32;
     /// Adds to each element of sums the scalar times the value at its place. BF_LENGTH unless sums and values have
     /// one length.
-    #[cfg_attr(binary_field_wide, link_name = "bf_g128_add_scaled_wide")]
     pub fn bf_g128_add_scaled(
         sums: *mut [u64; 2],
         sums_length: usize,
@@ -1522,7 +1500,6 @@ unsafe extern "C" {
         squares_length: usize,
     ) -> u32;
     /// inverses: the inverse of each element, and 0 for 0. BF_LENGTH unless values and inverses have one length.
-    #[cfg_attr(binary_field_wide, link_name = "bf_g128_inverse_wide")]
     pub fn bf_g128_inverse(
         values: *const [u64; 2],
         values_length: usize,
@@ -1531,7 +1508,6 @@ unsafe extern "C" {
     ) -> u32;
     /// inverses: the same as inverse; of few elements of p64 and g128 by one inverse and three products an element.
     /// BF_LENGTH unless values and inverses have one length.
-    #[cfg_attr(binary_field_wide, link_name = "bf_g128_batch_inverse_wide")]
     pub fn bf_g128_batch_inverse(
         values: *const [u64; 2],
         values_length: usize,
@@ -1561,7 +1537,6 @@ unsafe extern "C" {
         product: *mut [u64; 2],
     ) -> u32;
     /// sum: the sum of the products at each place, 0 of none. BF_LENGTH unless left and right have one length.
-    #[cfg_attr(binary_field_wide, link_name = "bf_g128_dot_product_wide")]
     pub fn bf_g128_dot_product(
         left: *const [u64; 2],
         left_length: usize,
@@ -1588,7 +1563,6 @@ unsafe extern "C" {
     ) -> u32;
     /// Multiplies each element of products by the value at its place. BF_LENGTH unless products and values have one
     /// length.
-    #[cfg_attr(binary_field_wide, link_name = "bf_g128_multiply_in_place_wide")]
     pub fn bf_g128_multiply_in_place(
         products: *mut [u64; 2],
         products_length: usize,
@@ -1596,7 +1570,6 @@ unsafe extern "C" {
         values_length: usize,
     ) -> u32;
     /// Multiplies each element by the scalar.
-    #[cfg_attr(binary_field_wide, link_name = "bf_g128_multiply_by_in_place_wide")]
     pub fn bf_g128_multiply_by_in_place(
         values: *mut [u64; 2],
         values_length: usize,
@@ -1608,7 +1581,6 @@ unsafe extern "C" {
         values_length: usize,
     ) -> u32;
     /// Leaves the inverse of each element, and 0 of 0.
-    #[cfg_attr(binary_field_wide, link_name = "bf_g128_inverse_in_place_wide")]
     pub fn bf_g128_inverse_in_place(
         values: *mut [u64; 2],
         values_length: usize,
@@ -2591,7 +2563,6 @@ unsafe extern "C" {
     ) -> u32;
     /// product: the product of left, of rows rows of inner elements, and right, of inner rows of columns elements.
     /// BF_LENGTH unless left has rows * inner elements, right inner * columns, and product rows * columns.
-    #[cfg_attr(binary_field_wide, link_name = "bf_g128_matrix_multiply_wide")]
     pub fn bf_g128_matrix_multiply(
         left: *const [u64; 2],
         left_length: usize,
@@ -2606,7 +2577,6 @@ unsafe extern "C" {
     /// Brings a matrix of rows rows of columns elements to reduced row echelon form; rank is its rank, the first rank
     /// of the rows places of pivots become the columns of its leading entries, and the others stay. BF_LENGTH unless
     /// matrix has rows * columns elements, and pivots rows places.
-    #[cfg_attr(binary_field_wide, link_name = "bf_g128_matrix_row_reduce_wide")]
     pub fn bf_g128_matrix_row_reduce(
         matrix: *mut [u64; 2],
         matrix_length: usize,
@@ -2619,7 +2589,6 @@ unsafe extern "C" {
     /// rank: the rank of a matrix of rows rows of columns elements, in as much space and rows places, which may be
     /// written whatever the status. BF_LENGTH unless matrix and space have rows * columns elements, and places has
     /// rows places.
-    #[cfg_attr(binary_field_wide, link_name = "bf_g128_matrix_rank_wide")]
     pub fn bf_g128_matrix_rank(
         matrix: *const [u64; 2],
         matrix_length: usize,
@@ -2633,7 +2602,6 @@ unsafe extern "C" {
     ) -> u32;
     /// determinant: the determinant of a matrix of size rows of size elements, in as much space, which may be written
     /// whatever the status; 1 of no rows. BF_LENGTH unless matrix and space have size * size elements.
-    #[cfg_attr(binary_field_wide, link_name = "bf_g128_matrix_determinant_wide")]
     pub fn bf_g128_matrix_determinant(
         matrix: *const [u64; 2],
         matrix_length: usize,
@@ -2645,7 +2613,6 @@ unsafe extern "C" {
     /// inverse: the inverse of a matrix of size rows of size elements, in space for two of these and size places,
     /// which may be written whatever the status. BF_LENGTH unless matrix and inverse have size * size elements, space
     /// 2 * size * size, and places size places. BF_UNSOLVABLE unless the matrix has an inverse.
-    #[cfg_attr(binary_field_wide, link_name = "bf_g128_matrix_inverse_wide")]
     pub fn bf_g128_matrix_inverse(
         matrix: *const [u64; 2],
         matrix_length: usize,
@@ -2661,7 +2628,6 @@ unsafe extern "C" {
     /// columns + 1 elements and rows places, which may be written whatever the status; an unknown that the others
     /// leave open is 0. BF_LENGTH unless matrix has rows * columns elements, right rows, solution columns, space rows
     /// * (columns + 1), and places rows places. BF_UNSOLVABLE unless there is a solution.
-    #[cfg_attr(binary_field_wide, link_name = "bf_g128_matrix_solve_wide")]
     pub fn bf_g128_matrix_solve(
         matrix: *const [u64; 2],
         matrix_length: usize,
@@ -2826,7 +2792,6 @@ unsafe extern "C" {
         mapped_length: usize,
     ) -> u32;
     /// low += scalar * high, and then high += low, at each place. BF_LENGTH unless low and high have one length.
-    #[cfg_attr(binary_field_wide, link_name = "bf_g128_butterfly_forward_wide")]
     pub fn bf_g128_butterfly_forward(
         low: *mut [u64; 2],
         low_length: usize,
@@ -2835,7 +2800,6 @@ unsafe extern "C" {
         scalar: *const [u64; 2],
     ) -> u32;
     /// high += low, and then low += scalar * high, at each place. BF_LENGTH unless low and high have one length.
-    #[cfg_attr(binary_field_wide, link_name = "bf_g128_butterfly_inverse_wide")]
     pub fn bf_g128_butterfly_inverse(
         low: *mut [u64; 2],
         low_length: usize,
@@ -2848,7 +2812,6 @@ unsafe extern "C" {
     /// the number behind the last run. BF_LENGTH unless values has a multiple of 16, shifts 4 and basis 3 to 128;
     /// where there are values, first_run and the number of runs are together at most 2 to the power of 3 less than
     /// the length of basis.
-    #[cfg_attr(binary_field_wide, link_name = "bf_g128_low_stages_wide")]
     pub fn bf_g128_low_stages(
         values: *mut [u64; 2],
         values_length: usize,
@@ -2860,71 +2823,69 @@ unsafe extern "C" {
     ) -> u32;
     /// The value at each of 2^m points, m from 0 to 40, of the polynomial with these coefficients in the basis of
     /// subspace polynomials. BF_LENGTH unless values has 2^m elements, for an m from 0 to 40.
-    #[cfg_attr(binary_field_wide, link_name = "bf_g128_transform_wide")]
     pub fn bf_g128_transform(
         values: *mut [u64; 2],
         values_length: usize,
         shift: *const [u64; 2],
     ) -> u32;
-    /// The coefficients that g128_transform takes to these values. BF_LENGTH unless values has 2^m elements, for an m
-    /// from 0 to 40.
-    #[cfg_attr(binary_field_wide, link_name = "bf_g128_inverse_transform_wide")]
+    /// The coefficients that bf_g128_transform takes to these values. BF_LENGTH unless values has 2^m elements, for
+    /// an m from 0 to 40.
     pub fn bf_g128_inverse_transform(
         values: *mut [u64; 2],
         values_length: usize,
         shift: *const [u64; 2],
     ) -> u32;
-    /// The same as g128_transform, over t16; it is fastest where the shift is 0 or below 65536. BF_LENGTH unless
+    /// The same as bf_g128_transform, over t16; it is fastest where the shift is 0 or below 65536. BF_LENGTH unless
     /// values has 2^m elements, for an m from 0 to 16.
     pub fn bf_t16_transform(
         values: *mut u16,
         values_length: usize,
         shift: u16,
     ) -> u32;
-    /// The coefficients that t16_transform takes to these values. BF_LENGTH unless values has 2^m elements, for an m
-    /// from 0 to 16.
+    /// The coefficients that bf_t16_transform takes to these values. BF_LENGTH unless values has 2^m elements, for an
+    /// m from 0 to 16.
     pub fn bf_t16_inverse_transform(
         values: *mut u16,
         values_length: usize,
         shift: u16,
     ) -> u32;
-    /// The same as g128_transform, over t32; it is fastest where the shift is 0 or below 65536. BF_LENGTH unless
+    /// The same as bf_g128_transform, over t32; it is fastest where the shift is 0 or below 65536. BF_LENGTH unless
     /// values has 2^m elements, for an m from 0 to 32.
     pub fn bf_t32_transform(
         values: *mut u32,
         values_length: usize,
         shift: u32,
     ) -> u32;
-    /// The coefficients that t32_transform takes to these values. BF_LENGTH unless values has 2^m elements, for an m
-    /// from 0 to 32.
+    /// The coefficients that bf_t32_transform takes to these values. BF_LENGTH unless values has 2^m elements, for an
+    /// m from 0 to 32.
     pub fn bf_t32_inverse_transform(
         values: *mut u32,
         values_length: usize,
         shift: u32,
     ) -> u32;
-    /// The same as g128_transform, over t64; it is fastest where the shift is 0 or below 65536. BF_LENGTH unless
+    /// The same as bf_g128_transform, over t64; it is fastest where the shift is 0 or below 65536. BF_LENGTH unless
     /// values has 2^m elements, for an m from 0 to 40.
     pub fn bf_t64_transform(
         values: *mut u64,
         values_length: usize,
         shift: u64,
     ) -> u32;
-    /// The coefficients that t64_transform takes to these values. BF_LENGTH unless values has 2^m elements, for an m
-    /// from 0 to 40.
+    /// The coefficients that bf_t64_transform takes to these values. BF_LENGTH unless values has 2^m elements, for an
+    /// m from 0 to 40.
     pub fn bf_t64_inverse_transform(
         values: *mut u64,
         values_length: usize,
         shift: u64,
     ) -> u32;
-    /// The same as g128_transform, over t128; it is fastest where the shift is 0 or below 65536. BF_LENGTH unless
+    /// The same as bf_g128_transform, over t128; it is fastest where the shift is 0 or below 65536. BF_LENGTH unless
     /// values has 2^m elements, for an m from 0 to 40.
     pub fn bf_t128_transform(
         values: *mut [u64; 2],
         values_length: usize,
         shift: *const [u64; 2],
     ) -> u32;
-    /// The coefficients that t128_transform takes to these values. BF_LENGTH unless values has 2^m elements, for an m
-    /// from 0 to 40.
+    /// The coefficients that bf_t128_transform takes to these values. BF_LENGTH unless values has 2^m elements, for
+    /// an m from 0 to 40.
     pub fn bf_t128_inverse_transform(
         values: *mut [u64; 2],
         values_length: usize,
@@ -2932,7 +2893,6 @@ unsafe extern "C" {
     ) -> u32;
     /// hash: GHASH of the message (NIST SP 800-38D), zeros added to whole blocks; key and hash have 16 bytes.
     /// BF_LENGTH unless key and hash have 16 bytes.
-    #[cfg_attr(binary_field_wide, link_name = "bf_tag_ghash_wide")]
     pub fn bf_tag_ghash(
         key: *const u8,
         key_length: usize,
@@ -2943,7 +2903,6 @@ unsafe extern "C" {
     ) -> u32;
     /// hash: POLYVAL of the message (RFC 8452), zeros added to whole blocks; key and hash have 16 bytes. BF_LENGTH
     /// unless key and hash have 16 bytes.
-    #[cfg_attr(binary_field_wide, link_name = "bf_tag_polyval_wide")]
     pub fn bf_tag_polyval(
         key: *const u8,
         key_length: usize,
@@ -2955,7 +2914,6 @@ unsafe extern "C" {
     /// hash: the hash of GCM over associated data and ciphertext, each below 2^61 bytes, with the block of their
     /// lengths; key and hash have 16 bytes. BF_LENGTH unless key and hash have 16 bytes, and associated and
     /// ciphertext below 2^61 each.
-    #[cfg_attr(binary_field_wide, link_name = "bf_tag_gcm_ghash_wide")]
     pub fn bf_tag_gcm_ghash(
         key: *const u8,
         key_length: usize,
@@ -2968,7 +2926,6 @@ unsafe extern "C" {
     ) -> u32;
     /// GHASH of more whole blocks: hash is that of the blocks before, and then that of these too; key and hash have
     /// 16 bytes. BF_LENGTH unless key and hash have 16 bytes, and blocks a multiple of 16.
-    #[cfg_attr(binary_field_wide, link_name = "bf_tag_ghash_update_wide")]
     pub fn bf_tag_ghash_update(
         key: *const u8,
         key_length: usize,
@@ -2979,7 +2936,6 @@ unsafe extern "C" {
     ) -> u32;
     /// GHASH of more bytes, zeros added to whole blocks: hash is that of the blocks before, and then that of these
     /// too; key and hash have 16 bytes. BF_LENGTH unless key and hash have 16 bytes.
-    #[cfg_attr(binary_field_wide, link_name = "bf_tag_ghash_update_padded_wide")]
     pub fn bf_tag_ghash_update_padded(
         key: *const u8,
         key_length: usize,
@@ -2988,7 +2944,7 @@ unsafe extern "C" {
         hash: *mut u8,
         hash_length: usize,
     ) -> u32;
-    /// prepared: what hashes under the key go by, for tag_ghash_update_prepared: the element by which the field
+    /// prepared: what hashes under the key go by, for bf_tag_ghash_update_prepared: the element by which the field
     /// multiplies for it, and its powers up to the fourth; key has 16 bytes, and prepared 64. BF_LENGTH unless key
     /// has 16 bytes, and prepared 64.
     pub fn bf_tag_ghash_prepare(
@@ -2997,10 +2953,9 @@ unsafe extern "C" {
         prepared: *mut u8,
         prepared_length: usize,
     ) -> u32;
-    /// The same as tag_ghash_update_padded, by what tag_ghash_prepare wrote for the key; by other bytes it writes 16
-    /// bytes of which nothing is said; prepared has 64 bytes, and hash 16. BF_LENGTH unless prepared has 64 bytes,
-    /// and hash 16.
-    #[cfg_attr(binary_field_wide, link_name = "bf_tag_ghash_update_prepared_wide")]
+    /// The same as bf_tag_ghash_update_padded, by what bf_tag_ghash_prepare wrote for the key; by other bytes it
+    /// writes 16 bytes of which nothing is said; prepared has 64 bytes, and hash 16. BF_LENGTH unless prepared has 64
+    /// bytes, and hash 16.
     pub fn bf_tag_ghash_update_prepared(
         prepared: *const u8,
         prepared_length: usize,
@@ -3011,7 +2966,6 @@ unsafe extern "C" {
     ) -> u32;
     /// POLYVAL of more whole blocks: hash is that of the blocks before, and then that of these too; key and hash have
     /// 16 bytes. BF_LENGTH unless key and hash have 16 bytes, and blocks a multiple of 16.
-    #[cfg_attr(binary_field_wide, link_name = "bf_tag_polyval_update_wide")]
     pub fn bf_tag_polyval_update(
         key: *const u8,
         key_length: usize,
@@ -3022,7 +2976,6 @@ unsafe extern "C" {
     ) -> u32;
     /// POLYVAL of more bytes, zeros added to whole blocks: hash is that of the blocks before, and then that of these
     /// too; key and hash have 16 bytes. BF_LENGTH unless key and hash have 16 bytes.
-    #[cfg_attr(binary_field_wide, link_name = "bf_tag_polyval_update_padded_wide")]
     pub fn bf_tag_polyval_update_padded(
         key: *const u8,
         key_length: usize,
@@ -3031,7 +2984,7 @@ unsafe extern "C" {
         hash: *mut u8,
         hash_length: usize,
     ) -> u32;
-    /// prepared: what hashes under the key go by, for tag_polyval_update_prepared: the element by which the field
+    /// prepared: what hashes under the key go by, for bf_tag_polyval_update_prepared: the element by which the field
     /// multiplies for it, and its powers up to the fourth; key has 16 bytes, and prepared 64. BF_LENGTH unless key
     /// has 16 bytes, and prepared 64.
     pub fn bf_tag_polyval_prepare(
@@ -3040,10 +2993,9 @@ unsafe extern "C" {
         prepared: *mut u8,
         prepared_length: usize,
     ) -> u32;
-    /// The same as tag_polyval_update_padded, by what tag_polyval_prepare wrote for the key; by other bytes it writes
-    /// 16 bytes of which nothing is said; prepared has 64 bytes, and hash 16. BF_LENGTH unless prepared has 64 bytes,
-    /// and hash 16.
-    #[cfg_attr(binary_field_wide, link_name = "bf_tag_polyval_update_prepared_wide")]
+    /// The same as bf_tag_polyval_update_padded, by what bf_tag_polyval_prepare wrote for the key; by other bytes it
+    /// writes 16 bytes of which nothing is said; prepared has 64 bytes, and hash 16. BF_LENGTH unless prepared has 64
+    /// bytes, and hash 16.
     pub fn bf_tag_polyval_update_prepared(
         prepared: *const u8,
         prepared_length: usize,
@@ -3073,24 +3025,6 @@ unsafe extern "C" {
         right_length: usize,
         equal: *mut u8,
     ) -> u32;
-    /// Writes the shards of parity, which stand behind those of data; all shards stand one after the other and have
-    /// one size. BF_CODE if data and parity are not both at least 1 and together at most 256. BF_LENGTH unless shards
-    /// has a multiple, but not 0, of data + parity bytes.
-    pub fn bf_rs_encode(
-        data: usize,
-        parity: usize,
-        shards: *mut u8,
-        shards_length: usize,
-    ) -> u32;
-    /// whole: 1 where the shards of parity are those of the data, else 0. BF_CODE if data and parity are not both at
-    /// least 1 and together at most 256. BF_LENGTH unless shards has a multiple, but not 0, of data + parity bytes.
-    pub fn bf_rs_verify(
-        data: usize,
-        parity: usize,
-        shards: *const u8,
-        shards_length: usize,
-        whole: *mut u8,
-    ) -> u32;
     /// length: how many bytes the tables of the code take: 32 for each pair of a shard of data and one of parity,
     /// parity counted up to a multiple of 4. BF_CODE if data and parity are not both at least 1 and together at most
     /// 256.
@@ -3099,8 +3033,8 @@ unsafe extern "C" {
         parity: usize,
         length: *mut u64,
     ) -> u32;
-    /// tables: the tables of the code, by which rs_encode_prepared and rs_verify_prepared work; they are read faster
-    /// from a multiple of 16 on. BF_CODE if data and parity are not both at least 1 and together at most 256.
+    /// tables: the tables of the code, by which bf_rs_encode_prepared and bf_rs_verify_prepared work; they are read
+    /// faster from a multiple of 16 on. BF_CODE if data and parity are not both at least 1 and together at most 256.
     /// BF_LENGTH unless tables has the bytes that bf_rs_tables_length gives.
     pub fn bf_rs_prepare(
         data: usize,
@@ -3108,34 +3042,9 @@ unsafe extern "C" {
         tables: *mut u8,
         tables_length: usize,
     ) -> u32;
-    /// Writes the shards of parity, as rs_encode does, by the tables that rs_prepare wrote for this code; by other
-    /// bytes it writes parity of which nothing is said, and the data stay. BF_CODE if data and parity are not both at
-    /// least 1 and together at most 256. BF_LENGTH unless tables has the bytes that bf_rs_tables_length gives, and
-    /// shards a multiple, but not 0, of data + parity.
-    pub fn bf_rs_encode_prepared(
-        data: usize,
-        parity: usize,
-        tables: *const u8,
-        tables_length: usize,
-        shards: *mut u8,
-        shards_length: usize,
-    ) -> u32;
-    /// whole: 1 where the shards of parity are those of the data, else 0, by the tables that rs_prepare wrote for
-    /// this code; by other bytes it is 0 or 1. BF_CODE if data and parity are not both at least 1 and together at
-    /// most 256. BF_LENGTH unless tables has the bytes that bf_rs_tables_length gives, and shards a multiple, but not
-    /// 0, of data + parity.
-    pub fn bf_rs_verify_prepared(
-        data: usize,
-        parity: usize,
-        tables: *const u8,
-        tables_length: usize,
-        shards: *const u8,
-        shards_length: usize,
-        whole: *mut u8,
-    ) -> u32;
-    /// Adds to sums what a shard of data is in a shard of parity, by the tables that rs_prepare wrote for this code;
-    /// once each shard of data was added to zeros, in any order, sums is that shard of parity. BF_CODE if data and
-    /// parity are not both at least 1 and together at most 256. BF_LENGTH unless tables has the bytes that
+    /// Adds to sums what a shard of data is in a shard of parity, by the tables that bf_rs_prepare wrote for this
+    /// code; once each shard of data was added to zeros, in any order, sums is that shard of parity. BF_CODE if data
+    /// and parity are not both at least 1 and together at most 256. BF_LENGTH unless tables has the bytes that
     /// bf_rs_tables_length gives, data_shard is below data and parity_shard below parity, and shard and sums have one
     /// length.
     pub fn bf_rs_add_shard(
@@ -3149,6 +3058,49 @@ unsafe extern "C" {
         shard_length: usize,
         sums: *mut u8,
         sums_length: usize,
+    ) -> u32;
+    /// Writes the shards of parity, which stand behind those of data; all shards stand one after the other and have
+    /// one size. BF_CODE if data and parity are not both at least 1 and together at most 256. BF_LENGTH unless shards
+    /// has a multiple, but not 0, of data + parity bytes.
+    pub fn bf_rs_encode(
+        data: usize,
+        parity: usize,
+        shards: *mut u8,
+        shards_length: usize,
+    ) -> u32;
+    /// Writes the shards of parity, as bf_rs_encode does, by the tables that bf_rs_prepare wrote for this code; by
+    /// other bytes it writes parity of which nothing is said, and the data stay. BF_CODE if data and parity are not
+    /// both at least 1 and together at most 256. BF_LENGTH unless tables has the bytes that bf_rs_tables_length
+    /// gives, and shards a multiple, but not 0, of data + parity.
+    pub fn bf_rs_encode_prepared(
+        data: usize,
+        parity: usize,
+        tables: *const u8,
+        tables_length: usize,
+        shards: *mut u8,
+        shards_length: usize,
+    ) -> u32;
+    /// whole: 1 where the shards of parity are those of the data, else 0. BF_CODE if data and parity are not both at
+    /// least 1 and together at most 256. BF_LENGTH unless shards has a multiple, but not 0, of data + parity bytes.
+    pub fn bf_rs_verify(
+        data: usize,
+        parity: usize,
+        shards: *const u8,
+        shards_length: usize,
+        whole: *mut u8,
+    ) -> u32;
+    /// whole: 1 where the shards of parity are those of the data, else 0, by the tables that bf_rs_prepare wrote for
+    /// this code; by other bytes it is 0 or 1. BF_CODE if data and parity are not both at least 1 and together at
+    /// most 256. BF_LENGTH unless tables has the bytes that bf_rs_tables_length gives, and shards a multiple, but not
+    /// 0, of data + parity.
+    pub fn bf_rs_verify_prepared(
+        data: usize,
+        parity: usize,
+        tables: *const u8,
+        tables_length: usize,
+        shards: *const u8,
+        shards_length: usize,
+        whole: *mut u8,
     ) -> u32;
     /// Writes the missing shards: shard i is missing where present\[i\] is 0. BF_CODE if data and parity are not both
     /// at least 1 and together at most 256. BF_LENGTH unless shards has a multiple, but not 0, of data + parity

@@ -43,6 +43,7 @@ mod maps;
 mod matrices;
 mod packed;
 pub mod poly_basis;
+mod processor;
 mod ring;
 mod space;
 mod text;
@@ -66,6 +67,7 @@ pub use maps::{
 };
 pub use matrices::Matrices;
 pub use packed::{Packed, PackedGhash128, PackedRijndael8b, PackedValue};
+pub use processor::processor;
 pub use ring::{Powers, PrimeCharacteristicRing};
 pub use space::{Algebra, BasedVectorSpace, ExtensionField, HasFrobenius, HasSubfield, TowerLevel};
 pub use text::ParseError;

@@ -12,6 +12,20 @@ use binary_field::{BinaryField128, Gf2, Ghash128, Poly64, Poly192, Rijndael8b, T
 use binary_field::{PrimeCharacteristicRing, RawDataSerializable};
 use drawn::Draw;
 
+// The form for x86-64-v3 is called only where the processor has vectors of 256 bits, and there is one form for ARM.
+#[test]
+fn the_processor_runs_the_form_that_is_called() {
+    #[cfg(target_arch = "x86_64")]
+    let forms = if std::is_x86_feature_detected!("avx2") {
+        vec!["x86-64-v2", "x86-64-v3"]
+    } else {
+        vec!["x86-64-v2"]
+    };
+    #[cfg(not(target_arch = "x86_64"))]
+    let forms = vec!["aarch64"];
+    assert!(forms.contains(&binary_field::processor()));
+}
+
 // A number of two words.
 fn wide(draw: &mut Draw) -> u128 {
     u128::from(draw.next()) << 64 | u128::from(draw.next())
