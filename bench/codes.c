@@ -1,10 +1,12 @@
 /* Erasure codes by additive transforms, over words of 16 bits, on one core: gigabytes of data a second.
  *
- *   gcc -O2 -Iinclude -o codes bench/codes.c crates/binary_field_c/out/libbinary_field_c.a && ./codes [SAMPLES] [spread]
+ *   gcc -O2 -Iinclude -o codes bench/codes.c build/lib/libbinary_field.a && ./codes [SAMPLES] [spread]
  *
- * Of each code and shard size: encoding, and restoring where as many shards of data are lost as there are of parity (or all of them): the
- * first ones, or, with the word spread, others all over. The least of so many samples (5). What is restored is compared with what was lost. With -DISAL and -lisal also ISA-L's matrix code (Cauchy),
- * as it chooses for this processor, where it has so many shards; what it makes once for a code or for what is lost is not counted.
+ * The first line names the processor whose form of the library is called. Of each code and shard size: encoding, and restoring where as
+ * many shards of data are lost as there are of parity (or all of them): the first ones, or, with the word spread, others all over. The
+ * least of so many samples (5). What is restored is compared with what was lost. With -DISAL and -lisal also ISA-L's matrix code
+ * (Cauchy), as it chooses for this processor, where it has so many shards; what it makes once for a code or for what is lost is not
+ * counted.
  */
 #include "binary_field.h"
 #include <stdio.h>
@@ -93,6 +95,7 @@ static void measure_isal(size_t data, size_t parity, size_t size, int samples) {
 
 int main(int count, char **words) {
     int samples = count > 1 ? atoi(words[1]) : 5;
+    puts(bf_processor());
     static const size_t codes[][3] = {
         {100, 30, 1024}, {100, 30, 65536}, {128, 128, 1024}, {128, 128, 65536},
         {1000, 200, 1024}, {1000, 200, 65536}, {10000, 2000, 1024}, {32768, 32768, 1024},

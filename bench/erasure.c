@@ -1,12 +1,12 @@
 /* Reed-Solomon codes of this library beside ISA-L (Debian's libisal-dev), on one core.
  *
- *   gcc -O2 -o erasure bench/erasure.c crates/binary_field_c/out/libbinary_field_c.a -lisal && ./erasure [ROUNDS] [small | wide]
+ *   gcc -O2 -o erasure bench/erasure.c build/lib/libbinary_field.a -lisal && ./erasure [ROUNDS] [small | wide]
  *
- * It links one build of the library: `rt lib` for x86-64-v2, `rt lib --cpu x86-64-v3` for AVX2. Each row is the least of many
- * samples, taken by turns with those of ISA-L in one run, and the results are compared byte for byte. ISA-L has its tables from
- * before; the library makes its own in each call, but where a row says "prepared". The shards of a row stand one after the other, 64 bytes
- * apart. With the word `small`, shards of 32 bytes, 1 KiB and 64 KiB are encoded, with nothing between them, and nanoseconds are printed too.
- * With the word `wide`, codes of 70 to 256 shards of 64 KiB and 1 MiB, with nothing between them.
+ * The first line names the processor whose form of the library is called; BINARY_FIELD_PROCESSOR=x86-64-v2 in the environment lowers it.
+ * Each row is the least of many samples, taken by turns with those of ISA-L in one run, and the results are compared byte for byte. ISA-L
+ * has its tables from before; the library makes its own in each call, but where a row says "prepared". The shards of a row stand one
+ * after the other, 64 bytes apart. With the word `small`, shards of 32 bytes, 1 KiB and 64 KiB are encoded, with nothing between them,
+ * and nanoseconds are printed too. With the word `wide`, codes of 70 to 256 shards of 64 KiB and 1 MiB, with nothing between them.
  */
 #include <isa-l/erasure_code.h>
 #include <stdint.h>
@@ -15,6 +15,7 @@
 #include <string.h>
 #include <time.h>
 
+const char *bf_processor(void);
 uint32_t bf_rs_encode(uint64_t data, uint64_t parity, uint8_t *shards, size_t shards_length);
 uint32_t bf_rs_prepare(uint64_t data, uint64_t parity, uint8_t *tables, size_t tables_length);
 uint32_t bf_rs_encode_prepared(uint64_t data, uint64_t parity, const uint8_t *tables, size_t tables_length, uint8_t *shards,
@@ -187,6 +188,7 @@ int main(int count, char **words) {
     int codes[2][2] = {{10, 4}, {17, 3}}, wide[3][3] = {{50, 20, 1 << 20}, {100, 30, 65536}, {200, 56, 65536}};
     size_t large[2] = {65536 + 64, (1 << 20) + 64}, small[3] = {32, 1024, 65536};
     is_small = count > 2 && strcmp(words[2], "small") == 0;
+    puts(bf_processor());
     if (count > 2 && strcmp(words[2], "wide") == 0) {
         for (int c = 0; c < 3; c++) {
             data = wide[c][0], parity = wide[c][1], size = wide[c][2];

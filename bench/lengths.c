@@ -1,10 +1,10 @@
 /* Products and inverses of slices of the tower, and inverses of slices of polynomials, by the length of the slice, on one core.
  *
- *   gcc -O2 -Iinclude -o lengths bench/lengths.c crates/binary_field_c/out/libbinary_field_c.a && ./lengths [SAMPLES]
+ *   gcc -O2 -Iinclude -o lengths bench/lengths.c build/lib/libbinary_field.a && ./lengths [SAMPLES]
  *
- * It links one build of the library: `rt lib` for x86-64-v2, `rt lib --cpu x86-64-v3` for AVX2. A number is processor time in nanoseconds an
- * element, the least of so many samples (40), each of as many calls as take some 65,536 elements. The second forms, whose names end in
- * `_wide`, are made for AVX2.
+ * The first line names the processor whose form of the library is called; BINARY_FIELD_PROCESSOR=x86-64-v2 in the environment lowers it.
+ * A number is processor time in nanoseconds an element, the least of so many samples (40), each of as many calls as take some 65,536
+ * elements.
  */
 #include "binary_field.h"
 #include <stdio.h>
@@ -21,14 +21,12 @@ static void *left, *right, *results;
 #define INVERSE(call, word) \
     static uint32_t run_##call(size_t n) { return bf_##call((word *)left, n, (word *)results, n); }
 #define LEVEL(field, word) PRODUCT(field##_multiply, word) INVERSE(field##_inverse, word)
-#define FORMS(field, word) LEVEL(field, word) PRODUCT(field##_multiply_wide, word) INVERSE(field##_inverse_wide, word)
-#define POLYNOMIALS(field, word)    \
-    INVERSE(field##_inverse, word) INVERSE(field##_batch_inverse, word) INVERSE(field##_inverse_wide, word)
+#define POLYNOMIALS(field, word) INVERSE(field##_inverse, word) INVERSE(field##_batch_inverse, word)
 LEVEL(t8, uint8_t)
-FORMS(t16, uint16_t)
-FORMS(t32, uint32_t)
-FORMS(t64, uint64_t)
-FORMS(t128, bf_u128)
+LEVEL(t16, uint16_t)
+LEVEL(t32, uint32_t)
+LEVEL(t64, uint64_t)
+LEVEL(t128, bf_u128)
 POLYNOMIALS(p64, uint64_t)
 POLYNOMIALS(g128, bf_u128)
 
@@ -38,12 +36,12 @@ static const struct {
     uint32_t (*call)(size_t);
 } rows[] = {
     NAMED(t8_multiply), NAMED(t8_inverse),
-    NAMED(t16_multiply), NAMED(t16_inverse), NAMED(t16_multiply_wide), NAMED(t16_inverse_wide),
-    NAMED(t32_multiply), NAMED(t32_inverse), NAMED(t32_multiply_wide), NAMED(t32_inverse_wide),
-    NAMED(t64_multiply), NAMED(t64_inverse), NAMED(t64_multiply_wide), NAMED(t64_inverse_wide),
-    NAMED(t128_multiply), NAMED(t128_inverse), NAMED(t128_multiply_wide), NAMED(t128_inverse_wide),
-    NAMED(p64_inverse), NAMED(p64_batch_inverse), NAMED(p64_inverse_wide),
-    NAMED(g128_inverse), NAMED(g128_batch_inverse), NAMED(g128_inverse_wide),
+    NAMED(t16_multiply), NAMED(t16_inverse),
+    NAMED(t32_multiply), NAMED(t32_inverse),
+    NAMED(t64_multiply), NAMED(t64_inverse),
+    NAMED(t128_multiply), NAMED(t128_inverse),
+    NAMED(p64_inverse), NAMED(p64_batch_inverse),
+    NAMED(g128_inverse), NAMED(g128_batch_inverse),
 };
 
 static double now(void) {
@@ -80,7 +78,7 @@ int main(int count, char **words) {
         ((uint64_t *)left)[i] = state ^ state >> 29;
         ((uint64_t *)right)[i] = state ^ state >> 31;
     }
-    printf("%-22s", "elements");
+    printf("%s\n%-22s", bf_processor(), "elements");
     for (size_t at = 0; at < sizeof lengths / sizeof *lengths; at++) {
         printf(" %6zu", lengths[at]);
     }

@@ -1,11 +1,11 @@
 /* Products and inverses of n by n matrices of this library beside M4RIE (Debian's libm4rie-dev), on one core.
  *
- *   gcc -O2 -o matrices bench/matrices.c crates/binary_field_c/out/libbinary_field_c.a -lm4rie -lm4ri -lm && ./matrices [SAMPLES] [SECONDS]
+ *   gcc -O2 -o matrices bench/matrices.c build/lib/libbinary_field.a -lm4rie -lm4ri -lm && ./matrices [SAMPLES] [SECONDS]
  *
- * It links one build of the library: `rt lib` for x86-64-v2, `rt lib --cpu x86-64-v3` for AVX2. A number is processor time in nanoseconds
- * divided by n^3, the least of the samples; a row ends before a size whose sample would take more than SECONDS. M4RIE has other
- * polynomials, and fields of up to 16 bits: its product, and for the inverse its reduced row echelon form of the matrix. FLINT and NTL are
- * timed by bench/matrices.cpp.
+ * The first line names the processor whose form of the library is called; BINARY_FIELD_PROCESSOR=x86-64-v2 in the environment lowers it.
+ * A number is processor time in nanoseconds divided by n^3, the least of the samples; a row ends before a size whose sample would take
+ * more than SECONDS. M4RIE has other polynomials, and fields of up to 16 bits: its product, and for the inverse its reduced row echelon
+ * form of the matrix. FLINT and NTL are timed by bench/matrices.cpp.
  */
 #include <m4rie/m4rie.h>
 #include <stdint.h>
@@ -16,6 +16,8 @@
 typedef struct {
     uint64_t low, high;
 } wide;
+
+const char *bf_processor(void);
 
 #define CALLS(name, element)                                                                                                         \
     uint32_t bf_##name##_matrix_multiply(const element *, size_t, const element *, size_t, element *, size_t, size_t, size_t, size_t); \
@@ -99,7 +101,7 @@ int main(int arguments, char **argument) {
         ((uint8_t *)left)[at] = (uint8_t)(rand() >> 7);
         ((uint8_t *)right)[at] = (uint8_t)(rand() >> 7);
     }
-    printf("%-20s", "n");
+    printf("%s\n%-20s", bf_processor(), "n");
     for (size_t at = 0; at < sizeof sizes / sizeof *sizes; at++) {
         printf(" %8zu", sizes[at]);
     }

@@ -1,12 +1,12 @@
 /* Slices by one scalar of this library beside GF-Complete and ISA-L (Debian's libgf-complete-dev, libisal-dev), on one core.
  *
- *   gcc -O2 -o scalars bench/scalars.c crates/binary_field_c/out/libbinary_field_c.a -lgf_complete -lisal && ./scalars [SAMPLES]
+ *   gcc -O2 -o scalars bench/scalars.c build/lib/libbinary_field.a -lgf_complete -lisal && ./scalars [SAMPLES]
  *
- * It links one build of the library: `rt lib` for x86-64-v2, `rt lib --cpu x86-64-v3` for AVX2. A number is processor time in nanoseconds an
- * element, the least of many samples: products into another array, products in place, and products that are added. The library makes what
- * it takes of the scalar in each call. GF-Complete's is `multiply_region` in the table that its `gf_init_easy` chooses, which it makes in
- * each call too, without and with addition; ISA-L's products of bytes have their 32 bytes of tables from before. The fields of the three
- * differ but for the bits.
+ * The first line names the processor whose form of the library is called; BINARY_FIELD_PROCESSOR=x86-64-v2 in the environment lowers it.
+ * A number is processor time in nanoseconds an element, the least of many samples: products into another array, products in place, and
+ * products that are added. The library makes what it takes of the scalar in each call. GF-Complete's is `multiply_region` in the table
+ * that its `gf_init_easy` chooses, which it makes in each call too, without and with addition; ISA-L's products of bytes have their 32
+ * bytes of tables from before. The fields of the three differ but for the bits.
  */
 #include <gf_complete.h>
 #include <isa-l.h>
@@ -18,6 +18,8 @@
 typedef struct {
     uint64_t low, high;
 } wide;
+
+const char *bf_processor(void);
 
 #define CALLS(field, word, passed)                                                       \
     uint32_t bf_##field##_multiply_by(const word *, size_t, passed, word *, size_t);     \
@@ -99,7 +101,7 @@ int main(int argument_count, char **arguments) {
         ((uint8_t *)values)[i] = rand();
         ((uint8_t *)others)[i] = rand();
     }
-    printf("%-24s", "ns an element");
+    printf("%s\n%-24s", bf_processor(), "ns an element");
     for (size_t c = 0; c < sizeof counts / sizeof *counts; c++) {
         printf(" %8zu", counts[c]);
     }

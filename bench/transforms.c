@@ -1,11 +1,11 @@
 /* Whole additive transforms of this library, in place, on one core.
  *
- *   gcc -O2 -Iinclude -o transforms bench/transforms.c crates/binary_field_c/out/libbinary_field_c.a && ./transforms [SAMPLES]
+ *   gcc -O2 -Iinclude -o transforms bench/transforms.c build/lib/libbinary_field.a && ./transforms [SAMPLES]
  *
- * It links one build of the library: `rt lib` for x86-64-v2, `rt lib --cpu x86-64-v3` for AVX2. A number is processor time in nanoseconds a
- * value, the least of so many calls (100; a tenth of them for 2^16 values, and three for 2^20), of the transform and of its inverse. What was
- * transformed is first transformed back, and compared. The shift is 0, but in the rows "wide", where it has 128 bits. The last row copies
- * values of 16 bytes.
+ * The first line names the processor whose form of the library is called; BINARY_FIELD_PROCESSOR=x86-64-v2 in the environment lowers it.
+ * A number is processor time in nanoseconds a value, the least of so many calls (100; a tenth of them for 2^16 values, and three for
+ * 2^20), of the transform and of its inverse. What was transformed is first transformed back, and compared. The shift is 0, but in the
+ * rows "long", where it has 128 bits. The last row copies values of 16 bytes.
  */
 #include "binary_field.h"
 #include <stdio.h>
@@ -15,7 +15,7 @@
 
 enum { MOST = 1 << 20, WIDEST = 16 };
 
-static const bf_u128 no_shift = {{0, 0}}, wide_shift = {{0x0123456789abcdef, 0xfedcba9876543210}};
+static const bf_u128 no_shift = {{0, 0}}, long_shift = {{0x0123456789abcdef, 0xfedcba9876543210}};
 static int samples = 100;
 static void *values, *copy;
 
@@ -30,8 +30,8 @@ NARROW(t32, uint32_t)
 NARROW(t64, uint64_t)
 WIDE(t128, no)
 WIDE(g128, no)
-WIDE(t128, wide)
-WIDE(g128, wide)
+WIDE(t128, long)
+WIDE(g128, long)
 
 static uint32_t copied(size_t n) { return memcpy(copy, values, n * WIDEST) == NULL; }
 
@@ -45,8 +45,8 @@ static const struct {
     {"t64", 8, MOST, forward_t64, inverse_t64},
     {"t128", 16, MOST, forward_t128_no, inverse_t128_no},
     {"g128", 16, MOST, forward_g128_no, inverse_g128_no},
-    {"t128, wide", 16, 1 << 16, forward_t128_wide, inverse_t128_wide},
-    {"g128, wide", 16, 1 << 16, forward_g128_wide, inverse_g128_wide},
+    {"t128, long", 16, 1 << 16, forward_t128_long, inverse_t128_long},
+    {"g128, long", 16, 1 << 16, forward_g128_long, inverse_g128_long},
     {"memcpy", 16, MOST, copied, copied},
 };
 
@@ -84,6 +84,7 @@ int main(int count, char **words) {
     if (values == NULL || copy == NULL) {
         return 1;
     }
+    puts(bf_processor());
     for (size_t row = 0; row < sizeof rows / sizeof *rows; row++) {
         printf("%-12s", rows[row].name);
         for (int power = 10; power <= 20; power += power == 10 ? 6 : 4) {

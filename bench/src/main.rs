@@ -62,7 +62,8 @@ fn main() -> ExitCode {
         plan,
         sums: Sums::default(),
     };
-    plan.print(&format!("slices of {LENGTH} elements"));
+    let processor = binary_field::processor();
+    plan.print(&format!("ours for {processor}, slices of {LENGTH} elements"));
     if part != "polynomials" {
         report.tower();
     }
