@@ -1698,69 +1698,62 @@ uint32_t bf_t128_inverse_transform(bf_u128 *values, size_t values_length,
  * the key, and pieces as bf_tag_ghash_update_padded does, and bf_tag_polyval_update_prepared so of POLYVAL. What was
  * made of a key tells the key. */
 
-/* hash: GHASH of the message (NIST SP 800-38D), zeros added to whole blocks; key and hash have 16 bytes. BF_LENGTH
- * unless key and hash have 16 bytes. */
+/* hash: GHASH of the message (NIST SP 800-38D), zeros added to whole blocks. BF_LENGTH unless key and hash have 16
+ * bytes. */
 uint32_t bf_tag_ghash(const uint8_t *key, size_t key_length, const uint8_t *message, size_t message_length,
     uint8_t *hash, size_t hash_length) BF_CHECKED;
 
-/* hash: POLYVAL of the message (RFC 8452), zeros added to whole blocks; key and hash have 16 bytes. BF_LENGTH unless
- * key and hash have 16 bytes. */
+/* hash: POLYVAL of the message (RFC 8452), zeros added to whole blocks. BF_LENGTH unless key and hash have 16 bytes. */
 uint32_t bf_tag_polyval(const uint8_t *key, size_t key_length, const uint8_t *message, size_t message_length,
     uint8_t *hash, size_t hash_length) BF_CHECKED;
 
-/* hash: the hash of GCM over associated data and ciphertext, each below 2^61 bytes, with the block of their lengths;
- * key and hash have 16 bytes. BF_LENGTH unless key and hash have 16 bytes, and associated and ciphertext below 2^61
- * each. */
+/* hash: the hash of GCM over associated data and ciphertext, each below 2^61 bytes, with the block of their lengths.
+ * BF_LENGTH unless key and hash have 16 bytes, and associated and ciphertext below 2^61 each. */
 uint32_t bf_tag_gcm_ghash(const uint8_t *key, size_t key_length, const uint8_t *associated, size_t associated_length,
     const uint8_t *ciphertext, size_t ciphertext_length, uint8_t *hash, size_t hash_length) BF_CHECKED;
 
-/* GHASH of more whole blocks: hash is that of the blocks before, and then that of these too; key and hash have 16
- * bytes. BF_LENGTH unless key and hash have 16 bytes, and blocks a multiple of 16. */
+/* GHASH of more whole blocks: hash is that of the blocks before, and then that of these too. BF_LENGTH unless key
+ * and hash have 16 bytes, and blocks a multiple of 16. */
 uint32_t bf_tag_ghash_update(const uint8_t *key, size_t key_length, const uint8_t *blocks, size_t blocks_length,
     uint8_t *hash, size_t hash_length) BF_CHECKED;
 
-/* GHASH of more bytes, zeros added to whole blocks: hash is that of the blocks before, and then that of these too;
- * key and hash have 16 bytes. BF_LENGTH unless key and hash have 16 bytes. */
+/* GHASH of more bytes, zeros added to whole blocks: hash is that of the blocks before, and then that of these too.
+ * BF_LENGTH unless key and hash have 16 bytes. */
 uint32_t bf_tag_ghash_update_padded(const uint8_t *key, size_t key_length,
     const uint8_t *message, size_t message_length, uint8_t *hash, size_t hash_length) BF_CHECKED;
 
 /* prepared: what hashes under the key go by, for bf_tag_ghash_update_prepared: the element by which the field
- * multiplies for it, and its powers up to the fourth; key has 16 bytes, and prepared 64. BF_LENGTH unless key has 16
- * bytes, and prepared 64. */
+ * multiplies for it, and its powers up to the fourth. BF_LENGTH unless key has 16 bytes, and prepared 64. */
 uint32_t bf_tag_ghash_prepare(const uint8_t *key, size_t key_length,
     uint8_t *prepared, size_t prepared_length) BF_CHECKED;
 
 /* The same as bf_tag_ghash_update_padded, by what bf_tag_ghash_prepare wrote for the key; by other bytes it writes
- * 16 bytes of which nothing is said; prepared has 64 bytes, and hash 16. BF_LENGTH unless prepared has 64 bytes, and
- * hash 16. */
+ * 16 bytes of which nothing is said. BF_LENGTH unless prepared has 64 bytes, and hash 16. */
 uint32_t bf_tag_ghash_update_prepared(const uint8_t *prepared, size_t prepared_length,
     const uint8_t *message, size_t message_length, uint8_t *hash, size_t hash_length) BF_CHECKED;
 
-/* POLYVAL of more whole blocks: hash is that of the blocks before, and then that of these too; key and hash have 16
- * bytes. BF_LENGTH unless key and hash have 16 bytes, and blocks a multiple of 16. */
+/* POLYVAL of more whole blocks: hash is that of the blocks before, and then that of these too. BF_LENGTH unless key
+ * and hash have 16 bytes, and blocks a multiple of 16. */
 uint32_t bf_tag_polyval_update(const uint8_t *key, size_t key_length, const uint8_t *blocks, size_t blocks_length,
     uint8_t *hash, size_t hash_length) BF_CHECKED;
 
-/* POLYVAL of more bytes, zeros added to whole blocks: hash is that of the blocks before, and then that of these too;
- * key and hash have 16 bytes. BF_LENGTH unless key and hash have 16 bytes. */
+/* POLYVAL of more bytes, zeros added to whole blocks: hash is that of the blocks before, and then that of these too.
+ * BF_LENGTH unless key and hash have 16 bytes. */
 uint32_t bf_tag_polyval_update_padded(const uint8_t *key, size_t key_length,
     const uint8_t *message, size_t message_length, uint8_t *hash, size_t hash_length) BF_CHECKED;
 
 /* prepared: what hashes under the key go by, for bf_tag_polyval_update_prepared: the element by which the field
- * multiplies for it, and its powers up to the fourth; key has 16 bytes, and prepared 64. BF_LENGTH unless key has 16
- * bytes, and prepared 64. */
+ * multiplies for it, and its powers up to the fourth. BF_LENGTH unless key has 16 bytes, and prepared 64. */
 uint32_t bf_tag_polyval_prepare(const uint8_t *key, size_t key_length,
     uint8_t *prepared, size_t prepared_length) BF_CHECKED;
 
 /* The same as bf_tag_polyval_update_padded, by what bf_tag_polyval_prepare wrote for the key; by other bytes it
- * writes 16 bytes of which nothing is said; prepared has 64 bytes, and hash 16. BF_LENGTH unless prepared has 64
- * bytes, and hash 16. */
+ * writes 16 bytes of which nothing is said. BF_LENGTH unless prepared has 64 bytes, and hash 16. */
 uint32_t bf_tag_polyval_update_prepared(const uint8_t *prepared, size_t prepared_length,
     const uint8_t *message, size_t message_length, uint8_t *hash, size_t hash_length) BF_CHECKED;
 
 /* GHASH of the block of two lengths in bytes, each below 2^61, as GCM has them: hash is that of the blocks before,
- * and then that of this one too; key and hash have 16 bytes. BF_LENGTH unless key and hash have 16 bytes, and both
- * lengths are below 2^61. */
+ * and then that of this one too. BF_LENGTH unless key and hash have 16 bytes, and both lengths are below 2^61. */
 uint32_t bf_tag_gcm_ghash_final(const uint8_t *key, size_t key_length, size_t associated_length,
     size_t ciphertext_length, uint8_t *hash, size_t hash_length) BF_CHECKED;
 

@@ -108,8 +108,9 @@ def own_names():
 
 def told(name, parameters, bits, text):
     """What a function computes, after the name of what it writes where that is one thing, when it returns which status, and what it takes of
-    the stack, where that is much. Functions are named as C has them."""
-    text = own_names().sub(r"bf_\1", text)
+    the stack, where that is much. Functions are named as C has them, and lengths that a status tells stand there alone."""
+    before, _, last = text.rpartition("; ")
+    text = own_names().sub(r"bf_\1", before if before and lengths_of(name, parameters).startswith(last) else text)
     written = [it[1] for it in parameters if it[0] in ("out", "result")]
     words = [f"{written[0]}: {text}." if len(written) == 1 else sentence(text, parameters)]
     for status, condition in statuses_of(name, parameters, bits):

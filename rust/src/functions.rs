@@ -2891,8 +2891,8 @@ unsafe extern "C" {
         values_length: usize,
         shift: *const [u64; 2],
     ) -> u32;
-    /// hash: GHASH of the message (NIST SP 800-38D), zeros added to whole blocks; key and hash have 16 bytes.
-    /// BF_LENGTH unless key and hash have 16 bytes.
+    /// hash: GHASH of the message (NIST SP 800-38D), zeros added to whole blocks. BF_LENGTH unless key and hash have
+    /// 16 bytes.
     pub fn bf_tag_ghash(
         key: *const u8,
         key_length: usize,
@@ -2901,8 +2901,8 @@ unsafe extern "C" {
         hash: *mut u8,
         hash_length: usize,
     ) -> u32;
-    /// hash: POLYVAL of the message (RFC 8452), zeros added to whole blocks; key and hash have 16 bytes. BF_LENGTH
-    /// unless key and hash have 16 bytes.
+    /// hash: POLYVAL of the message (RFC 8452), zeros added to whole blocks. BF_LENGTH unless key and hash have 16
+    /// bytes.
     pub fn bf_tag_polyval(
         key: *const u8,
         key_length: usize,
@@ -2912,8 +2912,7 @@ unsafe extern "C" {
         hash_length: usize,
     ) -> u32;
     /// hash: the hash of GCM over associated data and ciphertext, each below 2^61 bytes, with the block of their
-    /// lengths; key and hash have 16 bytes. BF_LENGTH unless key and hash have 16 bytes, and associated and
-    /// ciphertext below 2^61 each.
+    /// lengths. BF_LENGTH unless key and hash have 16 bytes, and associated and ciphertext below 2^61 each.
     pub fn bf_tag_gcm_ghash(
         key: *const u8,
         key_length: usize,
@@ -2924,8 +2923,8 @@ unsafe extern "C" {
         hash: *mut u8,
         hash_length: usize,
     ) -> u32;
-    /// GHASH of more whole blocks: hash is that of the blocks before, and then that of these too; key and hash have
-    /// 16 bytes. BF_LENGTH unless key and hash have 16 bytes, and blocks a multiple of 16.
+    /// GHASH of more whole blocks: hash is that of the blocks before, and then that of these too. BF_LENGTH unless
+    /// key and hash have 16 bytes, and blocks a multiple of 16.
     pub fn bf_tag_ghash_update(
         key: *const u8,
         key_length: usize,
@@ -2935,7 +2934,7 @@ unsafe extern "C" {
         hash_length: usize,
     ) -> u32;
     /// GHASH of more bytes, zeros added to whole blocks: hash is that of the blocks before, and then that of these
-    /// too; key and hash have 16 bytes. BF_LENGTH unless key and hash have 16 bytes.
+    /// too. BF_LENGTH unless key and hash have 16 bytes.
     pub fn bf_tag_ghash_update_padded(
         key: *const u8,
         key_length: usize,
@@ -2945,8 +2944,7 @@ unsafe extern "C" {
         hash_length: usize,
     ) -> u32;
     /// prepared: what hashes under the key go by, for bf_tag_ghash_update_prepared: the element by which the field
-    /// multiplies for it, and its powers up to the fourth; key has 16 bytes, and prepared 64. BF_LENGTH unless key
-    /// has 16 bytes, and prepared 64.
+    /// multiplies for it, and its powers up to the fourth. BF_LENGTH unless key has 16 bytes, and prepared 64.
     pub fn bf_tag_ghash_prepare(
         key: *const u8,
         key_length: usize,
@@ -2954,8 +2952,7 @@ unsafe extern "C" {
         prepared_length: usize,
     ) -> u32;
     /// The same as bf_tag_ghash_update_padded, by what bf_tag_ghash_prepare wrote for the key; by other bytes it
-    /// writes 16 bytes of which nothing is said; prepared has 64 bytes, and hash 16. BF_LENGTH unless prepared has 64
-    /// bytes, and hash 16.
+    /// writes 16 bytes of which nothing is said. BF_LENGTH unless prepared has 64 bytes, and hash 16.
     pub fn bf_tag_ghash_update_prepared(
         prepared: *const u8,
         prepared_length: usize,
@@ -2964,8 +2961,8 @@ unsafe extern "C" {
         hash: *mut u8,
         hash_length: usize,
     ) -> u32;
-    /// POLYVAL of more whole blocks: hash is that of the blocks before, and then that of these too; key and hash have
-    /// 16 bytes. BF_LENGTH unless key and hash have 16 bytes, and blocks a multiple of 16.
+    /// POLYVAL of more whole blocks: hash is that of the blocks before, and then that of these too. BF_LENGTH unless
+    /// key and hash have 16 bytes, and blocks a multiple of 16.
     pub fn bf_tag_polyval_update(
         key: *const u8,
         key_length: usize,
@@ -2975,7 +2972,7 @@ unsafe extern "C" {
         hash_length: usize,
     ) -> u32;
     /// POLYVAL of more bytes, zeros added to whole blocks: hash is that of the blocks before, and then that of these
-    /// too; key and hash have 16 bytes. BF_LENGTH unless key and hash have 16 bytes.
+    /// too. BF_LENGTH unless key and hash have 16 bytes.
     pub fn bf_tag_polyval_update_padded(
         key: *const u8,
         key_length: usize,
@@ -2985,8 +2982,7 @@ unsafe extern "C" {
         hash_length: usize,
     ) -> u32;
     /// prepared: what hashes under the key go by, for bf_tag_polyval_update_prepared: the element by which the field
-    /// multiplies for it, and its powers up to the fourth; key has 16 bytes, and prepared 64. BF_LENGTH unless key
-    /// has 16 bytes, and prepared 64.
+    /// multiplies for it, and its powers up to the fourth. BF_LENGTH unless key has 16 bytes, and prepared 64.
     pub fn bf_tag_polyval_prepare(
         key: *const u8,
         key_length: usize,
@@ -2994,8 +2990,7 @@ unsafe extern "C" {
         prepared_length: usize,
     ) -> u32;
     /// The same as bf_tag_polyval_update_padded, by what bf_tag_polyval_prepare wrote for the key; by other bytes it
-    /// writes 16 bytes of which nothing is said; prepared has 64 bytes, and hash 16. BF_LENGTH unless prepared has 64
-    /// bytes, and hash 16.
+    /// writes 16 bytes of which nothing is said. BF_LENGTH unless prepared has 64 bytes, and hash 16.
     pub fn bf_tag_polyval_update_prepared(
         prepared: *const u8,
         prepared_length: usize,
@@ -3005,8 +3000,8 @@ unsafe extern "C" {
         hash_length: usize,
     ) -> u32;
     /// GHASH of the block of two lengths in bytes, each below 2^61, as GCM has them: hash is that of the blocks
-    /// before, and then that of this one too; key and hash have 16 bytes. BF_LENGTH unless key and hash have 16
-    /// bytes, and both lengths are below 2^61.
+    /// before, and then that of this one too. BF_LENGTH unless key and hash have 16 bytes, and both lengths are below
+    /// 2^61.
     pub fn bf_tag_gcm_ghash_final(
         key: *const u8,
         key_length: usize,
