@@ -2,10 +2,11 @@
 
     scripts/build-library build && PYTHONPATH=python BINARY_FIELD_LIBRARY=build/lib python3 bench/python.py
 
-It prints nanoseconds a product over arrays of COUNT elements (a million), the least of SAMPLES samples (7), the two sides by
-turns, and whether both computed the same; then microseconds of calls of one element, and milliseconds of matrices and of transforms. By hand, a
-product of 8 bits is one look-up in a table of all products, one of 16 bits goes by logarithms, and a wider one by Karatsuba's rule
-down to those, in polynomial bases down to a table of carryless products of bytes.
+It prints by which form of the library (BINARY_FIELD_PROCESSOR=x86-64-v2 in the environment lowers it), and nanoseconds a product over
+arrays of COUNT elements (a million), the least of SAMPLES samples (7), the two sides by turns, and whether both computed the same; then
+microseconds of calls of one element, and milliseconds of matrices and of transforms. By hand, a product of 8 bits is one look-up in a table
+of all products, one of 16 bits goes by logarithms, and a wider one by Karatsuba's rule down to those, in polynomial bases down to a table
+of carryless products of bytes.
 """
 
 import sys
@@ -168,7 +169,7 @@ BY_HAND = [
 def main():
     """Prints the tables; the exit status is 1 where the sides differ."""
     differ = []
-    print(f"numpy {np.__version__}, arrays of {COUNT} elements, the least of {SAMPLES} samples")
+    print(f"The library for {bf.processor()}, numpy {np.__version__}, arrays of {COUNT} elements, the least of {SAMPLES} samples")
     print("| Product | Package, ns | numpy by tables, ns | Ratio |\n|---|---:|---:|---:|")
     for field, by_hand in BY_HAND:
         a, b = field.random(COUNT, seed=1), field.random(COUNT, seed=2)
