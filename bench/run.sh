@@ -1,6 +1,6 @@
 #!/bin/sh
-# Builds the library and the driver, and runs it: run.sh [SAMPLES] [MILLISECONDS] [tower|polynomials]. ARCHIVES names archives that are built
-# already. See README.md.
+# Builds the library and the driver, and runs it: run.sh [SAMPLES] [MILLISECONDS] [tower|polynomials]. ARCHIVES names
+# archives that are built already. See README.md.
 set -eu
 here=$(cd "$(dirname "$0")" && pwd)
 . "$here/common.sh"

@@ -158,8 +158,8 @@ OTHER_FUNCTIONS = [
      "writes the missing shards: shard i, of the data and then of the parity, is missing where present[i] is 0"),
 ]
 
-# Of these the proved crate exports a second form too, which gives the same and is made for x86-64-v3, whose vectors have 256 bits. No caller
-# names it: where the library goes by its code for x86-64-v3, the second form stands behind the name of the first (`second_forms`).
+# Of these the proved crate exports a second form too, which gives the same and is made for x86-64-v3, whose vectors have 256 bits. No
+# caller names it: where the library goes by its code for x86-64-v3, it stands behind the name of the first (`second_forms`).
 WIDE = [
     "g128_multiply", "g128_multiply_in_place", "g128_multiply_by", "g128_multiply_by_in_place", "g128_add_scaled", "g128_dot_product",
     "g128_butterfly_forward", "g128_butterfly_inverse", "g128_low_stages", "g128_transform", "g128_inverse_transform",
@@ -179,8 +179,9 @@ PLAIN_FUNCTIONS = [
 # These return no status either, and no crate exports them: they stand where the library is made of what is proved.
 CHOICE_FUNCTIONS = [
     ("processor", "const char *",
-     'the processor whose form of the functions is called: "x86-64-v2", "x86-64-v3" or "aarch64", and never NULL. The form is chosen once, before main, '
-     "as the best that runs on the processor at hand. The environment variable BINARY_FIELD_PROCESSOR=x86-64-v2 lowers that choice, and never raises it"),
+     'the processor whose form of the functions is called: "x86-64-v2", "x86-64-v3" or "aarch64", and never NULL. The form is chosen once, '
+     "before main, as the best that runs on the processor at hand. The environment variable BINARY_FIELD_PROCESSOR=x86-64-v2 lowers that "
+     "choice, and never raises it"),
 ]
 
 

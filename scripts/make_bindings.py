@@ -126,8 +126,8 @@ use core::ffi::c_char;
     for name, _, text in c_library.CHOICE_FUNCTIONS:
         lines = "".join(f"    /// {line}\n" for line in textwrap.wrap(sentence(text), 110, break_long_words=False))
         out.append(f"{lines}    pub fn bf_{name}() -> *const c_char;\n")
-    for section in sections():
-        out += [rust_function(name, parameters, bits, text) for name, parameters, text, bits in section.rows if not name.endswith("_generator")]
+    rows = [it for section in sections() for it in section.rows]
+    out += [rust_function(name, parameters, bits, text) for name, parameters, text, bits in rows if not name.endswith("_generator")]
     return "".join([*out, "}\n"])
 
 

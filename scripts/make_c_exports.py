@@ -312,7 +312,8 @@ def wide_function(name, second, parameters):
     """The second form of a function, by its own name."""
     field_name, own = name.split("_", 1)
     if own in MATRIX_CALLS:
-        return matrix_function(fields.field_named(field_name), second.removeprefix(f"{field_name}_"), parameters, f"the same as `bf_{name}`", WIDE)
+        field, wide = fields.field_named(field_name), second.removeprefix(f"{field_name}_")
+        return matrix_function(field, wide, parameters, f"the same as `bf_{name}`", WIDE)
     if name in OTHER_CALLS:
         _, call, clause = OTHER_CALLS[name]
         called = of_width(call, WIDE)

@@ -154,8 +154,8 @@ def declaration(name, parameters):
 
 
 class Section:
-    """A part of the header: its subject for the head's list, its heading, and its functions: their names, parameters, texts, and bits of the field,
-    64 for no field. What the header itself defines stands behind the last function whose name begins so, or before all where nothing is said."""
+    """A part of the header: its subject for the head's list, its heading, and its functions: their names, parameters, texts, and bits of the
+    field, 64 for no field. What the header itself defines stands behind the last function whose name begins so, or before all."""
 
     def __init__(self, subject, heading, rows, defined=()):
         self.subject, self.heading, self.rows, self.defined = subject, heading, rows, dict(defined)
@@ -203,12 +203,12 @@ def sections():
 
 
 def about(parts):
-    """The head's comment, whose last paragraphs say what stands where in the header."""
-    of_every_field = [it[0] for it in (*c_library.FIELD_FUNCTIONS, *c_library.MATRIX_FUNCTIONS)]
+    """The head's comment, whose last paragraph says what stands where in the header."""
+    subjects = ", ".join(dict.fromkeys(it.subject for it in parts))
+    names = ", ".join(it[0] for it in (*c_library.FIELD_FUNCTIONS, *c_library.MATRIX_FUNCTIONS))
     paragraphs = [
-        *ABOUT,
-        f"Sections, in this order: {', '.join(dict.fromkeys(it.subject for it in parts))}. Each field has functions bf_FIELD_NAME of these names: "
-        f"{', '.join(of_every_field)}.",
+        "Binary fields, proved: the functions of libbinary_field.", files.generated("make_c_header.py"), *ABOUT.split("\n\n"),
+        f"Sections, in this order: {subjects}. Each field has functions bf_FIELD_NAME of these names: {names}.",
     ]
     filled = [textwrap.fill(it, COLUMNS, initial_indent=" * ", subsequent_indent=" * ", break_on_hyphens=False) for it in paragraphs]
     return "\n *\n".join(["/*" + filled[0].removeprefix(" *"), *filled[1:]]) + "\n */\n"
@@ -230,35 +230,35 @@ def header():
     return "".join([*out, *(it.text() for it in parts), TAIL])
 
 
-CODES = (
-    "Reed-Solomon codes over bytes modulo x^8 + x^4 + x^3 + x^2 + 1: shard i has the values at the byte i of the polynomials that the data "
-    "determine."
-)
+CODES = """\
+Reed-Solomon codes over bytes modulo x^8 + x^4 + x^3 + x^2 + 1: shard i has the values at the byte i of the polynomials that the data
+determine.
+"""
 
-TRANSFORMS = (
-    "Stages of additive transforms over g128, and the whole transform over g128 and levels of the tower. s_0(x) = x, and "
-    "s_(j+1)(x) = s_j(x)^2 + s_j(x). The basis of subspace polynomials is the products of the s_j: coefficient k is that of the product of the s_j "
-    "over the set bits j of k. Point p is the shift, and Cantor vector b for each set bit b of p; vector 0 is 1, and of v^2 + v each other vector v "
-    "makes the one before. In the low stages the factor of stage j at place p is shifts[j], and basis[t] for each set bit t of p >> (j + 1)."
-)
+TRANSFORMS = """\
+Stages of additive transforms over g128, and the whole transform over g128 and levels of the tower. s_0(x) = x, and s_(j+1)(x) = s_j(x)^2
++ s_j(x). The basis of subspace polynomials is the products of the s_j: coefficient k is that of the product of the s_j over the set bits
+j of k. Point p is the shift, and Cantor vector b for each set bit b of p; vector 0 is 1, and of v^2 + v each other vector v makes the one
+before. In the low stages the factor of stage j at place p is shifts[j], and basis[t] for each set bit t of p >> (j + 1).
+"""
 
-TAGS = (
-    "Hashes of authentication tags. Nothing is claimed on timing. Of a message in pieces nothing is kept but its hash so far, which the caller "
-    "makes 16 zeros at first. bf_tag_ghash_update takes pieces of whole blocks, and bf_tag_ghash_update_padded the last one, of any length: behind "
-    "each call hash is what bf_tag_ghash gives of all bytes so far. For GCM the associated data come first and then the ciphertext, the last piece of "
-    "each padded, and bf_tag_gcm_ghash_final makes of that what bf_tag_gcm_ghash gives. GCM-SIV goes so by POLYVAL, over the plain text, and ends "
-    "with bf_tag_polyval_update of 16 bytes: both lengths in bits, 8 bytes each, the lowest first. A key of many calls is prepared once: "
-    "bf_tag_ghash_update_prepared takes what bf_tag_ghash_prepare made of it in place of the key, and pieces as bf_tag_ghash_update_padded does, and "
-    "bf_tag_polyval_update_prepared so of POLYVAL. What was made of a key tells the key."
-)
+TAGS = """\
+Hashes of authentication tags. Nothing is claimed on timing. Of a message in pieces nothing is kept but its hash so far, which the caller
+makes 16 zeros at first. bf_tag_ghash_update takes pieces of whole blocks, and bf_tag_ghash_update_padded the last one, of any length:
+behind each call hash is what bf_tag_ghash gives of all bytes so far. For GCM the associated data come first and then the ciphertext, the
+last piece of each padded, and bf_tag_gcm_ghash_final makes of that what bf_tag_gcm_ghash gives. GCM-SIV goes so by POLYVAL, over the
+plain text, and ends with bf_tag_polyval_update of 16 bytes: both lengths in bits, 8 bytes each, the lowest first. A key of many calls is
+prepared once: bf_tag_ghash_update_prepared takes what bf_tag_ghash_prepare made of it in place of the key, and pieces as
+bf_tag_ghash_update_padded does, and bf_tag_polyval_update_prepared so of POLYVAL. What was made of a key tells the key.
+"""
 
-ERASURE = (
-    "Reed-Solomon codes over t16 by additive transforms, of thousands of shards: column i of the shards, their word i, has the values of one "
-    "polynomial. With 2^n the least power of two that is at least data, it has a degree below 2^n; shard j of data is its value at point j, shard j of "
-    "parity that at point 2^n + j, and it is 0 at the points from data to 2^n. Point p is the sum of Cantor vector b for each set bit b of p, as "
-    "above. Shards of data stand one after the other, and so do those of parity, in an array of their own. A call works in space, with as many "
-    "columns at once as pays; what that has before does not matter, and behind the call nothing is said of it."
-)
+ERASURE = """\
+Reed-Solomon codes over t16 by additive transforms, of thousands of shards: column i of the shards, their word i, has the values of one
+polynomial. With 2^n the least power of two that is at least data, it has a degree below 2^n; shard j of data is its value at point j,
+shard j of parity that at point 2^n + j, and it is 0 at the points from data to 2^n. Point p is the sum of Cantor vector b for each set
+bit b of p, as above. Shards of data stand one after the other, and so do those of parity, in an array of their own. A call works in
+space, with as many columns at once as pays; what that has before does not matter, and behind the call nothing is said of it.
+"""
 
 # How many bytes the tables of a code take, as a constant.
 TABLES_LENGTH = """\
@@ -308,36 +308,39 @@ CASES    default: return "unknown status";
 
 """
 
-# The subjects of the functions of no field, in their order: a subject, its heading, and patterns of names, in whose order the functions stand.
+# The subjects of the functions of no field, in their order: a subject, its heading, and patterns of names, in whose order functions stand.
 SUBJECTS = [
     ("changes of basis and linear maps", "Changes of basis, and linear maps over GF(2).", [r"_to_", r"_linear_map$"]),
     ("transforms", TRANSFORMS, [r"_butterfly_|_low_stages$", r"_transform$"]),
     ("tags", TAGS, [r"ghash|polyval", r"^tags_"]),
-    # The calls that others are made of come first.
-    ("codes over bytes", CODES, [r"^rs_tables_length$", r"^rs_prepare$", r"^rs_add_shard$", r"^rs_encode", r"^rs_verify", r"^rs_reconstruct"]),
+    # What others call comes first.
+    ("codes over bytes", CODES, [rf"^rs_{it}" for it in ("tables_length$", "prepare$", "add_shard$", "encode", "verify", "reconstruct")]),
     ("codes by transforms", ERASURE, [r"^erasure_"]),
 ]
 
-# The paragraphs of the head's comment.
-ABOUT = [
-    "Binary fields, proved: the functions of libbinary_field.",
-    files.generated("make_c_header.py"),
-    "Elements. An element is an unsigned number, and a sum is the exclusive or. In the tower the low half of the bits is the part without the root "
-    "that the level adjoins. In a polynomial basis bit i is the coefficient of x^i; a block of GCM has its bits the other way round. A bf_u128 has the "
-    "low 64 bits in words[0]; a bf_u192 has the coefficient of 1 in words[0], that of y in words[1] and that of y^2 in words[2].",
-    "Arrays. An array is a pointer and a length, which counts elements and not bytes. The pointer may be NULL where the length is 0; a scalar or a "
-    "result is never NULL. Each pointer is aligned as C aligns its type. An array or a result that a function writes may overlap no other array, "
-    "result or scalar of the same call; what is only read may overlap each other. For x = x * y there are the functions whose names end in _in_place. "
-    "In arrays named space and places a call works: behind it, whatever the status, nothing is said of what they hold. A comment begins with the name "
-    "of what the function writes. Where it says nothing of lengths, every length will do.",
-    "Statuses. Every function but bf_version, bf_processor and bf_status_text returns a status. On a status that is not BF_OK everything that the "
-    "function could write is as before the call, but for space and places. The first status applies, in the order in which a function's comment names "
-    "them.",
-    "Matrices. The elements of a matrix stand row after row. A number of rows or of columns may be 0, and others then as large as the lengths allow: a "
-    "call takes no time for rows or columns without elements.",
-    "Threads. A call reads and writes its arguments alone and keeps nothing, so that threads may call at the same time, as long as none writes what "
-    "another reads or writes. Nothing is claimed on timing; of bf_tags_are_equal it is said what was looked at.",
-]
+# The paragraphs of the head's comment behind the first two.
+ABOUT = """\
+Elements. An element is an unsigned number, and a sum is the exclusive or. In the tower the low half of the bits is the part without the
+root that the level adjoins. In a polynomial basis bit i is the coefficient of x^i; a block of GCM has its bits the other way round. A
+bf_u128 has the low 64 bits in words[0]; a bf_u192 has the coefficient of 1 in words[0], that of y in words[1] and that of y^2 in
+words[2].
+
+Arrays. An array is a pointer and a length, which counts elements and not bytes. The pointer may be NULL where the length is 0; a scalar
+or a result is never NULL. Each pointer is aligned as C aligns its type. An array or a result that a function writes may overlap no other
+array, result or scalar of the same call; what is only read may overlap each other. For x = x * y there are the functions whose names end
+in _in_place. In arrays named space and places a call works: behind it, whatever the status, nothing is said of what they hold. A comment
+begins with the name of what the function writes. Where it says nothing of lengths, every length will do.
+
+Statuses. Every function but bf_version, bf_processor and bf_status_text returns a status. On a status that is not BF_OK everything that
+the function could write is as before the call, but for space and places. The first status applies, in the order in which a function's
+comment names them.
+
+Matrices. The elements of a matrix stand row after row. A number of rows or of columns may be 0, and others then as large as the lengths
+allow: a call takes no time for rows or columns without elements.
+
+Threads. A call reads and writes its arguments alone and keeps nothing, so that threads may call at the same time, as long as none writes
+what another reads or writes. Nothing is claimed on timing; of bf_tags_are_equal it is said what was looked at.
+"""
 
 HEAD = """\
 #ifndef BINARY_FIELD_H

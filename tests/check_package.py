@@ -543,9 +543,10 @@ class Processor(unittest.TestCase):
         if len(names) == 1:
             self.assertEqual([own, self.named("x86-64-v2")], names * 2)
         else:
-            flags = next((it.split() for it in pathlib.Path("/proc/cpuinfo").read_text(encoding="utf-8").splitlines() if it.startswith("flags")), [])
+            processors = pathlib.Path("/proc/cpuinfo").read_text(encoding="utf-8").splitlines()
+            flags = next(it for it in processors if it.startswith("flags"))
             self.assertEqual(names, ["x86-64-v2", "x86-64-v3"])
-            self.assertEqual((own, self.named("x86-64-v2")), (names[self.FLAGS <= set(flags)], "x86-64-v2"))
+            self.assertEqual((own, self.named("x86-64-v2")), (names[self.FLAGS <= set(flags.split())], "x86-64-v2"))
 
 
 if __name__ == "__main__":

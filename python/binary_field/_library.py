@@ -66,8 +66,8 @@ _FUNCTIONS, _PROCESSOR = _load()
 def processor() -> str:
     """The processor whose form of the functions is called: "x86-64-v2", "x86-64-v3" or "aarch64".
 
-    The library chooses it when it is loaded, as the best that runs on this processor. Where the environment variable BINARY_FIELD_PROCESSOR is
-    x86-64-v2 then, that form is taken; the variable never raises the choice. Results are the same by each form."""
+    The library chooses it when it is loaded, as the best that runs on this processor. Where the environment variable
+    BINARY_FIELD_PROCESSOR is x86-64-v2 then, that form is taken; the variable never raises the choice. Results are the same by each form."""
     return _PROCESSOR
 
 
