@@ -1,13 +1,15 @@
 """Proves and compiles the crate of the C library, and says how far it is.
 
-prove_library.py CPU LOG: runs `rt lib` (RT names another command) in crates/binary_field_c. What `rt` says goes into the file LOG. Each crate
-is told when it is proved, with those that are left; a crate that takes longer is told with the functions that are checked. The exit status is
+prove_library.py LOG FORM ..: runs `rt lib` (RT names another command) in crates/binary_field_c for each of these forms, and leaves their
+archives where forms.py says. What `rt` says goes into the file LOG. Each crate is told when it is proved, with those that are left; a crate that
+takes longer is told with the functions that are checked. For a further form only the crate itself is checked once more. The exit status is
 that of `rt`.
 """
 
 import os
 import re
 import resource
+import shutil
 import subprocess
 import sys
 import textwrap
@@ -15,8 +17,8 @@ import time
 
 import crates
 import files
+import forms
 
-CRATE = "binary_field_c"
 # How long nothing is said of a crate in work, in seconds.
 SILENCE = 30
 
@@ -60,25 +62,38 @@ class Progress:
         say(f"{self.count - len(self.left)} of {self.count} crates are proved, {name} now; {rest}")
 
 
+def prove(form, progress, kept):
+    """Runs `rt lib` for one form, and keeps its archive; the exit status of `rt`."""
+    folder = files.CRATES / forms.CRATE
+    ran = subprocess.Popen([os.environ.get("RT", "rt"), "lib", *forms.FLAGS[form]], cwd=folder, stdout=subprocess.PIPE,
+                           stderr=subprocess.STDOUT, stdin=subprocess.DEVNULL, text=True, errors="replace")
+    for line in ran.stdout:
+        kept.write(line)
+        kept.flush()
+        progress.read(line)
+    status = ran.wait()
+    if status == 0:
+        shutil.copyfile(folder / "out" / f"lib{forms.CRATE}.a", forms.archive(form))
+        say(f"compiled for {form}")
+    return status if status >= 0 else 1
+
+
 def main():
-    cpu, log = sys.argv[1:]
-    names, costs = crates.chain([CRATE]), crates.costs()
-    say(f"{len(names)} crates are proved and compiled: {', '.join(names)}. From nothing that takes some "
+    """Proves for all forms that are named."""
+    log, *wanted = sys.argv[1:]
+    names, costs = crates.chain([forms.CRATE]), crates.costs()
+    say(f"{len(names)} crates are proved and compiled for {' and '.join(wanted)}: {', '.join(names)}. From nothing that takes some "
         f"{minutes(sum(costs.get(it, 60) for it in names))} of one processor, and longer on a busy machine; what was proved before is taken as it is. The "
         f"files of the proofs take some 3 GB of crates/*/out. All that is said goes to {log}")
-    began, progress = time.monotonic(), Progress(names, costs)
+    began, progress, status = time.monotonic(), Progress(names, costs), 0
     with open(log, "w", encoding="utf-8") as kept:
-        ran = subprocess.Popen([os.environ.get("RT", "rt"), "lib", "--cpu", cpu], cwd=files.CRATES / CRATE, stdout=subprocess.PIPE,
-                               stderr=subprocess.STDOUT, stdin=subprocess.DEVNULL, text=True, errors="replace")
-        for line in ran.stdout:
-            kept.write(line)
-            kept.flush()
-            progress.read(line)
-        status = ran.wait()
+        for form in wanted:
+            status = status or prove(form, progress, kept)
+            progress = Progress([forms.CRATE], costs)
     spent = resource.getrusage(resource.RUSAGE_CHILDREN)
     if status == 0:
         say(f"proved and built in {minutes(time.monotonic() - began)}, {round(spent.ru_utime + spent.ru_stime)} s of processors")
-    return status if status >= 0 else 1
+    return status
 
 
 if __name__ == "__main__":

@@ -1,0 +1,26 @@
+"""The forms of the C library: one for each processor for which the proved crate is compiled.
+
+A library for x86-64 has two, x86-64-v2 and x86-64-v3, and calls the better one that runs on the machine at hand (scripts/processors.c).
+"""
+
+import files
+
+CRATE = "binary_field_c"
+# What the kit's compiler is told for each.
+FLAGS = {
+    "x86-64-v2": ["--cpu", "x86-64-v2"],
+    "x86-64-v3": ["--cpu", "x86-64-v3"],
+    "aarch64": ["--target", "aarch64-unknown-linux-gnu"],
+}
+# The two that one library has.
+BOTH = ["x86-64-v2", "x86-64-v3"]
+
+
+def archive(form):
+    """Where the archive of a form stands once it is proved and compiled."""
+    return files.CRATES / CRATE / "out" / f"{form}.a"
+
+
+def prefix(form):
+    """What stands before the symbols of a form in a library of two."""
+    return form.replace("-", "_") + "_"
