@@ -30,19 +30,31 @@ class UnsupportedOperation(Exception):
     """What the interface of backends wants to be raised for what is not done."""
 
 
+def machine_of(path):
+    """The machine of an ELF file, a library or a program, as x86_64."""
+    head = path.read_bytes()[:20]
+    number = int.from_bytes(head[18:], "little")
+    if head[:4] != b"\x7fELF" or number not in MACHINES:
+        sys.exit(f"make_wheel: {path} is neither library nor program for {' or '.join(it for it, _ in MACHINES.values())}")
+    return MACHINES[number][0]
+
+
+def libc_of(path):
+    """The oldest version of the C library of GNU with which an ELF file may run, as (2, 17). All of the file is searched for the names of
+    versions, so that none that it wants is left out."""
+    data = path.read_bytes()
+    versions = [tuple(map(int, it)) for it in re.findall(rb"\bGLIBC_(\d+)\.(\d+)", data)]
+    versions += [SHORT_RELOCATIONS[1]] if SHORT_RELOCATIONS[0] in data else []
+    return max([dict(MACHINES.values())[machine_of(path)], *versions])
+
+
 def platform_of(library):
     """The platform of a wheel with the library, as `manylinux_2_17_x86_64`, where it names no shared library but the C library of GNU; else
-    as `linux_x86_64`. All of the file is searched, so that no version that it wants is left out."""
-    data = library.read_bytes()
-    if data[:4] != b"\x7fELF" or (number := int.from_bytes(data[18:20], "little")) not in MACHINES:
-        sys.exit(f"make_wheel: {library} is no shared library for {' or '.join(it for it, _ in MACHINES.values())}")
-    machine, oldest = MACHINES[number]
-    strange = [it for it in re.findall(rb"\b(?:ld|lib)[\w.+-]*\.so(?:\.\d+)+", data) if not PROMISED.fullmatch(it)]
-    versions = [tuple(map(int, it)) for it in re.findall(rb"\bGLIBC_(\d+)\.(\d+)", data)]
-    if strange:
-        return f"linux_{machine}"
-    versions += [SHORT_RELOCATIONS[1]] if SHORT_RELOCATIONS[0] in data else []
-    return "manylinux_{}_{}_{}".format(*max([oldest, *versions]), machine)
+    as `linux_x86_64`."""
+    names = re.findall(rb"\b(?:ld|lib)[\w.+-]*\.so(?:\.\d+)+", library.read_bytes())
+    if not all(PROMISED.fullmatch(it) for it in names):
+        return f"linux_{machine_of(library)}"
+    return "manylinux_{}_{}_{}".format(*libc_of(library), machine_of(library))
 
 
 def project():
@@ -79,20 +91,23 @@ def written(files, platform, folder):
 
 def make(library, folder):
     """Writes the wheel with the library, and returns its path."""
-    files = {f"binary_field/{it.name}": it.read_bytes() for it in sorted((HERE / "binary_field").glob("*")) if it.suffix in (".py", ".typed")}
+    sources = sorted(it for it in (HERE / "binary_field").glob("*") if it.suffix in (".py", ".typed"))
+    files = {f"binary_field/{it.name}": it.read_bytes() for it in sources}
     files[f"binary_field/{LIBRARY}"] = library.read_bytes()
     return written(files, platform_of(library), folder)
 
 
 def found_library():
-    """The shared library that was built; where there is none, the process ends with a sentence that says which command makes it. A folder that is
-    named by a relative path is below the one that pip was started in, or below the repository."""
+    """The shared library that was built; where there is none, the process ends with a sentence that says which command makes it. A folder
+    that is named by a relative path is below the one that pip was started in, or below the repository."""
     named = os.environ.get("BINARY_FIELD_LIBRARY")
     folders = [pathlib.Path(it) / named for it in (os.environ.get("PWD", "."), HERE.parent)] if named else [BUILT]
     for folder in folders:
         if (folder / LIBRARY).is_file():
             return folder / LIBRARY
-    why = f"BINARY_FIELD_LIBRARY is {named}, where there is no {LIBRARY}" if named else f"there is no {BUILT / LIBRARY}, and BINARY_FIELD_LIBRARY is not set"
+    why = f"there is no {BUILT / LIBRARY}, and BINARY_FIELD_LIBRARY is not set"
+    if named:
+        why = f"BINARY_FIELD_LIBRARY is {named}, where there is no {LIBRARY}"
     sys.exit(f"binary_field: {why}. `scripts/build-library build` makes build/lib/{LIBRARY}; a wheel of a release has it in it")
 
 
