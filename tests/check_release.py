@@ -94,7 +94,8 @@ def check_archive(path):
     same(found[f"{LIBRARY}.so.0"], "libbinary_field.so", f"the link in {path.name}")
     page = found["share/doc/binary_field/README.md"].decode()
     newest = [machine_by_readelf(found[it])[2] for it in (f"{LIBRARY}.so", *built)]
-    same("@" in page, False, f"a place to be filled in the page of {path.name}")
+    same(re.findall(r"@|<!--", page), [], f"places to be filled in the page of {path.name}")
+    same("This archive has none" in page, not built, f"whether the page of {path.name} tells of no programs")
     wanted = [max(OLDEST[machine], *it) for it in ([newest[0]], newest)][: 2 if built else 1]
     same([tuple(map(int, it)) for it in re.findall(r"from version (\d+)\.(\d+)", page)], wanted, f"C libraries in the page of {path.name}")
     named = {name.split("/")[4] for name in found if name.startswith("share/doc/binary_field/kit/")}
