@@ -122,7 +122,7 @@ module _ (k m t j : ℕ) (tables : List ℕ) where
 -- ---- all shards of data, each once
 
 -- a sum of which one term was 0 and becomes v
-sum_below-more : (n j v : ℕ) (f g : ℕ → ℕ) → j < n → f j ≡ 0 → g j ≡ v → ((i : ℕ) → i ≢ j → g i ≡ f i) → sum_below g n ≡ bit_xor (sum_below f n) v
+pub sum_below-more : (n j v : ℕ) (f g : ℕ → ℕ) → j < n → f j ≡ 0 → g j ≡ v → ((i : ℕ) → i ≢ j → g i ≡ f i) → sum_below g n ≡ bit_xor (sum_below f n) v
 unfolding sum_below
 sum_below-more zero j v f g inside was is others = absurd (omega (arith, inside))
 sum_below-more (suc n) j v f g inside was is others =

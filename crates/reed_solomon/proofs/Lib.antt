@@ -2,6 +2,7 @@ mod AddedShards
 mod ByteTables
 mod Factors
 mod GroupWriting
+mod MissingFactors
 mod NibbleTables
 mod ParityWords
 mod PreparedTables

@@ -2,15 +2,29 @@
 -- a sum of products of words of data).
 use Rattle.std.specs.Prelude.{◌≡◌, ◌≢◌, ℕ, ◌+◌, ◌*◌, ◌<◌, ◌≤◌, Bool, true, false, List, length, slice_index, drop, if◌then◌else◌, bit_xor}
 use Rattle.field_base.specs.Basis.{sum_below}
+use Rattle.field_base.specs.Codewords.{IsCodeword}
 use Rattle.reed_solomon.specs.ErasureField.{erasure_product}
 use Rattle.reed_solomon.specs.Parity.{parity_factor}
-use Rattle.reed_solomon.specs.Shards.{AreCodewords, shard_byte}
+use Rattle.reed_solomon.specs.Shards.{AreCodewords, IsAmongFirst, shard_byte}
 
 -- to each byte of shard t of the parity of k shards of data the product of the byte of data shard j is added
 abbrev pub AddsShard : ℕ → ℕ → ℕ → List ℕ → List ℕ → List ℕ → Type 0
 AddsShard k t j shard old new =
     (column : ℕ) → column < length old
     → slice_index new column ≡ bit_xor (slice_index old column) (erasure_product (parity_factor k t j) (slice_index shard column))
+
+-- to each byte the product of the byte at its place by a factor is added
+abbrev pub AddsMultiple : ℕ → List ℕ → List ℕ → List ℕ → Type 0
+AddsMultiple factor shard old new =
+    (column : ℕ) → column < length old
+    → slice_index new column ≡ bit_xor (slice_index old column) (erasure_product factor (slice_index shard column))
+
+-- the factors by which the shards at hand, of k of data and others of parity, `total` in all, make shard `shard`: in each column its symbol is
+-- the sum of their products, and those of shards that are not among the first k at hand are 0
+pub record MakeShard (k total : ℕ) (present : List Bool) (shard : ℕ) (factors : List ℕ) : Type 0 where
+  pub others : (i : ℕ) → (IsAmongFirst k present i → ⊥) → slice_index factors i ≡ 0
+  pub sums : (symbol : ℕ → ℕ) → IsCodeword erasure_product k total symbol → ((i : ℕ) → i < total → symbol i < 256)
+      → symbol shard ≡ sum_below (λ i. erasure_product (slice_index factors i) (symbol i)) total
 
 -- in each column `sums` has the sum of the products of those shards of data that were added, for shard t of the parity
 abbrev pub HasAdded : ℕ → ℕ → ℕ → List ℕ → (ℕ → Bool) → List ℕ → Type 0

@@ -1,14 +1,15 @@
-// One shard of data that is added to one shard of parity, by the tables of a code: for shards that stand apart, and for data that come shard
-// by shard.
+// One shard that is added to another: one of data to one of parity, by the tables of a code, and any by a factor. So it goes for shards
+// that stand apart, and for data that come shard by shard.
 ghost use Rattle.std.specs.Prelude.{◌≡◌, ◌+◌, ◌<◌, ◌≤◌, ℕ, length, slice_index, bit_xor};
 ghost use Rattle.std.specs.Simd.Lanes.{chunk, put_chunk, zip2};
-ghost use Rattle.reed_solomon.specs.Adding.{AddsShard};
+ghost use Rattle.reed_solomon.specs.Adding.{AddsMultiple, AddsShard};
 ghost use Rattle.reed_solomon.specs.Parity.{HaveParityTables, tables_length};
 ghost use Rattle.reed_solomon.specs.Tables.{nibble_sum};
 
 use crate::ReedSolomon;
 use crate::groups::bytes_fit;
 use crate::lanes::nibble_sums;
+use crate::tables::set_row;
 use std::simd::prelude::*;
 
 impl ReedSolomon {
@@ -40,6 +41,19 @@ impl ReedSolomon {
             tables,
             group + 128 * data_shard + 32 * (parity_shard % 4),
         );
+    }
+
+    /// Adds to each byte of `sums` the product of the byte of `shard` at its place by the factor, in the field of every code. `shard` has to
+    /// have as many bytes as `sums`.
+    pub fn add_multiple(factor: u8, shard: &[u8], sums: &mut [u8])
+        requires { length shard.now ≡ length sums.old }
+        ensures long { length sums.new ≡ length sums.old }
+        ensures added { AddsMultiple factor shard.now sums.old sums.new }
+    {
+        bytes_fit(shard);
+        let mut entries = [0; 128];
+        set_row(&mut entries, 0, &[factor; 256], 1);
+        add_row(sums, shard, &entries, 0);
     }
 }
 

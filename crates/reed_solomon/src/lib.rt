@@ -13,6 +13,7 @@ mod parity;
 mod prepared;
 mod rows;
 mod sample;
+mod shard_factors;
 pub mod shard_vectors;
 mod tables;
 

@@ -1,0 +1,12 @@
+use Rattle.std.proofs.Common.{◌≡◌, ◌≢◌, ◌<◌, ℕ, length, slice_index}
+use Rattle.field_base.specs.Basis.{sum_below}
+use Rattle.reed_solomon.specs.ErasureField.{erasure_product}
+use Rattle.reed_solomon.proofs.shard_factors.at_places.Given as goal
+
+abbrev pub invariant-loop-j : goal.invariant-loop-j
+invariant-loop-j l =
+    (length l.placed ≡ 256)
+    × ((i : ℕ) → ((j : ℕ) → j < l.j → slice_index l.sample.places j ≢ i) → slice_index l.placed i ≡ 0)
+    × ((total : ℕ) (symbol : ℕ → ℕ) → ((j : ℕ) → j < l.j → slice_index l.sample.places j < total)
+    → sum_below (λ i. erasure_product (slice_index l.placed i) (symbol i)) total
+    ≡ sum_below (λ j. erasure_product (slice_index l.factors j) (symbol (slice_index l.sample.places j))) l.j)
