@@ -41,7 +41,7 @@ pub use field_slices::{
 };
 
 // universal hashes
-pub use tags::{few_keys_collide, hashes_go_on, parts_are_encoded, products_are_reversed};
+pub use tags::{few_keys_collide, gcm_is_message, parts_are_encoded, products_are_reversed};
 
 // Reed-Solomon codes
 pub use reed_solomon::{added_shards_encode, changes_are_seen, erasure_field, lost_shards_return};

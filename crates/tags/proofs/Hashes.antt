@@ -6,7 +6,7 @@ use Rattle.std.proofs.lemmas.Nat.{pow_pos}
 use Rattle.field_base.proofs.RemainderRing.{ghash_ring}
 use Rattle.field_base.proofs.RingLemmas.{times_left_comm}
 use Rattle.tags.specs.Gcm.{gcm_product, ghash}
-use Rattle.tags.specs.Hash.{polynomial_hash, polynomial_hash_from}
+use Rattle.tags.specs.Hash.{polynomial_hash}
 use Rattle.tags.specs.Polyval.{dot, polyval}
 use Rattle.tags.specs.Reversed.{ghash_element, ghash_times, polyval_multiplier}
 use Rattle.tags.proofs.ReversedBits.{reversed, reversed_xor, reversed_twice}
@@ -47,14 +47,6 @@ module _ (product : ℕ → ℕ → ℕ) (key multiplier : ℕ)
       → h ≡ polynomial_hash ghash_times multiplier (map (λ b. reversed 128 (read b)) blocks)
       → write (reversed 128 h) ≡ write (polynomial_hash product key (map read blocks))
   hash_written read write blocks h is = ap write (ap (reversed 128) is ∙ hash_reversed read blocks)
-
-  -- the same of a hash that goes on
-  pub hash_from_written : (read : List ℕ → ℕ) (write : ℕ → List ℕ) (start : ℕ) (blocks : List (List ℕ)) (h : ℕ) → start < 2 ^ 128
-      → h ≡ polynomial_hash_from ghash_times multiplier (reversed 128 start) (map (λ b. reversed 128 (read b)) blocks)
-      → write (reversed 128 h) ≡ write (polynomial_hash_from product key start (map read blocks))
-  hash_from_written read write start blocks h fits is =
-      ap write (ap (reversed 128) (is ∙ sym (fold_image read start blocks))
-      ∙ reversed_twice 128 (polynomial_hash_from product key start (map read blocks)) (fold-lt product key below start (map read blocks) fits))
 
 -- the hash of a standard, as it is written, is that of the field by a multiplier made of the key, with the bits reversed
 abbrev IsHashOfField : (List ℕ → ℕ) → (ℕ → List ℕ) → (List ℕ → ℕ) → (List ℕ → List (List ℕ) → List ℕ) → Type 0

@@ -1,4 +1,5 @@
 pub mod ReversedBits
+pub mod Storing
 pub mod Swapping
 pub mod Turns
 pub mod Steps

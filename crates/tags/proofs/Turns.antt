@@ -1,5 +1,5 @@
 -- Horner's rule over interleaved sums, and over some blocks and then others.
-use Rattle.std.proofs.Common.{◌≡◌, ℕ, zero, suc, ◌+◌, ◌-◌, ◌*◌, ◌%◌, ◌^◌, ◌<◌, ◌≤◌, List, [], ◌∷◌, ◌++◌, length, take, drop, replicate, refl, sym, ◌∙◌, ap, ap₂, arith, length-drop}
+use Rattle.std.proofs.Common.{◌≡◌, ℕ, zero, suc, ◌+◌, ◌*◌, ◌%◌, ◌^◌, ◌<◌, ◌≤◌, List, [], ◌∷◌, ◌++◌, length, take, drop, replicate, refl, sym, ◌∙◌, ap, ap₂, arith, length-drop}
 use Rattle.std.specs.Prelude.{bit_xor, fold, map, get_or, slice_index_or, slice_set}
 use Rattle.std.proofs.lemmas.List.{drop-drop, map-append, take-append-le, take_more}
 use Rattle.std.proofs.lemmas.List.Sums.{fold-append}

@@ -2,10 +2,8 @@
 // the field multiplies by, a hash as a block, and a length as 8 bytes.
 ghost use Rattle.std.specs.Prelude.{◌≡◌, ◌<◌, ◌^◌, ℕ, List, map};
 ghost use Rattle.std.specs.Int.{to_be_bytes, to_le_bytes, w64};
-ghost use Rattle.tags.specs.Blocks.{IsBlock};
 ghost use Rattle.tags.specs.Gcm.{ghash};
-ghost use Rattle.tags.specs.Hash.{polynomial_hash, polynomial_hash_from};
-ghost use Rattle.tags.specs.Pieces.{ghash_from, polyval_from};
+ghost use Rattle.tags.specs.Hash.{polynomial_hash};
 ghost use Rattle.tags.specs.MultiplierLemmas.{ghash_element-lt, polyval_multiplier-lt};
 ghost use Rattle.tags.specs.Polyval.{polyval};
 ghost use Rattle.tags.specs.Reversed.{ghash_element, ghash_times, polyval_element, polyval_multiplier};
@@ -15,15 +13,12 @@ use word_carryless::multiply_mod_128;
 
 /// How a standard writes blocks, keys, hashes and lengths.
 pub trait Encoding {
-    // The element of a block, what the field multiplies by for a key, the standard's hash of blocks under a key, the one that goes on
-    // from a hash, and a number as 8 bytes.
+    // The element of a block, what the field multiplies by for a key, the standard's hash of blocks under a key, and a number as 8 bytes.
     ghost element: { List ℕ → ℕ };
 
     ghost multiplier: { List ℕ → ℕ };
 
     ghost hash: { List ℕ → List (List ℕ) → List ℕ };
-
-    ghost hash_from: { List ℕ → List ℕ → List (List ℕ) → List ℕ };
 
     ghost bytes: { ℕ → List ℕ };
 
@@ -38,14 +33,10 @@ pub trait Encoding {
     fn multiplier_of(key: [u8; 16]) -> u128
         ensures { result ≡ multiplier key };
 
-    /// The block of a sum: where the sum is the hash of the elements of blocks, the standard's hash of the blocks, also where it went on from
-    /// the element of a hash.
+    /// The block of a sum: where the sum is the hash of the elements of blocks, the standard's hash of the blocks.
     fn write(sum: u128) -> [u8; 16]
-        ensures whole { (key : List ℕ) (blocks : List (List ℕ)) → sum ≡ polynomial_hash ghash_times (multiplier key) (map element blocks)
-            → result ≡ hash key blocks }
-        ensures continued { (key start : List ℕ) (blocks : List (List ℕ)) → IsBlock start
-            → sum ≡ polynomial_hash_from ghash_times (multiplier key) (element start) (map element blocks)
-            → result ≡ hash_from key start blocks };
+        ensures { (key : List ℕ) (blocks : List (List ℕ)) → sum ≡ polynomial_hash ghash_times (multiplier key) (map element blocks)
+            → result ≡ hash key blocks };
 
     /// The 8 bytes of a number.
     fn bytes_of(number: u64) -> [u8; 8]
@@ -61,8 +52,6 @@ impl Encoding for HighestFirst {
     ghost multiplier = { ghash_element };
 
     ghost hash = { ghash };
-
-    ghost hash_from = { ghash_from };
 
     ghost bytes = { to_be_bytes w64 };
 
@@ -96,8 +85,6 @@ impl Encoding for LowestFirst {
     ghost multiplier = { polyval_multiplier };
 
     ghost hash = { polyval };
-
-    ghost hash_from = { polyval_from };
 
     ghost bytes = { to_le_bytes w64 };
 

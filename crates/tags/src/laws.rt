@@ -1,6 +1,6 @@
 // Laws of the definitions, as contracts of functions that compute nothing.
 ghost use Rattle.tags.specs.Collisions.{GhashCollides, LastBlockDiffers, PolynomialHashCollides, PolyvalCollides, SameLengthIsSame};
-ghost use Rattle.tags.specs.Pieces.{GcmGoesOn, GhashGoesOn, PolyvalGoesOn};
+ghost use Rattle.tags.specs.Pieces.{GcmIsMessage};
 ghost use Rattle.tags.specs.EncodedParts.{GcmCollides, GcmEncodesParts, GcmSivCollides, GcmSivEncodesParts};
 ghost use Rattle.tags.specs.Polyval.{PolyvalIsGhash};
 ghost use Rattle.tags.specs.Reversed.{DotIsReversed, GcmProductIsReversed};
@@ -39,11 +39,9 @@ pub fn parts_are_encoded()
     ensures gcm_siv_collides { GcmSivCollides }
 {}
 
-/// States that a message may be hashed in pieces that are whole blocks but for the last one, each from the hash of those before it, and the
-/// first one from 16 zeros: that gives GHASH, POLYVAL, and what GCM hashes, of the whole message.
-#[tactic(auto, using(crate::proofs::Pieces::ghash_goes_on, crate::proofs::Pieces::polyval_goes_on, crate::proofs::Pieces::gcm_goes_on))]
-pub fn hashes_go_on()
-    ensures ghash { GhashGoesOn }
-    ensures polyval { PolyvalGoesOn }
-    ensures gcm { GcmGoesOn }
+/// States that what GCM hashes is GHASH of one message: the associated data and the text, zeros added behind each to whole blocks, and the block
+/// of their lengths. So a hash in pieces computes it.
+#[tactic(auto, using(crate::proofs::Pieces::gcm_is_message))]
+pub fn gcm_is_message()
+    ensures { GcmIsMessage }
 {}

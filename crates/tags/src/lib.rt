@@ -7,19 +7,17 @@
 mod absorber;
 mod blocks;
 mod compare;
-mod continued;
 mod encoding;
 mod gcm;
 mod interleaved;
 mod laws;
-mod prepared;
 mod reversal;
+mod state;
 mod universal;
 
 pub use crate::compare::tags_are_equal;
-pub use crate::continued::{gcm_ghash_final, hash_from, hash_from_in_vectors};
 pub use crate::encoding::{Encoding, HighestFirst, LowestFirst};
 pub use crate::gcm::{gcm_ghash, gcm_ghash_in_vectors, gcm_siv_polyval};
-pub use crate::laws::{few_keys_collide, hashes_go_on, parts_are_encoded, products_are_reversed};
-pub use crate::prepared::{hash_from_prepared, prepare_key};
+pub use crate::laws::{few_keys_collide, gcm_is_message, parts_are_encoded, products_are_reversed};
+pub use crate::state::HashState;
 pub use crate::universal::{Ghash, KeyedHash, Polyval, UniversalHash};
