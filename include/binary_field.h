@@ -8,8 +8,8 @@
  * in words[0], that of y in words[1] and that of y^2 in words[2].
  *
  * Arrays. An array is a pointer and a length, which counts elements and not bytes. The pointer may be NULL where the
- * length is 0; a scalar or a result is never NULL. Each pointer is aligned as C aligns its type. An array or a result
- * that a function writes may overlap no other array, result or scalar of the same call; what is only read may overlap
+ * length is 0; a scalar, a result or a state is never NULL. Each pointer is aligned as C aligns its type. An array, a
+ * result or a state that a function writes may overlap nothing else of the same call; what is only read may overlap
  * each other. For x = x * y there are the functions whose names end in _in_place. In arrays named space and places a
  * call works: behind it, whatever the status, nothing is said of what they hold. A comment begins with the name of what
  * the function writes. Where it says nothing of lengths, every length will do.
@@ -63,6 +63,17 @@ typedef struct bf_u128 {
 typedef struct bf_u192 {
     uint64_t words[3];
 } bf_u192;
+
+/* A hash of GHASH in pieces: what it holds is read and written by the functions bf_tag_ghash_* alone, and by
+ * bf_tag_gcm_ghash_final. */
+typedef struct bf_ghash_state {
+    uint64_t words[13];
+} bf_ghash_state;
+
+/* A hash of POLYVAL in pieces, for the functions bf_tag_polyval_*. */
+typedef struct bf_polyval_state {
+    uint64_t words[13];
+} bf_polyval_state;
 
 /* Success. */
 #define BF_OK 0u
@@ -1688,15 +1699,14 @@ uint32_t bf_t128_inverse_transform(bf_u128 *values, size_t values_length,
     const bf_u128 *shift) BF_CHECKED BF_NONNULL(3);
 
 /* ------------------------------------------------------------------------------------------------------------------ */
-/* Hashes of authentication tags. Nothing is claimed on timing. Of a message in pieces nothing is kept but its hash
- * so far, which the caller makes 16 zeros at first. bf_tag_ghash_update takes pieces of whole blocks, and
- * bf_tag_ghash_update_padded the last one, of any length: behind each call hash is what bf_tag_ghash gives of all
- * bytes so far. For GCM the associated data come first and then the ciphertext, the last piece of each padded, and
- * bf_tag_gcm_ghash_final makes of that what bf_tag_gcm_ghash gives. GCM-SIV goes so by POLYVAL, over the plain text,
- * and ends with bf_tag_polyval_update of 16 bytes: both lengths in bits, 8 bytes each, the lowest first. A key of
- * many calls is prepared once: bf_tag_ghash_update_prepared takes what bf_tag_ghash_prepare made of it in place of
- * the key, and pieces as bf_tag_ghash_update_padded does, and bf_tag_polyval_update_prepared so of POLYVAL. What was
- * made of a key tells the key. */
+/* Hashes of authentication tags. Nothing is claimed on timing. A message in pieces of any length is hashed by a
+ * struct of the caller: bf_tag_ghash_init makes it of the key, bf_tag_ghash_update adds bytes to its message, and
+ * bf_tag_ghash_final writes what bf_tag_ghash gives of the whole message. It has no address in it, so that a copy of
+ * it goes on by itself, and one that was made of a key serves for many messages; it tells the key. By one that these
+ * functions did not make a call writes bytes of which nothing is said. For GCM the associated data come first, then
+ * bf_tag_ghash_pad, and then the ciphertext, and bf_tag_gcm_ghash_final writes what bf_tag_gcm_ghash gives. GCM-SIV
+ * goes so by POLYVAL, over the plain text: behind that come bf_tag_polyval_pad, 16 bytes more, which are both
+ * lengths in bits, 8 bytes each, the lowest first, and bf_tag_polyval_final. */
 
 /* hash: GHASH of the message (NIST SP 800-38D), zeros added to whole blocks. BF_LENGTH unless key and hash have 16
  * bytes. */
@@ -1712,50 +1722,41 @@ uint32_t bf_tag_polyval(const uint8_t *key, size_t key_length, const uint8_t *me
 uint32_t bf_tag_gcm_ghash(const uint8_t *key, size_t key_length, const uint8_t *associated, size_t associated_length,
     const uint8_t *ciphertext, size_t ciphertext_length, uint8_t *hash, size_t hash_length) BF_CHECKED;
 
-/* GHASH of more whole blocks: hash is that of the blocks before, and then that of these too. BF_LENGTH unless key
- * and hash have 16 bytes, and blocks a multiple of 16. */
-uint32_t bf_tag_ghash_update(const uint8_t *key, size_t key_length, const uint8_t *blocks, size_t blocks_length,
-    uint8_t *hash, size_t hash_length) BF_CHECKED;
+/* state: the hash of the empty message under the key, to which bf_tag_ghash_update adds bytes. BF_LENGTH unless key
+ * has 16 bytes. */
+uint32_t bf_tag_ghash_init(bf_ghash_state *state, const uint8_t *key, size_t key_length) BF_CHECKED BF_NONNULL(1);
 
-/* GHASH of more bytes, zeros added to whole blocks: hash is that of the blocks before, and then that of these too.
- * BF_LENGTH unless key and hash have 16 bytes. */
-uint32_t bf_tag_ghash_update_padded(const uint8_t *key, size_t key_length,
-    const uint8_t *message, size_t message_length, uint8_t *hash, size_t hash_length) BF_CHECKED;
+/* Adds bytes to the message, of any number: no zeros come between them and the next ones. */
+uint32_t bf_tag_ghash_update(bf_ghash_state *state,
+    const uint8_t *message, size_t message_length) BF_CHECKED BF_NONNULL(1);
 
-/* prepared: what hashes under the key go by, for bf_tag_ghash_update_prepared: the element by which the field
- * multiplies for it, and its powers up to the fourth. BF_LENGTH unless key has 16 bytes, and prepared 64. */
-uint32_t bf_tag_ghash_prepare(const uint8_t *key, size_t key_length,
-    uint8_t *prepared, size_t prepared_length) BF_CHECKED;
+/* Adds as many zeros as make the message whole blocks, which may be none. */
+uint32_t bf_tag_ghash_pad(bf_ghash_state *state) BF_CHECKED BF_NONNULL(1);
 
-/* The same as bf_tag_ghash_update_padded, by what bf_tag_ghash_prepare wrote for the key; by other bytes it writes
- * 16 bytes of which nothing is said. BF_LENGTH unless prepared has 64 bytes, and hash 16. */
-uint32_t bf_tag_ghash_update_prepared(const uint8_t *prepared, size_t prepared_length,
-    const uint8_t *message, size_t message_length, uint8_t *hash, size_t hash_length) BF_CHECKED;
+/* hash: what bf_tag_ghash gives of the message, which is then empty, under the same key. BF_LENGTH unless hash has
+ * 16 bytes. */
+uint32_t bf_tag_ghash_final(bf_ghash_state *state, uint8_t *hash, size_t hash_length) BF_CHECKED BF_NONNULL(1);
 
-/* POLYVAL of more whole blocks: hash is that of the blocks before, and then that of these too. BF_LENGTH unless key
- * and hash have 16 bytes, and blocks a multiple of 16. */
-uint32_t bf_tag_polyval_update(const uint8_t *key, size_t key_length, const uint8_t *blocks, size_t blocks_length,
-    uint8_t *hash, size_t hash_length) BF_CHECKED;
+/* state: the hash of the empty message under the key, to which bf_tag_polyval_update adds bytes. BF_LENGTH unless
+ * key has 16 bytes. */
+uint32_t bf_tag_polyval_init(bf_polyval_state *state, const uint8_t *key, size_t key_length) BF_CHECKED BF_NONNULL(1);
 
-/* POLYVAL of more bytes, zeros added to whole blocks: hash is that of the blocks before, and then that of these too.
- * BF_LENGTH unless key and hash have 16 bytes. */
-uint32_t bf_tag_polyval_update_padded(const uint8_t *key, size_t key_length,
-    const uint8_t *message, size_t message_length, uint8_t *hash, size_t hash_length) BF_CHECKED;
+/* Adds bytes to the message, of any number: no zeros come between them and the next ones. */
+uint32_t bf_tag_polyval_update(bf_polyval_state *state,
+    const uint8_t *message, size_t message_length) BF_CHECKED BF_NONNULL(1);
 
-/* prepared: what hashes under the key go by, for bf_tag_polyval_update_prepared: the element by which the field
- * multiplies for it, and its powers up to the fourth. BF_LENGTH unless key has 16 bytes, and prepared 64. */
-uint32_t bf_tag_polyval_prepare(const uint8_t *key, size_t key_length,
-    uint8_t *prepared, size_t prepared_length) BF_CHECKED;
+/* Adds as many zeros as make the message whole blocks, which may be none. */
+uint32_t bf_tag_polyval_pad(bf_polyval_state *state) BF_CHECKED BF_NONNULL(1);
 
-/* The same as bf_tag_polyval_update_padded, by what bf_tag_polyval_prepare wrote for the key; by other bytes it
- * writes 16 bytes of which nothing is said. BF_LENGTH unless prepared has 64 bytes, and hash 16. */
-uint32_t bf_tag_polyval_update_prepared(const uint8_t *prepared, size_t prepared_length,
-    const uint8_t *message, size_t message_length, uint8_t *hash, size_t hash_length) BF_CHECKED;
+/* hash: what bf_tag_polyval gives of the message, which is then empty, under the same key. BF_LENGTH unless hash has
+ * 16 bytes. */
+uint32_t bf_tag_polyval_final(bf_polyval_state *state, uint8_t *hash, size_t hash_length) BF_CHECKED BF_NONNULL(1);
 
-/* GHASH of the block of two lengths in bytes, each below 2^61, as GCM has them: hash is that of the blocks before,
- * and then that of this one too. BF_LENGTH unless key and hash have 16 bytes, and both lengths are below 2^61. */
-uint32_t bf_tag_gcm_ghash_final(const uint8_t *key, size_t key_length, size_t associated_length,
-    size_t ciphertext_length, uint8_t *hash, size_t hash_length) BF_CHECKED;
+/* hash: what bf_tag_gcm_ghash gives, where the message is the associated data, bf_tag_ghash_pad behind them, and the
+ * ciphertext, by their lengths in bytes, each below 2^61; the message is then empty, under the same key. BF_LENGTH
+ * unless hash has 16 bytes, and both lengths are below 2^61. */
+uint32_t bf_tag_gcm_ghash_final(bf_ghash_state *state, size_t associated_length, size_t ciphertext_length,
+    uint8_t *hash, size_t hash_length) BF_CHECKED BF_NONNULL(1);
 
 /* equal: 1 where the two have the same bytes, else 0. What a compiler made of it was looked at: all bytes are read
  * whatever they are, and one test comes at the end; unlike lengths return at once. No other function was looked at
@@ -1832,6 +1833,19 @@ uint32_t bf_rs_verify(size_t data, size_t parity, const uint8_t *shards, size_t 
 uint32_t bf_rs_verify_prepared(size_t data, size_t parity, const uint8_t *tables, size_t tables_length,
     const uint8_t *shards, size_t shards_length, uint8_t *whole) BF_CHECKED BF_NONNULL(7);
 
+/* factors: the factor of each shard in a missing one, which is the sum of the products of the present shards by
+ * their factors: shard i is missing where present[i] is 0, and the factors of all but the first present shards, as
+ * many as data, are 0. BF_CODE if data and parity are not both at least 1 and together at most 256. BF_LENGTH unless
+ * present and factors have data + parity bytes, and shard is below data + parity and missing. BF_TOO_FEW_SHARDS
+ * unless at least as many entries of present as data are not 0. */
+uint32_t bf_rs_shard_factors(size_t data, size_t parity, const uint8_t *present, size_t present_length, size_t shard,
+    uint8_t *factors, size_t factors_length) BF_CHECKED;
+
+/* Adds to each byte of sums the product of the byte of shard at its place by the factor, modulo x^8 + x^4 + x^3 +
+ * x^2 + 1. BF_LENGTH unless shard and sums have one length. */
+uint32_t bf_rs_add_multiple(uint8_t factor, const uint8_t *shard, size_t shard_length,
+    uint8_t *sums, size_t sums_length) BF_CHECKED;
+
 /* Writes the missing shards: shard i is missing where present[i] is 0. BF_CODE if data and parity are not both at
  * least 1 and together at most 256. BF_LENGTH unless shards has a multiple, but not 0, of data + parity bytes, and
  * present has data + parity. BF_TOO_FEW_SHARDS unless at least as many entries of present as data are not 0. */
@@ -1843,6 +1857,40 @@ uint32_t bf_rs_reconstruct(size_t data, size_t parity, uint8_t *shards, size_t s
  * BF_TOO_FEW_SHARDS unless at least as many entries of present as data are not 0. */
 uint32_t bf_rs_reconstruct_data(size_t data, size_t parity, uint8_t *shards, size_t shards_length,
     const uint8_t *present, size_t present_length) BF_CHECKED;
+
+/* Writes the missing shards of shards that stand apart, each of size bytes. shards has the pointers of those of
+ * data, and then of those of parity; a shard that is missing overlaps no other. Shard i is missing where present[i]
+ * is 0; where its pointer is NULL too it is left out, as those of parity may be. This is bf_rs_shard_factors for
+ * each missing shard, and bf_rs_add_multiple for each pair, and no function of the library: it is tested and not
+ * proved. BF_CODE, BF_LENGTH (of a size of 0) and BF_TOO_FEW_SHARDS come as from bf_rs_reconstruct, and then the
+ * shards are as before. */
+static inline uint32_t BF_CHECKED bf_rs_reconstruct_pointers(
+    size_t data, size_t parity, uint8_t *const *shards, const uint8_t *present, size_t size)
+{
+    uint8_t factors[256];
+    uint64_t tables_length;
+    size_t lost, place, at;
+    /* This tells whether there is such a code, before flags are read. */
+    uint32_t status = bf_rs_tables_length(data, parity, &tables_length);
+    if (status == BF_OK && size == 0) {
+        status = BF_LENGTH;
+    }
+    for (lost = 0; status == BF_OK && lost < data + parity; lost++) {
+        if (present[lost]) {
+            continue;
+        }
+        status = bf_rs_shard_factors(data, parity, present, data + parity, lost, factors, data + parity);
+        for (place = 0; status == BF_OK && shards[lost] && place < size; place++) {
+            shards[lost][place] = 0;
+        }
+        for (at = 0; status == BF_OK && shards[lost] && at < data + parity; at++) {
+            if (factors[at]) {
+                status = bf_rs_add_multiple(factors[at], shards[at], size, shards[lost], size);
+            }
+        }
+    }
+    return status;
+}
 
 /* ------------------------------------------------------------------------------------------------------------------ */
 /* Reed-Solomon codes over t16 by additive transforms, of thousands of shards: column i of the shards, their word i,

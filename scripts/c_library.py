@@ -6,6 +6,7 @@ The fields are those of fields.py. A parameter is (kind, name) or (kind, name, w
   out     an array that is written: a pointer and a length
   scalar  one element that is read: by value up to 64 bits, else by a pointer that is not null
   result  one element or number that is written: a pointer that is not null
+  state   a struct of the caller that is read and written: a pointer that is not null
   space   an array in which a call works, and of which nothing is said behind it: a pointer and a length
   number  a number of 64 bits, by value
   count   a number of things, by value: a size_t, which has 64 bits
@@ -24,9 +25,13 @@ STATUSES = [
     ("BF_UNSOLVABLE", 6, "the equations have no solution, or the matrix has no inverse"),
 ]
 
+# How many words of 64 bits a hash in pieces has.
+STATE_WORDS = 13
+
 # The word of C for each word of the table. The wide ones are structs of words of 64 bits, the lowest first.
 WORDS = {
     "u8": "uint8_t", "u16": "uint16_t", "u32": "uint32_t", "u64": "uint64_t", "u128": "bf_u128", "u192": "bf_u192", "usize": "size_t",
+    "ghash_state": "bf_ghash_state", "polyval_state": "bf_polyval_state",
 }
 
 # For every field, as bf_FIELD_NAME. Arrays have one length unless the text says otherwise.
@@ -105,22 +110,20 @@ OTHER_FUNCTIONS = [
      "POLYVAL of the message (RFC 8452), zeros added to whole blocks; key and hash have 16 bytes"),
     ("tag_gcm_ghash", [("in", "key", "u8"), ("in", "associated", "u8"), ("in", "ciphertext", "u8"), ("out", "hash", "u8")],
      "the hash of GCM over associated data and ciphertext, each below 2^61 bytes, with the block of their lengths; key and hash have 16 bytes"),
-    *[it for name, standard in (("ghash", "GHASH"), ("polyval", "POLYVAL")) for it in [
-        (f"tag_{name}_update", [("in", "key", "u8"), ("in", "blocks", "u8"), ("inout", "hash", "u8")],
-         f"{standard} of more whole blocks: hash is that of the blocks before, and then that of these too; key and hash have 16 bytes"),
-        (f"tag_{name}_update_padded", [("in", "key", "u8"), ("in", "message", "u8"), ("inout", "hash", "u8")],
-         f"{standard} of more bytes, zeros added to whole blocks: hash is that of the blocks before, and then that of these too; key and "
-         "hash have 16 bytes"),
-        (f"tag_{name}_prepare", [("in", "key", "u8"), ("out", "prepared", "u8")],
-         f"what hashes under the key go by, for tag_{name}_update_prepared: the element by which the field multiplies for it, and its powers up to the "
-         "fourth; key has 16 bytes, and prepared 64"),
-        (f"tag_{name}_update_prepared", [("in", "prepared", "u8"), ("in", "message", "u8"), ("inout", "hash", "u8")],
-         f"the same as tag_{name}_update_padded, by what tag_{name}_prepare wrote for the key; by other bytes it writes 16 bytes of which "
-         "nothing is said; prepared has 64 bytes, and hash 16"),
+    *[it for name in ("ghash", "polyval") for it in [
+        (f"tag_{name}_init", [("result", "state", f"{name}_state"), ("in", "key", "u8")],
+         f"the hash of the empty message under the key, to which tag_{name}_update adds bytes; key has 16 bytes"),
+        (f"tag_{name}_update", [("state", "state", f"{name}_state"), ("in", "message", "u8")],
+         "adds bytes to the message, of any number: no zeros come between them and the next ones"),
+        (f"tag_{name}_pad", [("state", "state", f"{name}_state")],
+         "adds as many zeros as make the message whole blocks, which may be none"),
+        (f"tag_{name}_final", [("state", "state", f"{name}_state"), ("out", "hash", "u8")],
+         f"what tag_{name} gives of the message, which is then empty, under the same key; hash has 16 bytes"),
     ]],
-    ("tag_gcm_ghash_final", [("in", "key", "u8"), ("count", "associated_length"), ("count", "ciphertext_length"), ("inout", "hash", "u8")],
-     "GHASH of the block of two lengths in bytes, each below 2^61, as GCM has them: hash is that of the blocks before, and then that of this "
-     "one too; key and hash have 16 bytes"),
+    ("tag_gcm_ghash_final", [("state", "state", "ghash_state"), ("count", "associated_length"), ("count", "ciphertext_length"),
+                             ("out", "hash", "u8")],
+     "what tag_gcm_ghash gives, where the message is the associated data, tag_ghash_pad behind them, and the ciphertext, by their lengths "
+     "in bytes, each below 2^61; the message is then empty, under the same key; hash has 16 bytes"),
     ("tags_are_equal", [("in", "left", "u8"), ("in", "right", "u8"), ("result", "equal", "u8")],
      "1 where the two have the same bytes, else 0. What a compiler made of it was looked at: all bytes are read whatever they are, and one test "
      "comes at the end; unlike lengths return at once. No other function was looked at for its timing"),
@@ -141,6 +144,11 @@ OTHER_FUNCTIONS = [
                       ("in", "shard", "u8"), ("inout", "sums", "u8")],
      "adds to sums what a shard of data is in a shard of parity, by the tables that rs_prepare wrote for this code; once each shard of data was "
      "added to zeros, in any order, sums is that shard of parity"),
+    ("rs_shard_factors", [("count", "data"), ("count", "parity"), ("in", "present", "u8"), ("count", "shard"), ("out", "factors", "u8")],
+     "the factor of each shard in a missing one, which is the sum of the products of the present shards by their factors: shard i is missing "
+     "where present[i] is 0, and the factors of all but the first present shards, as many as data, are 0"),
+    ("rs_add_multiple", [("scalar", "factor", "u8"), ("in", "shard", "u8"), ("inout", "sums", "u8")],
+     "adds to each byte of sums the product of the byte of shard at its place by the factor, modulo x^8 + x^4 + x^3 + x^2 + 1"),
     ("rs_reconstruct", [("count", "data"), ("count", "parity"), ("inout", "shards", "u8"), ("in", "present", "u8")],
      "writes the missing shards: shard i is missing where present[i] is 0"),
     ("rs_reconstruct_data", [("count", "data"), ("count", "parity"), ("inout", "shards", "u8"), ("in", "present", "u8")],
@@ -168,7 +176,7 @@ WIDE = [
     *[f"g128_{name}" for name in ("inverse", "inverse_in_place", "batch_inverse")],
     *[f"g128_{name}" for name, _, _ in MATRIX_FUNCTIONS],
     "tag_ghash", "tag_polyval", "tag_gcm_ghash",
-    *[f"tag_{name}_{how}" for name in ("ghash", "polyval") for how in ("update", "update_padded", "update_prepared")],
+    "tag_ghash_update", "tag_polyval_update",
 ]
 
 # This returns no status.

@@ -23,6 +23,7 @@ from make_c_header import ARRAYS, sections, told
 WRITTEN = files.generated("make_bindings.py")
 # The words of the library as Rust passes them, and as an element holds them.
 PASSED = {"u8": "u8", "u16": "u16", "u32": "u32", "u64": "u64", "u128": "[u64; 2]", "u192": "[u64; 3]", "usize": "usize"}
+PASSED |= {it: f"[u64; {c_library.STATE_WORDS}]" for it in ("ghash_state", "polyval_state")}
 HELD = PASSED | {"u128": "u128"}
 # What a field of the Rust crate calls of the functions that every field has.
 RUST_FUNCTIONS = (
@@ -48,6 +49,9 @@ def python_functions():
 # The version that this package belongs to, as bf_version returns it and as people write it.
 VERSION = {fields.VERSION_NUMBER}
 VERSION_TEXT = "{fields.VERSION_TEXT}"
+
+# How many words of 64 bits a hash in pieces has.
+STATE_WORDS = {c_library.STATE_WORDS}
 
 # The name of each status, and its sentence.
 STATUSES: dict[int, tuple[str, str]] = {{
@@ -91,7 +95,7 @@ def rust_declared(parameters):
         if kind in ARRAYS:
             yield f"{name}: *{'const' if kind == 'in' else 'mut'} {it}"
             yield f"{name}_length: usize"
-        elif kind == "result":
+        elif kind in ("result", "state"):
             yield f"{name}: *mut {it}"
         elif kind == "scalar" and it.startswith("["):
             yield f"{name}: *const {it}"

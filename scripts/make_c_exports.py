@@ -14,7 +14,7 @@ import fields
 import files
 
 # The words `W` of slices by those of the table.
-WORDS = {"u128": "Wide", "u192": "Cubic"}
+WORDS = {"u128": "Wide", "u192": "Cubic", "ghash_state": "HashState", "polyval_state": "HashState"}
 
 # The stored words of kernels that are no integers of Rust, by those of the table.
 STORED = {"u192": "Triple"}
@@ -49,8 +49,7 @@ OPERATIONS = {row[0]: row[3] for row in CALL_ROWS if len(row) > 3}
 # The vectors that the calls work in, and the functions of c_calls of no field over a type of vectors.
 NARROW, WIDE = "u64x2", "u64x4"
 WITH_WIDTH = {
-    "butterfly_forward", "butterfly_inverse", "low_stages", "transform", "inverse_transform", "hash", "hash_update", "hash_update_padded",
-    "hash_update_prepared", "gcm_ghash",
+    "butterfly_forward", "butterfly_inverse", "low_stages", "transform", "inverse_transform", "hash", "hash_update", "gcm_ghash",
 }
 
 # Calls whose loops may take two elements in a turn.
@@ -70,22 +69,19 @@ g128_transform          transforms  transform          Transforms (wide_number s
 g128_inverse_transform  transforms  inverse_transform  InvertsTransform (wide_number shift.now) values.old values.new result
 tag_ghash               messages    hash::<tags::HighestFirst>  Hashes (Unit {0}) key.now (ghash key.now (blocks_of message.now)) hash.old hash.new result
 tag_polyval             messages    hash::<tags::LowestFirst>   Hashes (Unit {0}) key.now (polyval key.now (blocks_of message.now)) hash.old hash.new result
-tag_ghash_update           messages  hash_update::<tags::HighestFirst>         Hashes (length blocks.now % 16 ≡ 0) key.now \
-(ghash_from key.now hash.old (blocks_of blocks.now)) hash.old hash.new result
-tag_ghash_update_padded    messages  hash_update_padded::<tags::HighestFirst>  Hashes (Unit {0}) key.now \
-(ghash_from key.now hash.old (blocks_of message.now)) hash.old hash.new result
-tag_polyval_update         messages  hash_update::<tags::LowestFirst>          Hashes (length blocks.now % 16 ≡ 0) key.now \
-(polyval_from key.now hash.old (blocks_of blocks.now)) hash.old hash.new result
-tag_polyval_update_padded  messages  hash_update_padded::<tags::LowestFirst>   Hashes (Unit {0}) key.now \
-(polyval_from key.now hash.old (blocks_of message.now)) hash.old hash.new result
-tag_ghash_prepare    messages  hash_prepare::<tags::HighestFirst>  PreparesKey key.now (ghash_prepared key.now) prepared.old prepared.new result
-tag_polyval_prepare  messages  hash_prepare::<tags::LowestFirst>   PreparesKey key.now (polyval_prepared key.now) prepared.old prepared.new result
-tag_ghash_update_prepared    messages  hash_update_prepared::<tags::HighestFirst>  HashesPrepared ghash_prepared prepared.now \
-(λ key. ghash_from key hash.old (blocks_of message.now)) hash.old hash.new result
-tag_polyval_update_prepared  messages  hash_update_prepared::<tags::LowestFirst>   HashesPrepared polyval_prepared prepared.now \
-(λ key. polyval_from key hash.old (blocks_of message.now)) hash.old hash.new result
-tag_gcm_ghash_final     messages    gcm_ghash_final    Hashes ((associated_length < 2 ^ 61) × (ciphertext_length < 2 ^ 61)) key.now \
-(ghash_from key.now hash.old (block_of_lengths associated_length ciphertext_length ∷ [])) hash.old hash.new result
+tag_ghash_init  messages  hash_begin::<tags::HighestFirst>  BeginsHash HoldsGhash key.now state.old state.new result
+tag_ghash_update  messages  hash_update::<tags::HighestFirst>  ChangesMessage HoldsGhash (λ m. m ++ message.now) state.old state.new result
+tag_ghash_pad  messages  hash_pad::<tags::HighestFirst>  ChangesMessage HoldsGhash (λ m. zero_padded m) state.old state.new result
+tag_ghash_final  messages  hash_end::<tags::HighestFirst>  EndsHash HoldsGhash (Unit {0}) (λ key m. ghash key (blocks_of m)) \
+state.old hash.old state.new hash.new result
+tag_polyval_init  messages  hash_begin::<tags::LowestFirst>  BeginsHash HoldsPolyval key.now state.old state.new result
+tag_polyval_update  messages  hash_update::<tags::LowestFirst>  ChangesMessage HoldsPolyval (λ m. m ++ message.now) \
+state.old state.new result
+tag_polyval_pad  messages  hash_pad::<tags::LowestFirst>  ChangesMessage HoldsPolyval (λ m. zero_padded m) state.old state.new result
+tag_polyval_final  messages  hash_end::<tags::LowestFirst>  EndsHash HoldsPolyval (Unit {0}) (λ key m. polyval key (blocks_of m)) \
+state.old hash.old state.new hash.new result
+tag_gcm_ghash_final  messages  gcm_hash_end  EndsHash HoldsGhash ((associated_length < 2 ^ 61) × (ciphertext_length < 2 ^ 61)) \
+(hash_with_lengths associated_length ciphertext_length) state.old hash.old state.new hash.new result
 tag_gcm_ghash           messages    gcm_ghash          Hashes ((length associated.now < 2 ^ 61) × (length ciphertext.now < 2 ^ 61)) key.now \
 (ghash key.now (gcm_blocks associated.now ciphertext.now)) hash.old hash.new result
 tags_are_equal          messages    tags_are_equal     Compares left.now right.now equal.new result
@@ -96,6 +92,8 @@ rs_prepare              shards      prepare            Prepares «data» parity 
 rs_encode_prepared      shards      encode_prepared    EncodesPrepared «data» parity tables.now shards.old shards.new result
 rs_verify_prepared      shards      verify_prepared    VerifiesPrepared «data» parity tables.now shards.now whole.old whole.new result
 rs_add_shard            shards      add_shard          AddsOneShard «data» parity tables.now data_shard parity_shard shard.now sums.old sums.new result
+rs_shard_factors        shards      factors_of         TellsFactors «data» parity present.now shard factors.old factors.new result
+rs_add_multiple         shards      add_multiple       AddsOneMultiple factor shard.now sums.old sums.new result
 rs_reconstruct          shards      reconstruct        Reconstructs «data» parity («data» + parity) present.now shards.old shards.new result
 rs_reconstruct_data     shards      reconstruct_data   Reconstructs «data» parity «data» present.now shards.old shards.new result
 """.splitlines()}
@@ -143,15 +141,18 @@ ABOUT = {
 
 # The modules that define the words of contracts, in the order in which a file brings them in.
 HOMES = {
-    "std.specs.Prelude": ["◌≡◌", "◌^◌", "◌%◌", "◌<◌", "[]", "◌∷◌", "◌+◌", "length"],
+    "std.specs.Prelude": ["◌^◌", "◌<◌", "◌++◌", "◌+◌", "length"],
     "field_base.specs.Basis": ["aes_images", "basis_image", "ghash_images", "poly64_images"],
     "field_base.specs.Remainder": ["aes_modulus", "ghash_modulus", "poly64_modulus"],
-    "tags.specs.Blocks": ["block_of_lengths", "blocks_of", "gcm_blocks"],
+    "tags.specs.Absorbed": ["HoldsGhash", "HoldsPolyval"],
+    "tags.specs.Blocks": ["blocks_of", "gcm_blocks", "zero_padded"],
     "tags.specs.Gcm": ["ghash"],
-    "tags.specs.Pieces": ["ghash_from", "polyval_from"],
+    "tags.specs.Pieces": ["hash_with_lengths"],
     "tags.specs.Polyval": ["polyval"],
-    "tags.specs.Prepared": ["ghash_prepared", "polyval_prepared"],
-    "c_calls.specs.Bytes": ["AddsOneShard", "Compares", "Encodes", "EncodesPrepared", "Hashes", "HashesPrepared", "Prepares", "PreparesKey", "Reconstructs", "TellsTablesLength", "Verifies", "VerifiesPrepared"],
+    "c_calls.specs.Bytes": [
+        "AddsOneMultiple", "AddsOneShard", "BeginsHash", "ChangesMessage", "Compares", "Encodes", "EncodesPrepared", "EndsHash", "Hashes",
+        "Prepares", "Reconstructs", "TellsFactors", "TellsTablesLength", "Verifies", "VerifiesPrepared",
+    ],
     "c_calls.specs.Erasure": ["EncodesErasure", "ReconstructsErasure", "TellsSpace", "VerifiesErasure"],
     "c_calls.specs.Linear": ["MapsLinearly"],
     "c_calls.specs.Transforms": [
@@ -180,6 +181,7 @@ def parameter(kind, name, word):
         "space": f"&mut [{word}]",
         "scalar": f"&{word}" if word in WORDS.values() else word,
         "result": f"&mut {word}",
+        "state": f"&mut {word}",
         "number": "u64",
         "count": "u64",
     }
@@ -326,7 +328,7 @@ def wide_function(name, second, parameters):
 
 def brought_in(clauses):
     """The lines that bring in the words of contracts."""
-    words = set(re.findall(r"[\w]+|\[\]", clauses)) | {f"◌{it}◌" for it in re.findall(r" ([≡^%<∷+]) ", clauses)}
+    words = set(re.findall(r"[\w]+", clauses)) | {f"◌{it}◌" for it in re.findall(r" ([\^<]|\+{1,2}) ", clauses)}
     for home, names in HOMES.items():
         line = []
         for name in [it for it in names if it in words]:

@@ -33,18 +33,18 @@ LENGTHS = {
     "tag_ghash": "key and hash have 16 bytes",
     "tag_polyval": "key and hash have 16 bytes",
     "tag_gcm_ghash": "key and hash have 16 bytes, and associated and ciphertext below 2^61 each",
-    "_update": "key and hash have 16 bytes, and blocks a multiple of 16",
-    "_update_padded": "key and hash have 16 bytes",
-    "tag_ghash_prepare": "key has 16 bytes, and prepared 64",
-    "tag_polyval_prepare": "key has 16 bytes, and prepared 64",
-    "_update_prepared": "prepared has 64 bytes, and hash 16",
-    "tag_gcm_ghash_final": "key and hash have 16 bytes, and both lengths are below 2^61",
+    "tag_ghash_init": "key has 16 bytes",
+    "tag_polyval_init": "key has 16 bytes",
+    "tag_ghash_final": "hash has 16 bytes",
+    "tag_polyval_final": "hash has 16 bytes",
+    "tag_gcm_ghash_final": "hash has 16 bytes, and both lengths are below 2^61",
     "tags_are_equal": "",
     "rs_encode": "shards has a multiple, but not 0, of data + parity bytes",
     "rs_verify": "shards has a multiple, but not 0, of data + parity bytes",
     "rs_tables_length": "",
     "rs_add_shard": "tables has the bytes that bf_rs_tables_length gives, data_shard is below data and parity_shard below parity, and shard and sums "
     "have one length",
+    "rs_shard_factors": "present and factors have data + parity bytes, and shard is below data + parity and missing",
     "rs_prepare": "tables has the bytes that bf_rs_tables_length gives",
     "prepared": "tables has the bytes that bf_rs_tables_length gives, and shards a multiple, but not 0, of data + parity",
     "reconstruct": "shards has a multiple, but not 0, of data + parity bytes, and present has data + parity",
@@ -78,7 +78,7 @@ def lengths_of(name, parameters):
 
 def statuses_of(name, parameters, bits):
     """The statuses besides BF_OK that a function returns, each with its condition."""
-    if name.startswith("rs_"):
+    if name.startswith("rs_") and any(it[1] == "data" for it in parameters):
         yield "BF_CODE", "data and parity are not both at least 1 and together at most 256"
     if name.startswith("erasure_"):
         yield "BF_CODE", "data and parity are not both at least 1, or data, counted up to a power of two, and parity are together more than 65536"
@@ -91,7 +91,7 @@ def statuses_of(name, parameters, bits):
         yield "BF_UNSOLVABLE", "the matrix has an inverse"
     if name.endswith("matrix_solve"):
         yield "BF_UNSOLVABLE", "there is a solution"
-    if "reconstruct" in name:
+    if "reconstruct" in name or name == "rs_shard_factors":
         yield "BF_TOO_FEW_SHARDS", "at least as many entries of present as data are not 0"
 
 
@@ -126,7 +126,7 @@ def declared(parameters):
         it = c_library.WORDS[word]
         if kind in ARRAYS:
             yield f"{POINTERS[kind]}{it} *{name}, size_t {name}_length"
-        elif kind == "result":
+        elif kind in ("result", "state"):
             yield f"{it} *{name}"
         elif kind == "scalar" and word in ("u128", "u192"):
             yield f"const {it} *{name}"
@@ -139,7 +139,7 @@ def attributes(parameters):
     place = 1
     yield "BF_CHECKED"
     for kind, _, word in parameters:
-        if kind == "result" or kind == "scalar" and word in ("u128", "u192"):
+        if kind in ("result", "state") or kind == "scalar" and word in ("u128", "u192"):
             yield f"BF_NONNULL({place})"
         place += 2 if kind in ARRAYS else 1
 
@@ -224,7 +224,8 @@ def statuses():
 def header():
     """The header."""
     parts = list(sections())
-    out = [about(parts), HEAD.format(version=fields.VERSION_NUMBER, number=fields.VERSION_TEXT), statuses()]
+    out = [about(parts), HEAD.format(version=fields.VERSION_NUMBER, number=fields.VERSION_TEXT, state_words=c_library.STATE_WORDS),
+           statuses()]
     for name, word, text in (*c_library.PLAIN_FUNCTIONS, *c_library.CHOICE_FUNCTIONS):
         out.append(f"{comment(sentence(text))}{word} bf_{name}(void);\n\n".replace("* bf_", "*bf_"))
     return "".join([*out, *(it.text() for it in parts), TAIL])
@@ -243,13 +244,13 @@ before. In the low stages the factor of stage j at place p is shifts[j], and bas
 """
 
 TAGS = """\
-Hashes of authentication tags. Nothing is claimed on timing. Of a message in pieces nothing is kept but its hash so far, which the caller
-makes 16 zeros at first. bf_tag_ghash_update takes pieces of whole blocks, and bf_tag_ghash_update_padded the last one, of any length:
-behind each call hash is what bf_tag_ghash gives of all bytes so far. For GCM the associated data come first and then the ciphertext, the
-last piece of each padded, and bf_tag_gcm_ghash_final makes of that what bf_tag_gcm_ghash gives. GCM-SIV goes so by POLYVAL, over the
-plain text, and ends with bf_tag_polyval_update of 16 bytes: both lengths in bits, 8 bytes each, the lowest first. A key of many calls is
-prepared once: bf_tag_ghash_update_prepared takes what bf_tag_ghash_prepare made of it in place of the key, and pieces as
-bf_tag_ghash_update_padded does, and bf_tag_polyval_update_prepared so of POLYVAL. What was made of a key tells the key.
+Hashes of authentication tags. Nothing is claimed on timing. A message in pieces of any length is hashed by a struct of the caller:
+bf_tag_ghash_init makes it of the key, bf_tag_ghash_update adds bytes to its message, and bf_tag_ghash_final writes what bf_tag_ghash gives
+of the whole message. It has no address in it, so that a copy of it goes on by itself, and one that was made of a key serves for many
+messages; it tells the key. By one that these functions did not make a call writes bytes of which nothing is said. For GCM the associated
+data come first, then bf_tag_ghash_pad, and then the ciphertext, and bf_tag_gcm_ghash_final writes what bf_tag_gcm_ghash gives. GCM-SIV
+goes so by POLYVAL, over the plain text: behind that come bf_tag_polyval_pad, 16 bytes more, which are both lengths in bits, 8 bytes each,
+the lowest first, and bf_tag_polyval_final.
 """
 
 ERASURE = """\
@@ -293,8 +294,45 @@ static inline uint32_t BF_CHECKED bf_rs_encode_pointers(size_t data, size_t pari
 
 """
 
+RECONSTRUCT_POINTERS = """\
+/* Writes the missing shards of shards that stand apart, each of size bytes. shards has the pointers of those of
+ * data, and then of those of parity; a shard that is missing overlaps no other. Shard i is missing where present[i]
+ * is 0; where its pointer is NULL too it is left out, as those of parity may be. This is bf_rs_shard_factors for
+ * each missing shard, and bf_rs_add_multiple for each pair, and no function of the library: it is tested and not
+ * proved. BF_CODE, BF_LENGTH (of a size of 0) and BF_TOO_FEW_SHARDS come as from bf_rs_reconstruct, and then the
+ * shards are as before. */
+static inline uint32_t BF_CHECKED bf_rs_reconstruct_pointers(
+    size_t data, size_t parity, uint8_t *const *shards, const uint8_t *present, size_t size)
+{
+    uint8_t factors[256];
+    uint64_t tables_length;
+    size_t lost, place, at;
+    /* This tells whether there is such a code, before flags are read. */
+    uint32_t status = bf_rs_tables_length(data, parity, &tables_length);
+    if (status == BF_OK && size == 0) {
+        status = BF_LENGTH;
+    }
+    for (lost = 0; status == BF_OK && lost < data + parity; lost++) {
+        if (present[lost]) {
+            continue;
+        }
+        status = bf_rs_shard_factors(data, parity, present, data + parity, lost, factors, data + parity);
+        for (place = 0; status == BF_OK && shards[lost] && place < size; place++) {
+            shards[lost][place] = 0;
+        }
+        for (at = 0; status == BF_OK && shards[lost] && at < data + parity; at++) {
+            if (factors[at]) {
+                status = bf_rs_add_multiple(factors[at], shards[at], size, shards[lost], size);
+            }
+        }
+    }
+    return status;
+}
+
+"""
+
 # What the header itself defines, by the subject of a section.
-DEFINED = {"codes over bytes": {"": TABLES_LENGTH, "rs_encode": ENCODE_POINTERS}}
+DEFINED = {"codes over bytes": {"": TABLES_LENGTH, "rs_encode": ENCODE_POINTERS, "rs_reconstruct": RECONSTRUCT_POINTERS}}
 
 STATUS_TEXT = """\
 
@@ -314,7 +352,9 @@ SUBJECTS = [
     ("transforms", TRANSFORMS, [r"_butterfly_|_low_stages$", r"_transform$"]),
     ("tags", TAGS, [r"ghash|polyval", r"^tags_"]),
     # What others call comes first.
-    ("codes over bytes", CODES, [rf"^rs_{it}" for it in ("tables_length$", "prepare$", "add_shard$", "encode", "verify", "reconstruct")]),
+    ("codes over bytes", CODES, [
+        rf"^rs_{it}" for it in ("tables_length$", "prepare$", "add_shard$", "encode", "verify", "shard_factors$", "add_multiple$", "reconstruct")
+    ]),
     ("codes by transforms", ERASURE, [r"^erasure_"]),
 ]
 
@@ -325,9 +365,9 @@ root that the level adjoins. In a polynomial basis bit i is the coefficient of x
 bf_u128 has the low 64 bits in words[0]; a bf_u192 has the coefficient of 1 in words[0], that of y in words[1] and that of y^2 in
 words[2].
 
-Arrays. An array is a pointer and a length, which counts elements and not bytes. The pointer may be NULL where the length is 0; a scalar
-or a result is never NULL. Each pointer is aligned as C aligns its type. An array or a result that a function writes may overlap no other
-array, result or scalar of the same call; what is only read may overlap each other. For x = x * y there are the functions whose names end
+Arrays. An array is a pointer and a length, which counts elements and not bytes. The pointer may be NULL where the length is 0; a scalar,
+a result or a state is never NULL. Each pointer is aligned as C aligns its type. An array, a result or a state that a function writes may
+overlap nothing else of the same call; what is only read may overlap each other. For x = x * y there are the functions whose names end
 in _in_place. In arrays named space and places a call works: behind it, whatever the status, nothing is said of what they hold. A comment
 begins with the name of what the function writes. Where it says nothing of lengths, every length will do.
 
@@ -374,6 +414,17 @@ typedef struct bf_u128 {{
 typedef struct bf_u192 {{
     uint64_t words[3];
 }} bf_u192;
+
+/* A hash of GHASH in pieces: what it holds is read and written by the functions bf_tag_ghash_* alone, and by
+ * bf_tag_gcm_ghash_final. */
+typedef struct bf_ghash_state {{
+    uint64_t words[{state_words}];
+}} bf_ghash_state;
+
+/* A hash of POLYVAL in pieces, for the functions bf_tag_polyval_*. */
+typedef struct bf_polyval_state {{
+    uint64_t words[{state_words}];
+}} bf_polyval_state;
 
 """
 

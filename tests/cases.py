@@ -19,6 +19,7 @@ REPLAYED = pathlib.Path(__file__).resolve().parent / "replayed_calls.txt"
 STATUS = {name: value for name, value, _ in c_library.STATUSES}
 FUNCTIONS = {name: parameters for name, parameters, _ in c_library.functions()}
 SIZES = {"u8": 1, "u16": 2, "u32": 4, "u64": 8, "u128": 16, "u192": 24, "usize": 8}
+SIZES |= {it: 8 * c_library.STATE_WORDS for it in ("ghash_state", "polyval_state")}
 UNWRITTEN = published.UNWRITTEN
 
 
@@ -53,7 +54,7 @@ def case(name, *values, each=None, whole=(), status="BF_OK"):
     of what is written, how many words of space there are, and the values of what is read. The parameters named in `whole` are not cut."""
     arguments = []
     for (kind, parameter, word), value in zip(FUNCTIONS[name], values, strict=True):
-        if kind == "inout":
+        if kind in ("inout", "state"):
             before, after = value
         elif kind in ("out", "result"):
             before, after = None, value
@@ -256,23 +257,11 @@ def tag_cases(draw):
         key, message = draw.randbytes(16), draw.randbytes(length)
         yield case("tag_ghash", key, message, list(definitions.ghash(key, message)))
         yield case("tag_polyval", key, message, list(definitions.polyval(key, message)))
-        start = draw.randbytes(16)
-        for name, defined, prepared_of in (
-            ("ghash", definitions.ghash, definitions.ghash_prepared), ("polyval", definitions.polyval, definitions.polyval_prepared),
-        ):
-            after = list(defined(key, message, start))
-            prepared = prepared_of(key)
-            yield case(f"tag_{name}_prepare", key, list(prepared))
-            yield case(f"tag_{name}_update_prepared", prepared, message, (list(start), after))
-            yield case(f"tag_{name}_update_padded", key, message, (list(start), after))
-            whole = case(f"tag_{name}_update", key, message, (list(start), after))
-            yield refused(whole, "BF_LENGTH") if length % 16 else whole
+        yield from piece_cases(draw, key, message)
         if length % 5 == 0 or length < 34:
             other = draw.randbytes(draw.randrange(40))
             for pair in ((message, other), (other, message)):
                 yield case("tag_gcm_ghash", key, *pair, list(definitions.gcm_ghash(key, *pair)))
-        sizes = [draw.getrandbits(draw.randrange(62)) for _ in range(2)]
-        yield case("tag_gcm_ghash_final", key, *sizes, (list(start), list(definitions.ghash(key, definitions.lengths(*sizes), start))))
         yield case("tags_are_equal", message, message, [1])
         yield case("tags_are_equal", message, message + b"\0", [0])
         if length:
@@ -280,6 +269,24 @@ def tag_cases(draw):
             changed[draw.randrange(length)] ^= 1 << draw.randrange(8)
             yield case("tags_are_equal", message, changed, [0])
             yield case("tags_are_equal", message, message[:-1], [0])
+
+
+def piece_cases(draw, key, message):
+    """The hashes of a message in pieces, cut anywhere: each call by itself, so that its state is looked at before and behind it."""
+    cut = draw.randrange(len(message) + 1)
+    first = message[:cut]
+    padded = first + bytes(-cut % 16)
+    for name in ("ghash", "polyval"):
+        state, hashed = getattr(definitions, f"{name}_state"), getattr(definitions, name)
+        empty, begun = [state(key, b"")], [state(key, first)]
+        yield case(f"tag_{name}_init", empty, key)
+        yield case(f"tag_{name}_update", (begun, [state(key, message)]), message[cut:])
+        yield case(f"tag_{name}_pad", (begun, [state(key, padded)]))
+        yield case(f"tag_{name}_final", (begun, empty), list(hashed(key, first)))
+    sizes = [draw.getrandbits(draw.randrange(62)) for _ in range(2)]
+    with_lengths = padded + definitions.lengths(*sizes)
+    ends = [definitions.ghash_state(key, first)], [definitions.ghash_state(key, b"")]
+    yield case("tag_gcm_ghash_final", ends, *sizes, list(definitions.ghash(key, with_lengths)))
 
 
 def code_cases(draw):
@@ -305,6 +312,10 @@ def code_cases(draw):
         yield case("rs_add_shard", data, parity, tables, own, row, list(content[own * size : own * size + size]), (sums, added))
         for other, beyond in ((data, row), (own, parity), ((1 << 64) - 1, row)):
             yield refused(case("rs_add_shard", data, parity, tables, other, beyond, sums, (sums, sums)), "BF_LENGTH")
+        factor = draw.choice((0, 1, 2, 0x8E, 255, draw.getrandbits(8)))
+        multiple = [a ^ definitions.make_shards.multiply(factor, b) for a, b in zip(sums, content[:size])]
+        yield case("rs_add_multiple", factor, list(content[:size]), (sums, multiple))
+        yield from factor_cases(draw, data, parity)
         for lost in sorted({0, 1, parity // 2, parity}):
             missing = set(draw.sample(range(total), lost))
             damaged = [draw.getrandbits(8) if at // size in missing else it for at, it in enumerate(shards)]
@@ -313,8 +324,20 @@ def code_cases(draw):
             data_alone = [shards[at] if at < data * size else it for at, it in enumerate(damaged)]
             yield case("rs_reconstruct_data", data, parity, (damaged, data_alone), present)
         few = [0] * (parity + 1) + [1] * (data - 1)
+        yield refused(case("rs_shard_factors", data, parity, few, 0, [0] * total), "BF_TOO_FEW_SHARDS")
         for name in ("rs_reconstruct", "rs_reconstruct_data"):
             yield refused(case(name, data, parity, (shards, shards), few), "BF_TOO_FEW_SHARDS")
+
+
+def factor_cases(draw, data, parity):
+    """The factors of shards in one that is missing, and shards that are none or present."""
+    total = data + parity
+    missing = draw.sample(range(total), draw.randrange(1, parity + 1))
+    present = [0 if i in missing else draw.choice((1, 2, 255)) for i in range(total)]
+    factors = definitions.shard_factors(data, present, missing[0])
+    yield case("rs_shard_factors", data, parity, present, missing[0], factors)
+    for other in (next(i for i in range(total) if present[i]), total, (1 << 64) - 1):
+        yield refused(case("rs_shard_factors", data, parity, present, other, factors), "BF_LENGTH")
 
 
 def erasure_cases(draw):
@@ -329,6 +352,10 @@ def erasure_cases(draw):
         yield case("erasure_verify", data, parity, words, coded, space, [1])
         for changed in ((words[:-1] + [words[-1] ^ 1], coded), (words, [coded[0] ^ 0x8000] + coded[1:])):
             yield case("erasure_verify", data, parity, *changed, space, [0])
+        factor = draw.choice((0, 1, 2, 0x8E, 255, draw.getrandbits(8)))
+        multiple = [a ^ definitions.make_shards.multiply(factor, b) for a, b in zip(sums, content[:size])]
+        yield case("rs_add_multiple", factor, list(content[:size]), (sums, multiple))
+        yield from factor_cases(draw, data, parity)
         for lost in sorted({0, 1, parity // 2, parity}):
             missing = set(draw.sample(range(total), lost))
             damaged = [draw.getrandbits(16) if at // size in missing else it for at, it in enumerate(words + coded)]
@@ -336,6 +363,7 @@ def erasure_cases(draw):
             halves = (damaged[: data * size], words), (damaged[data * size :], coded)
             yield case("erasure_reconstruct", data, parity, *halves, present, space)
         few = [0] * (parity + 1) + [1] * (data - 1)
+        yield refused(case("rs_shard_factors", data, parity, few, 0, [0] * total), "BF_TOO_FEW_SHARDS")
         yield refused(case("erasure_reconstruct", data, parity, (words, words), (coded, coded), few, space), "BF_TOO_FEW_SHARDS")
     # There is no code of such counts, whatever the lengths.
     for data, parity in ((0, 1), (1, 0), (1, 65536), (32769, 1), (65536, 1), (65537, 1), (1 << 63, 1 << 63), ((1 << 64) - 1, 1), (1, (1 << 64) - 1)):
@@ -440,11 +468,14 @@ def status_cases(cases):
                 it = whole_case(evaluated(field, [1, 0, 1], [0, 1, 1, 0, 1]), 5)
             yield from element_cases(it, field.bits)
     for sizes in ((1 << 61, 0), (0, 1 << 61), ((1 << 64) - 1, 5), (1 << 61, 1 << 61)):
-        yield refused(case("tag_gcm_ghash_final", bytes(16), *sizes, ([7] * 16, [7] * 16)), "BF_LENGTH")
+        yield refused(case("tag_gcm_ghash_final", ([7], [7]), *sizes, [0] * 16), "BF_LENGTH")
     everything = [0] * 512
     for data, parity in ((0, 1), (1, 0), (0, 0), (256, 1), (1, 256), (2, 255), (1 << 63, 1 << 63), ((1 << 64) - 1, 1), (1, (1 << 64) - 1), (1 << 32, 4)):
-        for name in (it for it in FUNCTIONS if it.startswith("rs_")):
-            given = {"tables": everything, "shards": everything, "present": [1] * 257, "whole": [0], "length": [0], "shard": [1], "sums": [0]}
+        for name in (it for it, parameters in FUNCTIONS.items() if it.startswith("rs_") and parameters[0][1] == "data"):
+            given = {
+                "tables": everything, "shards": everything, "present": [1] * 257, "whole": [0], "length": [0], "shard": [1], "sums": [0],
+                "factors": everything,
+            }
             kinds = FUNCTIONS[name][2:]
             rest = [(given[it], given[it]) if kind == "inout" else 0 if kind == "count" else given[it] for kind, it, _ in kinds]
             yield refused(case(name, data, parity, *rest), "BF_CODE")
@@ -483,7 +514,8 @@ def empty_cases():
             if own in EMPTY and EMPTY[own](*counts):
                 status = "BF_OK"
             left = iter(counts)
-            given = {"in": [], "out": [], "inout": ([], []), "space": 0, "result": [1 if own == "matrix_determinant" else 0]}
+            given = {"in": [], "out": [], "inout": ([], []), "state": ([0], [0]), "space": 0}
+            given["result"] = [1 if own == "matrix_determinant" else 0]
             made = case(name, *(next(left) if kind == "count" else given[kind] for kind, _, _ in parameters))
             yield made if status == "BF_OK" else refused(made, status)
     # There is no run, whatever the number of the first.

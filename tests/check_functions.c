@@ -73,7 +73,8 @@ static unsigned char *read_bytes(FILE *file, size_t bytes)
 /* Whether a parameter is one word and not an array. */
 static int is_word(const struct parameter *it)
 {
-    return strcmp(it->kind, "scalar") == 0 || strcmp(it->kind, "number") == 0 || strcmp(it->kind, "result") == 0;
+    return strcmp(it->kind, "scalar") == 0 || strcmp(it->kind, "number") == 0 || strcmp(it->kind, "result") == 0
+        || strcmp(it->kind, "state") == 0;
 }
 
 /* One call with arrays cut to n elements. */
@@ -171,6 +172,118 @@ static void run_pointers(void)
     }
 }
 
+/* Missing shards that stand apart, by pointers, against what they were; those without a pointer are left out. */
+static void run_lost_pointers(void)
+{
+    enum { DATA = 5, PARITY = 3, TOTAL = DATA + PARITY, SIZE = 67 };
+    static uint8_t shards[TOTAL * SIZE], restored[TOTAL][SIZE];
+    uint8_t *pointers[TOTAL], present[TOTAL] = {1, 0, 1, 1, 0, 1, 0, 1};
+    const uint8_t few[TOTAL] = {1, 0, 0, 1, 0, 1, 0, 1}, whole[TOTAL] = {1, 1, 2, 3, 4, 5, 6, 255};
+    size_t i, wrong = 0;
+    for (i = 0; i < DATA * SIZE; i++) {
+        shards[i] = (uint8_t)(i * i + i / 5);
+    }
+    wrong += bf_rs_encode(DATA, PARITY, shards, sizeof shards) != BF_OK;
+    for (i = 0; i < TOTAL; i++) {
+        memset(restored[i], FILL, SIZE);
+        pointers[i] = present[i] ? shards + i * SIZE : restored[i];
+    }
+    pointers[6] = NULL;
+    wrong += bf_rs_reconstruct_pointers(0, PARITY, pointers, present, SIZE) != BF_CODE;
+    wrong += bf_rs_reconstruct_pointers(DATA, PARITY, pointers, present, 0) != BF_LENGTH;
+    wrong += bf_rs_reconstruct_pointers(DATA, PARITY, pointers, few, SIZE) != BF_TOO_FEW_SHARDS;
+    wrong += bf_rs_reconstruct_pointers(DATA, PARITY, pointers, whole, SIZE) != BF_OK;
+    wrong += restored[1][0] != FILL || restored[4][SIZE - 1] != FILL;
+    wrong += bf_rs_reconstruct_pointers(DATA, PARITY, pointers, present, SIZE) != BF_OK;
+    for (i = 0; i < TOTAL; i++) {
+        wrong += pointers[i] && memcmp(pointers[i], shards + i * SIZE, SIZE) != 0;
+    }
+    wrong += restored[6][0] != FILL;
+    if (wrong) {
+        failures++;
+        puts("check_functions: missing shards by pointers are wrong");
+    }
+}
+
+/* A hash in pieces of so many bytes, and of its first half by a copy that does not go on, against those of whole messages. */
+static size_t wrong_in_pieces(const uint8_t *message, size_t length, size_t piece)
+{
+    const uint8_t *key = message + 1;
+    bf_ghash_state state, half;
+    bf_polyval_state other;
+    uint8_t hash[16], wanted[16];
+    size_t at, wrong = bf_tag_ghash_init(&state, key, 16) != BF_OK || bf_tag_polyval_init(&other, key, 16) != BF_OK;
+    half = state;
+    wrong += bf_tag_ghash_update(&half, message, length / 2) != BF_OK;
+    for (at = 0; at < length; at += piece) {
+        size_t size = length - at < piece ? length - at : piece;
+        wrong += bf_tag_ghash_update(&state, message + at, size) != BF_OK;
+        wrong += bf_tag_polyval_update(&other, message + at, size) != BF_OK;
+    }
+    wrong += bf_tag_ghash(key, 16, message, length, wanted, 16) != BF_OK || bf_tag_ghash_final(&state, hash, 16) != BF_OK;
+    wrong += memcmp(hash, wanted, 16) != 0;
+    wrong += bf_tag_polyval(key, 16, message, length, wanted, 16) != BF_OK || bf_tag_polyval_final(&other, hash, 16) != BF_OK;
+    wrong += memcmp(hash, wanted, 16) != 0;
+    wrong += bf_tag_ghash(key, 16, message, length / 2, wanted, 16) != BF_OK || bf_tag_ghash_final(&half, hash, 16) != BF_OK;
+    wrong += memcmp(hash, wanted, 16) != 0;
+    /* Behind its end a hash is that of the empty message, under the same key. */
+    wrong += bf_tag_ghash_update(&state, message, length / 2) != BF_OK || bf_tag_ghash_final(&state, hash, 16) != BF_OK;
+    return wrong + (memcmp(hash, wanted, 16) != 0);
+}
+
+/* Hashes by states that no function made: every call returns, and writes its hash alone. */
+static size_t wrong_by_any_state(const uint8_t *bytes, size_t length)
+{
+    bf_ghash_state state;
+    bf_polyval_state other;
+    uint8_t hash[18];
+    memset(hash, FILL, sizeof hash);
+    memcpy(&state, bytes, sizeof state);
+    memcpy(&other, bytes, sizeof other);
+    if (bf_tag_ghash_update(&state, bytes, length) != BF_OK || bf_tag_polyval_update(&other, bytes, length) != BF_OK) {
+        return 1;
+    }
+    memcpy(&state, bytes, sizeof state);
+    memcpy(&other, bytes, sizeof other);
+    if (bf_tag_ghash_pad(&state) != BF_OK || bf_tag_polyval_pad(&other) != BF_OK) {
+        return 1;
+    }
+    memcpy(&state, bytes, sizeof state);
+    if (bf_tag_gcm_ghash_final(&state, length, 7, hash + 1, 16) != BF_OK) {
+        return 1;
+    }
+    memcpy(&state, bytes, sizeof state);
+    if (bf_tag_ghash_final(&state, hash + 1, 16) != BF_OK || bf_tag_polyval_final(&other, hash + 1, 16) != BF_OK) {
+        return 1;
+    }
+    return hash[0] != FILL || hash[17] != FILL;
+}
+
+/* Messages in pieces, which C holds in a struct. */
+static void run_pieces(void)
+{
+    static const size_t pieces[] = {1, 15, 16, 30, 64, 700}, lengths[] = {0, 1, 16, 47, 500, 1500, 2048};
+    static uint8_t message[2048];
+    size_t i, j, wrong = 0;
+    for (i = 0; i < sizeof message; i++) {
+        message[i] = (uint8_t)(i * i * 31 + i / 3);
+    }
+    for (i = 0; i < sizeof lengths / sizeof *lengths; i++) {
+        for (j = 0; j < sizeof pieces / sizeof *pieces; j++) {
+            wrong += wrong_in_pieces(message, lengths[i], pieces[j]);
+        }
+    }
+    for (i = 0; i < 900; i += 7) {
+        wrong += wrong_by_any_state(message + i, i);
+    }
+    memset(message, 0xff, sizeof message);
+    wrong += wrong_by_any_state(message, 1100);
+    if (wrong) {
+        failures++;
+        puts("check_functions: hashes in pieces are wrong");
+    }
+}
+
 int main(int arguments, char **argument)
 {
     FILE *file = arguments > 1 ? fopen(argument[1], "r") : NULL;
@@ -188,6 +301,8 @@ int main(int arguments, char **argument)
         puts("check_functions: the header and the library have different versions");
     }
     run_pointers();
+    run_lost_pointers();
+    run_pieces();
     while (fscanf(file, "%63s %lu %ld %d", name, &status, &each, &parameters) == 4) {
         struct parameter p[PARAMETERS];
         long n;

@@ -407,41 +407,44 @@ class Counted:
 class Bytes(unittest.TestCase):
     """Tags and codes."""
 
-    @staticmethod
-    def in_pieces(update, update_padded, key, message, hash_so_far=bytes(16)):
-        """The hash of a message in pieces of two blocks, and the rest."""
-        end = len(message) // 32 * 32
-        for at in range(0, end, 32):
-            hash_so_far = update(key, hash_so_far, message[at : at + 32])
-        return update_padded(key, hash_so_far, message[end:])
-
     def test_tags(self):
         draw = random.Random(48)
-        for length in (0, 1, 16, 100):
+        for length in (0, 1, 16, 100, 1700):
             key, message = draw.randbytes(16), draw.randbytes(length)
             self.assertEqual(bf.ghash(key, message), definitions.ghash(key, message))
             self.assertEqual(bf.polyval(key, bytearray(message)), definitions.polyval(key, message))
             self.assertEqual(bf.gcm_ghash(key, message, np.frombuffer(key, np.uint8)), definitions.gcm_ghash(key, message, key))
-            self.assertEqual(self.in_pieces(bf.ghash_update, bf.ghash_update_padded, key, message), bf.ghash(key, message))
-            self.assertEqual(self.in_pieces(bf.polyval_update, bf.polyval_update_padded, key, message), bf.polyval(key, message))
-            for hashed, prepare, update in (
-                (bf.ghash, bf.ghash_prepare, bf.ghash_update_prepared), (bf.polyval, bf.polyval_prepare, bf.polyval_update_prepared),
-            ):
-                self.assertEqual(self.in_pieces(update, update, prepare(key), message), hashed(key, message))
-            both = self.in_pieces(bf.ghash_update, bf.ghash_update_padded, key, message, bf.ghash_update_padded(key, bytes(16), key[:3]))
-            self.assertEqual(bf.gcm_ghash_final(key, both, 3, length), bf.gcm_ghash(key, key[:3], message))
+            for piece in (1, 16, 30, 600):
+                self.hash_in_pieces(key, message, piece)
+        for a_hash in (bf.Ghash(key), bf.Polyval(key)):
+            self.assertEqual((a_hash.digest_size, a_hash.block_size, a_hash.digest()), (16, 16, bytes(16)))
+            self.assertRaises(TypeError, a_hash.update, "text")
+            self.assertRaises(ValueError, type(a_hash), bytes(17))
         for wrong in (-1, 1 << 61, 1 << 70):
-            self.assertRaises(ValueError, bf.gcm_ghash_final, key, bytes(16), wrong, 0)
-            self.assertRaises(ValueError, bf.gcm_ghash_final, key, bytes(16), 0, wrong)
-        self.assertRaises(ValueError, bf.ghash_update, key, bytes(16), bytes(17))
-        self.assertRaises(ValueError, bf.polyval_update, key, bytes(15), bytes(16))
-        self.assertRaises(ValueError, bf.ghash_prepare, bytes(17))
-        self.assertRaises(ValueError, bf.ghash_update_prepared, bytes(63), bytes(16), b"")
-        self.assertRaises(ValueError, bf.polyval_update_prepared, bytes(64), bytes(17), b"")
+            self.assertRaises(ValueError, bf.Ghash(key).gcm_digest, wrong, 0)
+            self.assertRaises(ValueError, bf.Ghash(key).gcm_digest, 0, wrong)
         self.assertTrue(bf.tags_are_equal(b"tag", b"tag"))
         self.assertFalse(bf.tags_are_equal(b"tag", b"tags"))
         self.assertRaises(ValueError, bf.ghash, b"short", b"")
         self.assertRaises(TypeError, bf.ghash, "text", b"")
+
+    def hash_in_pieces(self, key, message, piece):
+        """Hashes of a message in pieces, of its beginning by a copy, and of GCM."""
+        for made, whole in ((bf.Ghash, bf.ghash), (bf.Polyval, bf.polyval)):
+            a_hash, first = made(key), made(key, message[:piece])
+            for at in range(0, len(message), piece):
+                a_hash.update(message[at : at + piece])
+            other = first.copy()
+            other.update(b"another end")
+            self.assertEqual(a_hash.digest(), whole(key, message))
+            self.assertEqual(a_hash.digest(), whole(key, message))
+            self.assertEqual(first.digest(), whole(key, message[:piece]))
+            self.assertEqual(other.digest(), whole(key, message[:piece] + b"another end"))
+        both = bf.Ghash(key, key[:3])
+        both.pad()
+        for at in range(0, len(message), piece):
+            both.update(message[at : at + piece])
+        self.assertEqual(both.gcm_digest(3, len(message)), bf.gcm_ghash(key, key[:3], message))
 
     def test_codes(self):
         code = bf.ReedSolomon(4, 2)
@@ -477,6 +480,7 @@ class Bytes(unittest.TestCase):
         self.assertRaises(ValueError, code.reconstruct, damaged, [True] * 5)
         for given in ([None] * 6, [None] * 3 + damaged[1:4], damaged[:5], [b"ab", b"a", b"a", b"a", None, None]):
             self.assertRaises(ValueError, code.reconstruct, given)
+        self.restore_apart(code, shards)
         self.assertRaises(ValueError, code.encode, np.zeros((3, 9), np.uint8))
         self.assertRaises(ValueError, code.encode, np.zeros((4, 0), np.uint8))
         for data, parity in ((0, 1), (1, 0), (200, 57), (-1, 3)):
@@ -488,6 +492,26 @@ class Bytes(unittest.TestCase):
         self.assertTrue((code.encode(rows[:4]) == shards).all() and code.verify(rows.T.copy().T))
         self.assertTrue((code.reconstruct([None, *rows[1:]]) == shards).all())
         self.assertRaises(TypeError, code.encode, bf.BinaryField16.zeros((4, 9)))
+
+    def restore_apart(self, code, shards):
+        """Shards that lie apart: restored where they lie, or left out."""
+        kept = [it.tobytes() for it in shards]
+        lost = [bytearray(b"overwrite"), np.full(9, 7, np.uint8)]
+        present = [False, True, True, True, True, False]
+        code.reconstruct_in_place([lost[0], *kept[1:5], lost[1]], present)
+        self.assertEqual([bytes(it) for it in lost], [kept[0], kept[5]])
+        only = bytearray(9)
+        code.reconstruct_in_place([only, *kept[1:5], None], present)
+        self.assertEqual(bytes(only), kept[0])
+        code.reconstruct_in_place(kept, [True] * 6)
+        few = [bytearray(b"overwrite") for _ in range(3)] + kept[3:]
+        self.assertRaises(ValueError, code.reconstruct_in_place, few, [False] * 3 + [True] * 3)
+        self.assertEqual(bytes(few[0]), b"overwrite")
+        for given, flags in (
+            (kept, present), (kept[:5], present), ([lost[0][:8], *kept[1:5], None], present), ([lost[0], None, *kept[2:5], None], present),
+            ([lost[0], *kept[1:5], None], present[:5]), ([bytearray()] + [b""] * 5, present),
+        ):
+            self.assertRaises(ValueError, code.reconstruct_in_place, given, flags)
 
     def test_transform_codes(self):
         code = bf.TransformCode(5, 3)

@@ -245,16 +245,16 @@ def gcm_product(x, y):
     return z
 
 
-def ghash_blocks(key, message_blocks, start=bytes(16)):
-    """Section 6.4, from the hash `start` of the blocks before."""
-    y = int.from_bytes(start, "big")
+def ghash_blocks(key, message_blocks):
+    """Section 6.4."""
+    y = 0
     for block in message_blocks:
         y = gcm_product(y ^ int.from_bytes(block, "big"), int.from_bytes(key, "big"))
     return y.to_bytes(16, "big")
 
 
-def ghash(key, message, start=bytes(16)):
-    return ghash_blocks(key, blocks(message), start)
+def ghash(key, message):
+    return ghash_blocks(key, blocks(message))
 
 
 def lengths(associated_length, ciphertext_length):
@@ -266,11 +266,11 @@ def gcm_ghash(key, associated, ciphertext):
     return ghash_blocks(key, [*blocks(associated), *blocks(ciphertext), lengths(len(associated), len(ciphertext))])
 
 
-def polyval(key, message, start=bytes(16)):
+def polyval(key, message):
     """RFC 8452, section 3: the product of each step is a b x^-128."""
     modulus = 1 << 128 | 1 << 127 | 1 << 126 | 1 << 121 | 1
     inverse = 1 << 127 | 1 << 124 | 1 << 121 | 1 << 114 | 1
-    s = int.from_bytes(start, "little")
+    s = 0
     for block in blocks(message):
         s = polynomials.multiply(modulus, s ^ int.from_bytes(block, "little"), int.from_bytes(key, "little"))
         s = polynomials.multiply(modulus, s, inverse)
@@ -290,14 +290,29 @@ def powers_as_bytes(element):
     return b"".join(it.to_bytes(16, "little") for it in powers)
 
 
-def ghash_prepared(key):
-    """Of a key of GHASH, the bits of whose block are the coefficients, that of x^0 first."""
-    return powers_as_bytes(int(f"{int.from_bytes(key, 'big'):0128b}"[::-1], 2))
+def reversed_number(block, order):
+    """A block as the library has it, where bit i is the coefficient of x^i."""
+    return int(f"{int.from_bytes(block, order):0128b}"[::-1], 2)
 
 
-def polyval_prepared(key):
-    """Of a key of POLYVAL, which is read the other way round and multiplied by x."""
-    return powers_as_bytes(ghash_field_product(2, int(f"{int.from_bytes(key, 'little'):0128b}"[::-1], 2)))
+def state_of(multiplier, whole_hash, rest):
+    """A hash in pieces, as a number of its bytes, the lowest first: the powers of what the field multiplies by, the hash of whole blocks, and
+    the bytes behind them."""
+    content = powers_as_bytes(multiplier) + whole_hash.to_bytes(16, "little") + rest.ljust(16, b"\0") + len(rest).to_bytes(8, "little")
+    return int.from_bytes(content, "little")
+
+
+def ghash_state(key, message):
+    """A hash of GHASH that holds the message."""
+    end = len(message) // 16 * 16
+    return state_of(reversed_number(key, "big"), reversed_number(ghash(key, message[:end]), "big"), message[end:])
+
+
+def polyval_state(key, message):
+    """A hash of POLYVAL that holds the message. The multiplier is the key times x."""
+    end = len(message) // 16 * 16
+    multiplier = ghash_field_product(2, reversed_number(key, "little"))
+    return state_of(multiplier, reversed_number(polyval(key, message[:end]), "little"), message[end:])
 
 
 # ---- Reed-Solomon codes
@@ -363,6 +378,12 @@ def parity_tables(data, parity):
 def added_shard(data, own, parity_at, shard, sums):
     """The sums after a shard of data was added to a shard of parity."""
     return [was ^ make_shards.multiply(parity_factor(data, parity_at, own), it) for was, it in zip(sums, shard)]
+
+
+def shard_factors(data, present, shard):
+    """The factors of all shards in one: of the first that are present, as many as there are of data, and 0 of the others."""
+    points = [i for i, it in enumerate(present) if it][:data]
+    return [lagrange_factor(CodeBytes, points, i, shard) if i in points else 0 for i in range(len(present))]
 
 
 def encoded(data, parity, content):

@@ -15,20 +15,13 @@ from . import _numpy as _numpy
 from . import _products as _products
 from ._arrays import FieldArray
 from ._bytes import (
+    Ghash,
+    Polyval,
     ReedSolomon,
     TransformCode,
     gcm_ghash,
-    gcm_ghash_final,
     ghash,
-    ghash_prepare,
-    ghash_update,
-    ghash_update_padded,
-    ghash_update_prepared,
     polyval,
-    polyval_prepare,
-    polyval_update,
-    polyval_update_padded,
-    polyval_update_prepared,
     tags_are_equal,
 )
 from ._fields import (
@@ -63,9 +56,8 @@ from ._workers import get_workers, set_workers
 
 __all__ = [
     "BinaryField128", "BinaryField16", "BinaryField2", "BinaryField32", "BinaryField4", "BinaryField64", "BinaryField8", "FieldArray",
-    "Gf2", "Ghash128", "Poly", "Poly192", "Poly64", "ReedSolomon", "Rijndael8b", "TransformCode", "butterfly_forward", "butterfly_inverse",
-    "egcd", "from_powers", "gcd", "gcm_ghash", "gcm_ghash_final", "get_workers", "ghash", "ghash_prepare", "ghash_update", "ghash_update_padded",
-    "ghash_update_prepared", "inverse_transform", "irreducible_poly", "lagrange_poly", "linear_map", "low_stages", "polyval", "polyval_prepare",
-    "polyval_update", "polyval_update_padded", "polyval_update_prepared", "processor", "set_workers", "tags_are_equal", "to_powers",
-    "transform", "transform_points",
+    "Gf2", "Ghash", "Ghash128", "Poly", "Poly192", "Poly64", "Polyval", "ReedSolomon", "Rijndael8b", "TransformCode", "butterfly_forward",
+    "butterfly_inverse", "egcd", "from_powers", "gcd", "gcm_ghash", "get_workers", "ghash", "inverse_transform", "irreducible_poly",
+    "lagrange_poly", "linear_map", "low_stages", "polyval", "processor", "set_workers", "tags_are_equal", "to_powers", "transform",
+    "transform_points",
 ]

@@ -3,7 +3,7 @@
 from __future__ import annotations
 
 import operator
-from typing import Any, Sequence
+from typing import Any, Sequence, TypeVar
 
 import numpy as np
 
@@ -19,9 +19,17 @@ def _bytes(value: Any) -> Words:
     return np.ascontiguousarray(np.frombuffer(view.cast("B") if view.nbytes and view.contiguous else view.tobytes(), np.uint8))
 
 
-def _hash(name: str, *given: Any, size: int = 16) -> bytes:
-    """What a function writes, of so many bytes."""
-    result = np.zeros(size, np.uint8)
+def _buffer(value: Any) -> Words:
+    """The bytes of an object that lends them to be written."""
+    buffer = value if isinstance(value, np.ndarray) else np.frombuffer(value, np.uint8)
+    if not buffer.flags.writeable:
+        raise ValueError("a shard that is written is read-only")
+    return buffer
+
+
+def _hash(name: str, *given: Any) -> bytes:
+    """The hash that a function writes."""
+    result = np.zeros(16, np.uint8)
     call(name, *map(_bytes, given), result)
     return result.tobytes()
 
@@ -53,105 +61,106 @@ def gcm_ghash(key: Any, associated: Any, ciphertext: Any) -> bytes:
     return _hash("tag_gcm_ghash", key, associated, ciphertext)
 
 
-def _goes_on(name: str, hash_so_far: Any, key: Any, *given: Any) -> bytes:
-    """The hash that a function makes of the one so far."""
-    result = _bytes(hash_so_far).copy()
-    call(name, _bytes(key), *given, result)
-    return result.tobytes()
+_Some = TypeVar("_Some", bound="_Pieces")
 
 
-def ghash_update(key: Any, hash_so_far: Any, blocks: Any) -> bytes:
-    """GHASH of all bytes so far, by that of those before `blocks`, which are whole blocks of 16 bytes. It is 16 zeros before the first.
+class _Pieces:
+    """A hash of a message that comes in pieces of any length, under a key of 16 bytes. It holds what tells the key."""
 
-    >>> so_far = bf.ghash_update(b"sixteen byte key", bytes(16), b"a message, which comes in pieces")
-    >>> bf.ghash_update_padded(b"sixteen byte key", so_far, b".").hex()
-    '7d9e6dd66a93ea27d3d304d7b02ffd90'
-    >>> bf.ghash(b"sixteen byte key", b"a message, which comes in pieces.").hex()
-    '7d9e6dd66a93ea27d3d304d7b02ffd90'
-    """
-    return _goes_on("tag_ghash_update", hash_so_far, key, _bytes(blocks))
+    digest_size = block_size = 16
+    name: str
+
+    def __init__(self, key: Any, message: Any = b"") -> None:
+        self._state = np.zeros((), WORDS[f"{self.name}_state"])
+        call(f"tag_{self.name}_init", self._state, _bytes(key))
+        self.update(message)
+
+    def update(self, message: Any) -> None:
+        """Adds bytes to the message, of any number.
+
+        >>> for a_hash in bf.Ghash(b"sixteen byte key"), bf.Polyval(b"sixteen byte key"):
+        ...     a_hash.update(b"a mess")
+        ...     a_hash.update(b"age")
+        ...     a_hash.digest().hex()
+        '66c5daff8936bb1e9c4c9904324d3958'
+        'e20c8edbbf9f56216764e11642057883'
+        """
+        call(f"tag_{self.name}_update", self._state, _bytes(message))
+
+    def pad(self) -> None:
+        """Adds as many zeros as make the message whole blocks of 16 bytes, which may be none.
+
+        >>> a_hash = bf.Ghash(b"sixteen byte key", b"a message")
+        >>> a_hash.pad()
+        >>> a_hash.update(b"more")
+        >>> a_hash.digest() == bf.ghash(b"sixteen byte key", b"a message" + bytes(7) + b"more")
+        True
+        """
+        call(f"tag_{self.name}_pad", self._state)
+
+    def copy(self: "_Some") -> "_Some":
+        """Another hash of the same message, which goes on by itself.
+
+        >>> of_key = bf.Ghash(b"sixteen byte key")
+        >>> a_hash = of_key.copy()
+        >>> a_hash.update(b"a message")
+        >>> of_key.digest() == bytes(16)
+        True
+        """
+        other = object.__new__(type(self))
+        other._state = self._state.copy()
+        return other
+
+    def digest(self) -> bytes:
+        """The hash of the message so far, with zeros added to whole blocks; the message stays as it is.
+
+        >>> bf.Polyval(b"sixteen byte key", b"a message").digest() == bf.polyval(b"sixteen byte key", b"a message")
+        True
+        """
+        return self._final(f"tag_{self.name}_final")
+
+    def _final(self, function: str, *lengths: int) -> bytes:
+        """The hash that a function writes, which empties the message of a copy."""
+        result = np.zeros(16, np.uint8)
+        call(function, self._state.copy(), *lengths, result)
+        return result.tobytes()
 
 
-def ghash_update_padded(key: Any, hash_so_far: Any, message: Any) -> bytes:
-    """GHASH of all bytes so far, by that of the whole blocks before `message`, to which zeros are added to whole blocks.
+class Ghash(_Pieces):
+    """GHASH (NIST SP 800-38D) of a message that comes in pieces of any length, under a key of 16 bytes, as `ghash` is that of a whole one.
 
-    >>> bf.ghash_update_padded(b"sixteen byte key", bytes(16), b"a message") == bf.ghash(b"sixteen byte key", b"a message")
+    >>> a_hash = bf.Ghash(b"sixteen byte key", b"a mess")
+    >>> a_hash.update(b"age")
+    >>> a_hash.digest() == bf.ghash(b"sixteen byte key", b"a message")
     True
     """
-    return _goes_on("tag_ghash_update_padded", hash_so_far, key, _bytes(message))
+
+    name = "ghash"
+
+    def gcm_digest(self, associated_length: int, ciphertext_length: int) -> bytes:
+        """What `gcm_ghash` gives, where the message is the associated data, `pad` behind them, and the ciphertext, by their lengths in
+        bytes, below 2^61. The message stays as it is.
+
+        >>> a_hash = bf.Ghash(b"sixteen byte key", b"associated")
+        >>> a_hash.pad()
+        >>> a_hash.update(b"ciphertext")
+        >>> a_hash.gcm_digest(10, 10) == bf.gcm_ghash(b"sixteen byte key", b"associated", b"ciphertext")
+        True
+        """
+        for length in (associated_length, ciphertext_length):
+            if not 0 <= length < 1 << 61:
+                raise ValueError("expected lengths from 0 to 2^61 - 1")
+        return self._final("tag_gcm_ghash_final", associated_length, ciphertext_length)
 
 
-def polyval_update(key: Any, hash_so_far: Any, blocks: Any) -> bytes:
-    """POLYVAL of all bytes so far, as `ghash_update` is GHASH of them.
+class Polyval(_Pieces):
+    """POLYVAL (RFC 8452) of a message that comes in pieces of any length, under a key of 16 bytes, as `polyval` is that of a whole one.
 
-    >>> so_far = bf.polyval_update(b"sixteen byte key", bytes(16), bytes(160))
-    >>> bf.polyval_update_padded(b"sixteen byte key", so_far, b"end") == bf.polyval(b"sixteen byte key", bytes(160) + b"end")
+    >>> bf.Polyval(b"sixteen byte key").digest() == bytes(16)
     True
     """
-    return _goes_on("tag_polyval_update", hash_so_far, key, _bytes(blocks))
 
-
-def polyval_update_padded(key: Any, hash_so_far: Any, message: Any) -> bytes:
-    """POLYVAL of all bytes so far, of which the last need be no whole block, as in `ghash_update_padded`.
-
-    >>> bf.polyval_update_padded(b"sixteen byte key", bytes(16), b"a message").hex()
-    'e20c8edbbf9f56216764e11642057883'
-    """
-    return _goes_on("tag_polyval_update_padded", hash_so_far, key, _bytes(message))
-
-
-def ghash_prepare(key: Any) -> bytes:
-    """What hashes under the key go by, 64 bytes, for many calls of `ghash_update_prepared`. They tell the key.
-
-    >>> prepared = bf.ghash_prepare(b"sixteen byte key")
-    >>> bf.ghash_update_prepared(prepared, bytes(16), b"a message") == bf.ghash(b"sixteen byte key", b"a message")
-    True
-    """
-    return _hash("tag_ghash_prepare", key, size=64)
-
-
-def ghash_update_prepared(prepared: Any, hash_so_far: Any, message: Any) -> bytes:
-    """What `ghash_update_padded` gives, by what `ghash_prepare` made of the key. By other bytes it is any hash.
-
-    >>> prepared = bf.ghash_prepare(b"sixteen byte key")
-    >>> bf.ghash_update_prepared(prepared, bytes(16), b"a message").hex()
-    '66c5daff8936bb1e9c4c9904324d3958'
-    """
-    return _goes_on("tag_ghash_update_prepared", hash_so_far, prepared, _bytes(message))
-
-
-def polyval_prepare(key: Any) -> bytes:
-    """What hashes of POLYVAL under the key go by, as `ghash_prepare` has it of GHASH.
-
-    >>> len(bf.polyval_prepare(b"sixteen byte key"))
-    64
-    """
-    return _hash("tag_polyval_prepare", key, size=64)
-
-
-def polyval_update_prepared(prepared: Any, hash_so_far: Any, message: Any) -> bytes:
-    """What `polyval_update_padded` gives, by what `polyval_prepare` made of the key. By other bytes it is any hash.
-
-    >>> prepared = bf.polyval_prepare(b"sixteen byte key")
-    >>> bf.polyval_update_prepared(prepared, bytes(16), b"a message").hex()
-    'e20c8edbbf9f56216764e11642057883'
-    """
-    return _goes_on("tag_polyval_update_prepared", hash_so_far, prepared, _bytes(message))
-
-
-def gcm_ghash_final(key: Any, hash_so_far: Any, associated_length: int, ciphertext_length: int) -> bytes:
-    """What `gcm_ghash` gives, by GHASH of the associated data and then of the ciphertext, the last bytes of each by `ghash_update_padded`,
-    and by their lengths in bytes, below 2^61.
-
-    >>> so_far = bf.ghash_update_padded(b"sixteen byte key", bytes(16), b"associated")
-    >>> so_far = bf.ghash_update_padded(b"sixteen byte key", so_far, b"ciphertext")
-    >>> bf.gcm_ghash_final(b"sixteen byte key", so_far, 10, 10) == bf.gcm_ghash(b"sixteen byte key", b"associated", b"ciphertext")
-    True
-    """
-    for length in (associated_length, ciphertext_length):
-        if not 0 <= length < 1 << 61:
-            raise ValueError("expected lengths from 0 to 2^61 - 1")
-    return _goes_on("tag_gcm_ghash_final", hash_so_far, key, associated_length, ciphertext_length)
+    name = "polyval"
 
 
 def tags_are_equal(left: Any, right: Any) -> bool:
@@ -314,6 +323,31 @@ class ReedSolomon(_Code):
         """
         added = sums if isinstance(sums, np.ndarray) else np.frombuffer(sums, np.uint8)
         call("rs_add_shard", self.data, self.parity, self._tables, data_shard, parity_shard, _bytes(shard), added)
+
+    def reconstruct_in_place(self, shards: Sequence[Any], present: Sequence[bool]) -> None:
+        """Writes the missing shards of shards that are buffers of their own, none of which is copied. A shard is missing where `present`
+        has False; where it is None it is left out, as those of parity may be.
+
+        >>> code, lost = bf.ReedSolomon(2, 1), bytearray(2)
+        >>> code.reconstruct_in_place([b"ab", lost, code.encode([b"ab", b"cd"])[2]], [True, False, True])
+        >>> bytes(lost)
+        b'cd'
+        """
+        flags = np.array([bool(it) for it in present], np.uint8)
+        rows = [None if it is None else _bytes(it) if flag else _buffer(it) for it, flag in zip(shards, flags)]
+        sizes = {len(it) for it in rows if it is not None}
+        if not len(shards) == len(flags) == self.data + self.parity or len(sizes) != 1 or 0 in sizes:
+            raise ValueError(f"expected {self.data + self.parity} shards of one size, which is not 0, and as many flags")
+        if any(it is None and flag for it, flag in zip(rows, flags)):
+            raise ValueError("a shard that is present is None")
+        factors = np.zeros(len(flags), np.uint8)
+        for lost in np.flatnonzero(flags == 0):
+            call("rs_shard_factors", self.data, self.parity, flags, int(lost), factors)
+            row = rows[lost]
+            if row is not None:
+                row[:] = 0
+                for at in np.flatnonzero(factors):
+                    call("rs_add_multiple", int(factors[at]), rows[at], row)
 
     def _verify(self, shards: Words, result: Words) -> None:
         call("rs_verify_prepared", self.data, self.parity, self._tables, shards, result)

@@ -4,6 +4,9 @@
 VERSION = 256
 VERSION_TEXT = "0.1.0"
 
+# How many words of 64 bits a hash in pieces has.
+STATE_WORDS = 13
+
 # The name of each status, and its sentence.
 STATUSES: dict[int, tuple[str, str]] = {
     0: ("BF_OK", "success"),
@@ -353,15 +356,15 @@ FUNCTIONS: dict[str, list[tuple[str, str, str]]] = {
     "tag_ghash": [("in", "key", "u8"), ("in", "message", "u8"), ("out", "hash", "u8")],
     "tag_polyval": [("in", "key", "u8"), ("in", "message", "u8"), ("out", "hash", "u8")],
     "tag_gcm_ghash": [("in", "key", "u8"), ("in", "associated", "u8"), ("in", "ciphertext", "u8"), ("out", "hash", "u8")],
-    "tag_ghash_update": [("in", "key", "u8"), ("in", "blocks", "u8"), ("inout", "hash", "u8")],
-    "tag_ghash_update_padded": [("in", "key", "u8"), ("in", "message", "u8"), ("inout", "hash", "u8")],
-    "tag_ghash_prepare": [("in", "key", "u8"), ("out", "prepared", "u8")],
-    "tag_ghash_update_prepared": [("in", "prepared", "u8"), ("in", "message", "u8"), ("inout", "hash", "u8")],
-    "tag_polyval_update": [("in", "key", "u8"), ("in", "blocks", "u8"), ("inout", "hash", "u8")],
-    "tag_polyval_update_padded": [("in", "key", "u8"), ("in", "message", "u8"), ("inout", "hash", "u8")],
-    "tag_polyval_prepare": [("in", "key", "u8"), ("out", "prepared", "u8")],
-    "tag_polyval_update_prepared": [("in", "prepared", "u8"), ("in", "message", "u8"), ("inout", "hash", "u8")],
-    "tag_gcm_ghash_final": [("in", "key", "u8"), ("number", "associated_length", "u64"), ("number", "ciphertext_length", "u64"), ("inout", "hash", "u8")],
+    "tag_ghash_init": [("result", "state", "ghash_state"), ("in", "key", "u8")],
+    "tag_ghash_update": [("state", "state", "ghash_state"), ("in", "message", "u8")],
+    "tag_ghash_pad": [("state", "state", "ghash_state")],
+    "tag_ghash_final": [("state", "state", "ghash_state"), ("out", "hash", "u8")],
+    "tag_polyval_init": [("result", "state", "polyval_state"), ("in", "key", "u8")],
+    "tag_polyval_update": [("state", "state", "polyval_state"), ("in", "message", "u8")],
+    "tag_polyval_pad": [("state", "state", "polyval_state")],
+    "tag_polyval_final": [("state", "state", "polyval_state"), ("out", "hash", "u8")],
+    "tag_gcm_ghash_final": [("state", "state", "ghash_state"), ("number", "associated_length", "u64"), ("number", "ciphertext_length", "u64"), ("out", "hash", "u8")],
     "tags_are_equal": [("in", "left", "u8"), ("in", "right", "u8"), ("result", "equal", "u8")],
     "rs_encode": [("number", "data", "u64"), ("number", "parity", "u64"), ("inout", "shards", "u8")],
     "rs_verify": [("number", "data", "u64"), ("number", "parity", "u64"), ("in", "shards", "u8"), ("result", "whole", "u8")],
@@ -370,6 +373,8 @@ FUNCTIONS: dict[str, list[tuple[str, str, str]]] = {
     "rs_encode_prepared": [("number", "data", "u64"), ("number", "parity", "u64"), ("in", "tables", "u8"), ("inout", "shards", "u8")],
     "rs_verify_prepared": [("number", "data", "u64"), ("number", "parity", "u64"), ("in", "tables", "u8"), ("in", "shards", "u8"), ("result", "whole", "u8")],
     "rs_add_shard": [("number", "data", "u64"), ("number", "parity", "u64"), ("in", "tables", "u8"), ("number", "data_shard", "u64"), ("number", "parity_shard", "u64"), ("in", "shard", "u8"), ("inout", "sums", "u8")],
+    "rs_shard_factors": [("number", "data", "u64"), ("number", "parity", "u64"), ("in", "present", "u8"), ("number", "shard", "u64"), ("out", "factors", "u8")],
+    "rs_add_multiple": [("scalar", "factor", "u8"), ("in", "shard", "u8"), ("inout", "sums", "u8")],
     "rs_reconstruct": [("number", "data", "u64"), ("number", "parity", "u64"), ("inout", "shards", "u8"), ("in", "present", "u8")],
     "rs_reconstruct_data": [("number", "data", "u64"), ("number", "parity", "u64"), ("inout", "shards", "u8"), ("in", "present", "u8")],
     "erasure_space": [("number", "data", "u64"), ("number", "parity", "u64"), ("result", "length", "u64")],

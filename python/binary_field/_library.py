@@ -12,16 +12,19 @@ from typing import Any, Callable
 
 import numpy as np
 
-from ._functions import FUNCTIONS, STATUSES, VERSION
+from ._functions import FUNCTIONS, STATE_WORDS, STATUSES, VERSION
 from ._workers import get_workers, in_pieces
 
 ARRAYS = ("in", "inout", "out", "space")
+WRITTEN = ("inout", "out", "result", "state", "space")
 NARROW = {"u8": ctypes.c_uint8, "u16": ctypes.c_uint16, "u32": ctypes.c_uint32, "u64": ctypes.c_uint64}
 # What holds an element in an array of numpy: an unsigned integer or, of 128 and 192 bits, a structure of words of 64, the lowest first. It
 # has the alignment of its words, so that numpy says of an array whether it has that.
 Words = np.ndarray[Any, Any]
 WORDS: dict[str, np.dtype[Any]] = {it: np.dtype(f"<u{int(it[1:]) // 8}") for it in NARROW}
 WORDS |= {it: np.dtype([("words", "<u8", (int(it[1:]) // 64,))], align=True) for it in ("u128", "u192")}
+# A hash in pieces.
+WORDS |= {it: np.dtype([("words", "<u8", (STATE_WORDS,))], align=True) for it in ("ghash_state", "polyval_state")}
 # A place in an array, as columns of matrices are told.
 WORDS["usize"] = PLACE = np.dtype(np.uintp)
 # The functions whose result at a place is made of what is at that place of the arrays, and of all of those that are taken whole.
@@ -77,7 +80,7 @@ _CALLED = {
     name: (
         function,
         [
-            (parameter, kind == "number" or (kind == "scalar" and word in NARROW), kind in ARRAYS, kind in ("inout", "out", "result", "space"), WORDS[word])
+            (parameter, kind == "number" or (kind == "scalar" and word in NARROW), kind in ARRAYS, kind in WRITTEN, WORDS[word])
             for kind, parameter, word in FUNCTIONS[name]
         ],
     )

@@ -3,6 +3,7 @@
 use crate::error::succeed;
 use crate::functions::*;
 use crate::{Error, Field};
+use core::fmt;
 
 /// Elements as bytes, the lowest first; of `Poly192` those of each coefficient, that of 1 first.
 pub trait RawDataSerializable: Field {
@@ -18,16 +19,12 @@ pub trait RawDataSerializable: Field {
     }
 }
 
-// A hash of a message under a key, or by what was made of it, whole or from the hash of the blocks before.
+// A hash of a message under a key.
 type Hash = unsafe extern "C" fn(*const u8, usize, *const u8, usize, *mut u8, usize) -> u32;
-
-fn hash_into(function: Hash, key: &[u8], message: &[u8], hash: &mut [u8; 16]) -> Result<(), Error> {
-    Error::of(call!(function: [key], [message], [mut hash]))
-}
 
 fn hashed(function: Hash, key: &[u8; 16], message: &[u8]) -> [u8; 16] {
     let mut hash = [0; 16];
-    hash_into(function, key, message, &mut hash).expect("a hash of any message");
+    succeed(call!(function: [key], [message], [mut hash]));
     hash
 }
 
@@ -48,71 +45,79 @@ pub fn gcm_ghash(key: &[u8; 16], associated: &[u8], ciphertext: &[u8]) -> [u8; 1
     hash
 }
 
-/// Makes of GHASH of the blocks before that of `blocks` too. `hash` is 16 zeros before the first. [`Error::Length`] where `blocks` are no
-/// whole blocks of 16 bytes.
-pub fn ghash_update(key: &[u8; 16], hash: &mut [u8; 16], blocks: &[u8]) -> Result<(), Error> {
-    hash_into(bf_tag_ghash_update, key, blocks, hash)
+// A hash of a message in pieces, by the functions of the library.
+macro_rules! in_pieces {
+    ($(#[$about:meta])* $name:ident, $init:ident, $update:ident, $pad:ident, $last:ident) => {
+        $(#[$about])*
+        ///
+        /// A copy goes on by itself, and one of the empty message serves for many messages. It tells the key.
+        #[derive(Clone)]
+        pub struct $name([u64; 13]);
+
+        impl $name {
+            /// The hash of the empty message under the key.
+            pub fn new(key: &[u8; 16]) -> $name {
+                let mut state = [0; 13];
+                succeed(call!($init: &raw mut state, [key]));
+                $name(state)
+            }
+
+            /// Adds bytes to the message, of any number: no zeros come between them and the next ones.
+            pub fn update(&mut self, message: &[u8]) {
+                succeed(call!($update: &raw mut self.0, [message]));
+            }
+
+            /// Adds as many zeros as make the message whole blocks of 16 bytes, which may be none.
+            pub fn pad(&mut self) {
+                succeed(call!($pad: &raw mut self.0));
+            }
+
+            /// The hash of the message, with zeros added to whole blocks. The message is then empty, under the same key.
+            pub fn finalize_reset(&mut self) -> [u8; 16] {
+                let mut hash = [0; 16];
+                succeed(call!($last: &raw mut self.0, [mut hash]));
+                hash
+            }
+
+            /// The hash of the message, with zeros added to whole blocks.
+            pub fn finalize(mut self) -> [u8; 16] {
+                self.finalize_reset()
+            }
+        }
+
+        // It does not show what tells the key.
+        impl fmt::Debug for $name {
+            fn fmt(&self, formatter: &mut fmt::Formatter<'_>) -> fmt::Result {
+                formatter.debug_struct(stringify!($name)).finish_non_exhaustive()
+            }
+        }
+    };
 }
 
-/// The same with the last bytes of a message, of any number, to which zeros are added to whole blocks.
-pub fn ghash_update_padded(key: &[u8; 16], hash: &mut [u8; 16], message: &[u8]) {
-    hash_into(bf_tag_ghash_update_padded, key, message, hash).expect("a hash of any message");
+in_pieces! {
+    /// GHASH (NIST SP 800-38D) of a message that comes in pieces of any length, as [`ghash`] is that of a whole one.
+    Ghash, bf_tag_ghash_init, bf_tag_ghash_update, bf_tag_ghash_pad, bf_tag_ghash_final
 }
 
-/// Makes of POLYVAL of the blocks before that of `blocks` too. `hash` is 16 zeros before the first. [`Error::Length`] where `blocks` are no
-/// whole blocks of 16 bytes.
-pub fn polyval_update(key: &[u8; 16], hash: &mut [u8; 16], blocks: &[u8]) -> Result<(), Error> {
-    hash_into(bf_tag_polyval_update, key, blocks, hash)
+in_pieces! {
+    /// POLYVAL (RFC 8452) of a message that comes in pieces of any length, as [`polyval`] is that of a whole one.
+    Polyval, bf_tag_polyval_init, bf_tag_polyval_update, bf_tag_polyval_pad, bf_tag_polyval_final
 }
 
-/// The same with the last bytes of a message, of any number, to which zeros are added to whole blocks.
-pub fn polyval_update_padded(key: &[u8; 16], hash: &mut [u8; 16], message: &[u8]) {
-    hash_into(bf_tag_polyval_update_padded, key, message, hash).expect("a hash of any message");
-}
-
-// What a function makes of a key.
-fn prepared(
-    function: unsafe extern "C" fn(*const u8, usize, *mut u8, usize) -> u32,
-    key: &[u8; 16],
-) -> [u8; 64] {
-    let mut prepared = [0; 64];
-    succeed(call!(function: [key], [mut prepared]));
-    prepared
-}
-
-/// What hashes under the key go by, for many calls of [`ghash_update_prepared`]. It tells the key.
-pub fn ghash_prepare(key: &[u8; 16]) -> [u8; 64] {
-    prepared(bf_tag_ghash_prepare, key)
-}
-
-/// The same as [`ghash_update_padded`], by what [`ghash_prepare`] made of the key. By other bytes it writes any hash.
-pub fn ghash_update_prepared(prepared: &[u8; 64], hash: &mut [u8; 16], message: &[u8]) {
-    hash_into(bf_tag_ghash_update_prepared, prepared, message, hash)
-        .expect("a hash of any message");
-}
-
-/// What hashes under the key go by, for many calls of [`polyval_update_prepared`]. It tells the key.
-pub fn polyval_prepare(key: &[u8; 16]) -> [u8; 64] {
-    prepared(bf_tag_polyval_prepare, key)
-}
-
-/// The same as [`polyval_update_padded`], by what [`polyval_prepare`] made of the key. By other bytes it writes any hash.
-pub fn polyval_update_prepared(prepared: &[u8; 64], hash: &mut [u8; 16], message: &[u8]) {
-    hash_into(bf_tag_polyval_update_prepared, prepared, message, hash)
-        .expect("a hash of any message");
-}
-
-/// Makes what [`gcm_ghash`] gives of GHASH of the associated data and then of the ciphertext, the last bytes of each by
-/// [`ghash_update_padded`]. The lengths are in bytes. [`Error::Length`] where one is 2^61 or more.
-pub fn gcm_ghash_final(
-    key: &[u8; 16],
-    hash: &mut [u8; 16],
-    associated_length: usize,
-    ciphertext_length: usize,
-) -> Result<(), Error> {
-    Error::of(
-        call!(bf_tag_gcm_ghash_final: [key], associated_length, ciphertext_length, [mut hash]),
-    )
+impl Ghash {
+    /// What [`gcm_ghash`] gives, where the message is the associated data, [`pad`](Ghash::pad) behind them, and the ciphertext, by their
+    /// lengths in bytes. [`Error::Length`] where one is 2^61 or more.
+    pub fn finalize_gcm(
+        mut self,
+        associated_length: usize,
+        ciphertext_length: usize,
+    ) -> Result<[u8; 16], Error> {
+        let mut hash = [0; 16];
+        Error::of(
+            call!(bf_tag_gcm_ghash_final: &raw mut self.0, associated_length, ciphertext_length, [mut hash]),
+        )?;
+        Ok(hash)
+    }
 }
 
 /// Whether the two have the same bytes. Nothing is claimed on the time that it takes.
@@ -181,6 +186,56 @@ impl ReedSolomon {
         self.restored(bf_rs_reconstruct_data, shards, present)
     }
 
+    /// Writes the missing shards of shards that stand apart, all of one size.
+    pub fn reconstruct_shards<S: AsRef<[u8]> + AsMut<[u8]>>(
+        &self,
+        shards: &mut [S],
+        present: &[bool],
+    ) -> Result<(), Error> {
+        self.restore_shards(shards, present, self.data + self.parity)
+    }
+
+    /// Writes the missing shards of data alone of shards that stand apart, all of one size.
+    pub fn reconstruct_data_shards<S: AsRef<[u8]> + AsMut<[u8]>>(
+        &self,
+        shards: &mut [S],
+        present: &[bool],
+    ) -> Result<(), Error> {
+        self.restore_shards(shards, present, self.data)
+    }
+
+    // Writes the missing shards before shard `until`, each as the sum of the products of the present ones by their factors.
+    fn restore_shards<S: AsRef<[u8]> + AsMut<[u8]>>(
+        &self,
+        shards: &mut [S],
+        present: &[bool],
+        until: usize,
+    ) -> Result<(), Error> {
+        let size = shards.first().map_or(0, |it| it.as_ref().len());
+        if shards.len() != self.data + self.parity
+            || present.len() != shards.len()
+            || size == 0
+            || shards.iter().any(|it| it.as_ref().len() != size)
+        {
+            return Err(Error::Length);
+        }
+        let mut factors = [0; 256];
+        let factors = &mut factors[..shards.len()];
+        for lost in (0..until).filter(|&it| !present[it]) {
+            Error::of(
+                call!(bf_rs_shard_factors: self.data, self.parity, [present], lost, [mut factors]),
+            )?;
+            shards[lost].as_mut().fill(0);
+            for (at, &factor) in factors.iter().enumerate() {
+                if factor != 0 {
+                    let (shard, sums) = two_of(shards, at, lost);
+                    succeed(call!(bf_rs_add_multiple: factor, [shard], [mut sums]));
+                }
+            }
+        }
+        Ok(())
+    }
+
     fn restored(
         &self,
         function: Restoring,
@@ -188,6 +243,21 @@ impl ReedSolomon {
         present: &[bool],
     ) -> Result<(), Error> {
         Error::of(call!(function: self.data, self.parity, [mut shards], [present]))
+    }
+}
+
+// The bytes of a shard that is read, and of another one that is written.
+fn two_of<S: AsRef<[u8]> + AsMut<[u8]>>(
+    shards: &mut [S],
+    read: usize,
+    written: usize,
+) -> (&[u8], &mut [u8]) {
+    if read < written {
+        let (front, back) = shards.split_at_mut(written);
+        (front[read].as_ref(), back[0].as_mut())
+    } else {
+        let (front, back) = shards.split_at_mut(read);
+        (back[0].as_ref(), front[written].as_mut())
     }
 }
 

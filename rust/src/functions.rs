@@ -2923,88 +2923,59 @@ unsafe extern "C" {
         hash: *mut u8,
         hash_length: usize,
     ) -> u32;
-    /// GHASH of more whole blocks: hash is that of the blocks before, and then that of these too. BF_LENGTH unless
-    /// key and hash have 16 bytes, and blocks a multiple of 16.
+    /// state: the hash of the empty message under the key, to which bf_tag_ghash_update adds bytes. BF_LENGTH unless
+    /// key has 16 bytes.
+    pub fn bf_tag_ghash_init(
+        state: *mut [u64; 13],
+        key: *const u8,
+        key_length: usize,
+    ) -> u32;
+    /// Adds bytes to the message, of any number: no zeros come between them and the next ones.
     pub fn bf_tag_ghash_update(
-        key: *const u8,
-        key_length: usize,
-        blocks: *const u8,
-        blocks_length: usize,
-        hash: *mut u8,
-        hash_length: usize,
-    ) -> u32;
-    /// GHASH of more bytes, zeros added to whole blocks: hash is that of the blocks before, and then that of these
-    /// too. BF_LENGTH unless key and hash have 16 bytes.
-    pub fn bf_tag_ghash_update_padded(
-        key: *const u8,
-        key_length: usize,
+        state: *mut [u64; 13],
         message: *const u8,
         message_length: usize,
+    ) -> u32;
+    /// Adds as many zeros as make the message whole blocks, which may be none.
+    pub fn bf_tag_ghash_pad(
+        state: *mut [u64; 13],
+    ) -> u32;
+    /// hash: what bf_tag_ghash gives of the message, which is then empty, under the same key. BF_LENGTH unless hash
+    /// has 16 bytes.
+    pub fn bf_tag_ghash_final(
+        state: *mut [u64; 13],
         hash: *mut u8,
         hash_length: usize,
     ) -> u32;
-    /// prepared: what hashes under the key go by, for bf_tag_ghash_update_prepared: the element by which the field
-    /// multiplies for it, and its powers up to the fourth. BF_LENGTH unless key has 16 bytes, and prepared 64.
-    pub fn bf_tag_ghash_prepare(
+    /// state: the hash of the empty message under the key, to which bf_tag_polyval_update adds bytes. BF_LENGTH
+    /// unless key has 16 bytes.
+    pub fn bf_tag_polyval_init(
+        state: *mut [u64; 13],
         key: *const u8,
         key_length: usize,
-        prepared: *mut u8,
-        prepared_length: usize,
     ) -> u32;
-    /// The same as bf_tag_ghash_update_padded, by what bf_tag_ghash_prepare wrote for the key; by other bytes it
-    /// writes 16 bytes of which nothing is said. BF_LENGTH unless prepared has 64 bytes, and hash 16.
-    pub fn bf_tag_ghash_update_prepared(
-        prepared: *const u8,
-        prepared_length: usize,
-        message: *const u8,
-        message_length: usize,
-        hash: *mut u8,
-        hash_length: usize,
-    ) -> u32;
-    /// POLYVAL of more whole blocks: hash is that of the blocks before, and then that of these too. BF_LENGTH unless
-    /// key and hash have 16 bytes, and blocks a multiple of 16.
+    /// Adds bytes to the message, of any number: no zeros come between them and the next ones.
     pub fn bf_tag_polyval_update(
-        key: *const u8,
-        key_length: usize,
-        blocks: *const u8,
-        blocks_length: usize,
-        hash: *mut u8,
-        hash_length: usize,
-    ) -> u32;
-    /// POLYVAL of more bytes, zeros added to whole blocks: hash is that of the blocks before, and then that of these
-    /// too. BF_LENGTH unless key and hash have 16 bytes.
-    pub fn bf_tag_polyval_update_padded(
-        key: *const u8,
-        key_length: usize,
+        state: *mut [u64; 13],
         message: *const u8,
         message_length: usize,
+    ) -> u32;
+    /// Adds as many zeros as make the message whole blocks, which may be none.
+    pub fn bf_tag_polyval_pad(
+        state: *mut [u64; 13],
+    ) -> u32;
+    /// hash: what bf_tag_polyval gives of the message, which is then empty, under the same key. BF_LENGTH unless hash
+    /// has 16 bytes.
+    pub fn bf_tag_polyval_final(
+        state: *mut [u64; 13],
         hash: *mut u8,
         hash_length: usize,
     ) -> u32;
-    /// prepared: what hashes under the key go by, for bf_tag_polyval_update_prepared: the element by which the field
-    /// multiplies for it, and its powers up to the fourth. BF_LENGTH unless key has 16 bytes, and prepared 64.
-    pub fn bf_tag_polyval_prepare(
-        key: *const u8,
-        key_length: usize,
-        prepared: *mut u8,
-        prepared_length: usize,
-    ) -> u32;
-    /// The same as bf_tag_polyval_update_padded, by what bf_tag_polyval_prepare wrote for the key; by other bytes it
-    /// writes 16 bytes of which nothing is said. BF_LENGTH unless prepared has 64 bytes, and hash 16.
-    pub fn bf_tag_polyval_update_prepared(
-        prepared: *const u8,
-        prepared_length: usize,
-        message: *const u8,
-        message_length: usize,
-        hash: *mut u8,
-        hash_length: usize,
-    ) -> u32;
-    /// GHASH of the block of two lengths in bytes, each below 2^61, as GCM has them: hash is that of the blocks
-    /// before, and then that of this one too. BF_LENGTH unless key and hash have 16 bytes, and both lengths are below
-    /// 2^61.
+    /// hash: what bf_tag_gcm_ghash gives, where the message is the associated data, bf_tag_ghash_pad behind them, and
+    /// the ciphertext, by their lengths in bytes, each below 2^61; the message is then empty, under the same key.
+    /// BF_LENGTH unless hash has 16 bytes, and both lengths are below 2^61.
     pub fn bf_tag_gcm_ghash_final(
-        key: *const u8,
-        key_length: usize,
+        state: *mut [u64; 13],
         associated_length: usize,
         ciphertext_length: usize,
         hash: *mut u8,
@@ -3096,6 +3067,29 @@ unsafe extern "C" {
         shards: *const u8,
         shards_length: usize,
         whole: *mut u8,
+    ) -> u32;
+    /// factors: the factor of each shard in a missing one, which is the sum of the products of the present shards by
+    /// their factors: shard i is missing where present\[i\] is 0, and the factors of all but the first present
+    /// shards, as many as data, are 0. BF_CODE if data and parity are not both at least 1 and together at most 256.
+    /// BF_LENGTH unless present and factors have data + parity bytes, and shard is below data + parity and missing.
+    /// BF_TOO_FEW_SHARDS unless at least as many entries of present as data are not 0.
+    pub fn bf_rs_shard_factors(
+        data: usize,
+        parity: usize,
+        present: *const u8,
+        present_length: usize,
+        shard: usize,
+        factors: *mut u8,
+        factors_length: usize,
+    ) -> u32;
+    /// Adds to each byte of sums the product of the byte of shard at its place by the factor, modulo x^8 + x^4 + x^3
+    /// + x^2 + 1. BF_LENGTH unless shard and sums have one length.
+    pub fn bf_rs_add_multiple(
+        factor: u8,
+        shard: *const u8,
+        shard_length: usize,
+        sums: *mut u8,
+        sums_length: usize,
     ) -> u32;
     /// Writes the missing shards: shard i is missing where present\[i\] is 0. BF_CODE if data and parity are not both
     /// at least 1 and together at most 256. BF_LENGTH unless shards has a multiple, but not 0, of data + parity

@@ -50,9 +50,8 @@ mod text;
 mod words;
 
 pub use bytes::{
-    Prepared, RawDataSerializable, ReedSolomon, gcm_ghash, gcm_ghash_final, ghash, ghash_prepare,
-    ghash_update, ghash_update_padded, ghash_update_prepared, polyval, polyval_prepare,
-    polyval_update, polyval_update_padded, polyval_update_prepared, tags_are_equal,
+    Ghash, Polyval, Prepared, RawDataSerializable, ReedSolomon, gcm_ghash, ghash, polyval,
+    tags_are_equal,
 };
 pub use erasure::TransformCode;
 pub use error::Error;

@@ -379,45 +379,61 @@ fn transforms_and_linear_maps() {
     assert_eq!(bytes, [2, 9]);
 }
 
-// A message of two blocks and a part of one, hashed in two pieces.
+// A message of two blocks and a part of one, hashed in pieces that end anywhere.
 fn tags_in_pieces(key: &[u8; 16], text: &[u8; 16]) {
     let message = [&text[..], &key[..], &text[..5]].concat();
-    let mut hash = [0; 16];
-    ghash_update(key, &mut hash, &message[..16]).unwrap();
-    assert_eq!(hash, ghash(key, text));
+    let (mut of_ghash, mut of_polyval) = (Ghash::new(key), Polyval::new(key));
+    let empty = of_ghash.clone();
+    for piece in message.chunks(7) {
+        of_ghash.update(piece);
+        of_polyval.update(piece);
+    }
+    assert_eq!(of_polyval.finalize(), polyval(key, &message));
+    let mut both = of_ghash.clone();
+    assert_eq!(of_ghash.finalize_reset(), ghash(key, &message));
+    of_ghash.update(text);
+    assert_eq!(of_ghash.finalize(), ghash(key, text));
+    both.pad();
+    both.update(text);
     assert_eq!(
-        ghash_update(key, &mut hash, &message[..15]),
+        both.clone().finalize_gcm(message.len(), 1 << 61),
         Err(Error::Length)
     );
-    assert_eq!(hash, ghash(key, text));
-    ghash_update_padded(key, &mut hash, &message[16..]);
-    assert_eq!(hash, ghash(key, &message));
-    ghash_update_padded(key, &mut hash, text);
     assert_eq!(
-        gcm_ghash_final(key, &mut hash, message.len(), 1 << 61),
-        Err(Error::Length)
+        both.finalize_gcm(message.len(), text.len()),
+        Ok(gcm_ghash(key, &message, text))
     );
-    gcm_ghash_final(key, &mut hash, message.len(), text.len()).unwrap();
-    assert_eq!(hash, gcm_ghash(key, &message, text));
-    hash = [0; 16];
-    polyval_update(key, &mut hash, &message[..32]).unwrap();
-    polyval_update_padded(key, &mut hash, &message[32..]);
-    assert_eq!(hash, polyval(key, &message));
-    assert_eq!(polyval_update(key, &mut hash, &[0; 17]), Err(Error::Length));
-    tags_by_prepared_keys(key, &message);
+    assert_eq!(format!("{empty:?}"), "Ghash { .. }");
+    assert_eq!(empty.finalize(), [0; 16]);
 }
 
-// The hashes by what is made of the key.
-fn tags_by_prepared_keys(key: &[u8; 16], message: &[u8]) {
-    let (of_ghash, of_polyval) = (ghash_prepare(key), polyval_prepare(key));
-    assert_ne!(of_ghash, of_polyval);
-    let mut hash = [0; 16];
-    ghash_update_prepared(&of_ghash, &mut hash, &message[..16]);
-    ghash_update_prepared(&of_ghash, &mut hash, &message[16..]);
-    assert_eq!(hash, ghash(key, message));
-    hash = [0; 16];
-    polyval_update_prepared(&of_polyval, &mut hash, message);
-    assert_eq!(hash, polyval(key, message));
+// Shards that stand apart, restored where they stand.
+fn shards_apart(code: ReedSolomon, whole: &[u8; 12]) {
+    let mut shards: Vec<Vec<u8>> = whole.chunks(3).map(<[u8]>::to_vec).collect();
+    let all = shards.clone();
+    let present = [false, true, true, false];
+    shards[0].fill(7);
+    shards[3].fill(7);
+    code.reconstruct_data_shards(&mut shards, &present).unwrap();
+    assert_eq!((&shards[0], &shards[3]), (&all[0], &vec![7; 3]));
+    shards[0].fill(7);
+    code.reconstruct_shards(&mut shards, &present).unwrap();
+    assert_eq!(shards, all);
+    shards[0].fill(7);
+    assert_eq!(
+        code.reconstruct_shards(&mut shards, &[false, false, false, true]),
+        Err(Error::TooFewShards)
+    );
+    assert_eq!(shards[0], [7; 3]);
+    assert_eq!(
+        code.reconstruct_shards(&mut shards[..3], &present[..3]),
+        Err(Error::Length)
+    );
+    shards[1].pop();
+    assert_eq!(
+        code.reconstruct_shards(&mut shards, &present),
+        Err(Error::Length)
+    );
 }
 
 #[test]
@@ -457,6 +473,7 @@ fn tags_and_codes() {
         Err(Error::TooFewShards)
     );
     assert_eq!(code.encode(&mut shards[..5]), Err(Error::Length));
+    shards_apart(code, &whole);
     let mut tables = [0; 256];
     assert_eq!(code.tables_length(), 256);
     assert!(code.prepare(&mut tables[..255]).is_err());

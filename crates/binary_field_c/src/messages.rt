@@ -1,13 +1,14 @@
 // Calls over messages.
 // Written by scripts/make_c_exports.py; do not edit.
-ghost use Rattle.std.specs.Prelude.{◌≡◌, ◌^◌, ◌%◌, ◌<◌, [], ◌∷◌, length};
-ghost use Rattle.tags.specs.Blocks.{block_of_lengths, blocks_of, gcm_blocks};
+ghost use Rattle.std.specs.Prelude.{◌^◌, ◌<◌, ◌++◌, length};
+ghost use Rattle.tags.specs.Absorbed.{HoldsGhash, HoldsPolyval};
+ghost use Rattle.tags.specs.Blocks.{blocks_of, gcm_blocks, zero_padded};
 ghost use Rattle.tags.specs.Gcm.{ghash};
-ghost use Rattle.tags.specs.Pieces.{ghash_from, polyval_from};
+ghost use Rattle.tags.specs.Pieces.{hash_with_lengths};
 ghost use Rattle.tags.specs.Polyval.{polyval};
-ghost use Rattle.tags.specs.Prepared.{ghash_prepared, polyval_prepared};
-ghost use Rattle.c_calls.specs.Bytes.{Compares, Hashes, HashesPrepared, PreparesKey};
+ghost use Rattle.c_calls.specs.Bytes.{BeginsHash, ChangesMessage, Compares, EndsHash, Hashes};
 
+use c_calls::HashState;
 use std::simd::prelude::*;
 
 /// GHASH of the message (NIST SP 800-38D), zeros added to whole blocks; key and hash have 16 bytes.
@@ -41,99 +42,84 @@ pub extern "C" fn bf_tag_gcm_ghash(
     c_calls::gcm_ghash::<u64x2>(key, associated, ciphertext, hash)
 }
 
-/// GHASH of more whole blocks: hash is that of the blocks before, and then that of these too; key and hash have 16 bytes.
+/// The hash of the empty message under the key, to which tag_ghash_update adds bytes; key has 16 bytes.
 #[unsafe(no_mangle)]
-pub extern "C" fn bf_tag_ghash_update(key: &[u8], blocks: &[u8], hash: &mut [u8]) -> u32
-    ensures { Hashes (length blocks.now % 16 ≡ 0) key.now (ghash_from key.now hash.old (blocks_of blocks.now)) hash.old hash.new result }
+pub extern "C" fn bf_tag_ghash_init(state: &mut HashState, key: &[u8]) -> u32
+    ensures { BeginsHash HoldsGhash key.now state.old state.new result }
 {
-    c_calls::hash_update::<tags::HighestFirst, u64x2>(key, blocks, hash)
+    c_calls::hash_begin::<tags::HighestFirst>(state, key)
 }
 
-/// GHASH of more bytes, zeros added to whole blocks: hash is that of the blocks before, and then that of these too; key and hash have 16
-/// bytes.
+/// Adds bytes to the message, of any number: no zeros come between them and the next ones.
 #[unsafe(no_mangle)]
-pub extern "C" fn bf_tag_ghash_update_padded(key: &[u8], message: &[u8], hash: &mut [u8]) -> u32
-    ensures { Hashes (Unit {0}) key.now (ghash_from key.now hash.old (blocks_of message.now)) hash.old hash.new result }
+pub extern "C" fn bf_tag_ghash_update(state: &mut HashState, message: &[u8]) -> u32
+    ensures { ChangesMessage HoldsGhash (λ m. m ++ message.now) state.old state.new result }
 {
-    c_calls::hash_update_padded::<tags::HighestFirst, u64x2>(key, message, hash)
+    c_calls::hash_update::<tags::HighestFirst, u64x2>(state, message)
 }
 
-/// What hashes under the key go by, for tag_ghash_update_prepared: the element by which the field multiplies for it, and its powers up to
-/// the fourth; key has 16 bytes, and prepared 64.
+/// Adds as many zeros as make the message whole blocks, which may be none.
 #[unsafe(no_mangle)]
-pub extern "C" fn bf_tag_ghash_prepare(key: &[u8], prepared: &mut [u8]) -> u32
-    ensures { PreparesKey key.now (ghash_prepared key.now) prepared.old prepared.new result }
+pub extern "C" fn bf_tag_ghash_pad(state: &mut HashState) -> u32
+    ensures { ChangesMessage HoldsGhash (λ m. zero_padded m) state.old state.new result }
 {
-    c_calls::hash_prepare::<tags::HighestFirst>(key, prepared)
+    c_calls::hash_pad::<tags::HighestFirst>(state)
 }
 
-/// The same as tag_ghash_update_padded, by what tag_ghash_prepare wrote for the key; by other bytes it writes 16 bytes of which nothing is
-/// said; prepared has 64 bytes, and hash 16.
+/// What tag_ghash gives of the message, which is then empty, under the same key; hash has 16 bytes.
 #[unsafe(no_mangle)]
-pub extern "C" fn bf_tag_ghash_update_prepared(
-    prepared: &[u8],
-    message: &[u8],
-    hash: &mut [u8],
-) -> u32
-    ensures { HashesPrepared ghash_prepared prepared.now (λ key. ghash_from key hash.old (blocks_of message.now)) hash.old hash.new result }
+pub extern "C" fn bf_tag_ghash_final(state: &mut HashState, hash: &mut [u8]) -> u32
+    ensures { EndsHash HoldsGhash (Unit {0}) (λ key m. ghash key (blocks_of m)) state.old hash.old state.new hash.new result }
 {
-    c_calls::hash_update_prepared::<tags::HighestFirst, u64x2>(prepared, message, hash)
+    c_calls::hash_end::<tags::HighestFirst>(state, hash)
 }
 
-/// POLYVAL of more whole blocks: hash is that of the blocks before, and then that of these too; key and hash have 16 bytes.
+/// The hash of the empty message under the key, to which tag_polyval_update adds bytes; key has 16 bytes.
 #[unsafe(no_mangle)]
-pub extern "C" fn bf_tag_polyval_update(key: &[u8], blocks: &[u8], hash: &mut [u8]) -> u32
-    ensures { Hashes (length blocks.now % 16 ≡ 0) key.now (polyval_from key.now hash.old (blocks_of blocks.now)) hash.old hash.new result }
+pub extern "C" fn bf_tag_polyval_init(state: &mut HashState, key: &[u8]) -> u32
+    ensures { BeginsHash HoldsPolyval key.now state.old state.new result }
 {
-    c_calls::hash_update::<tags::LowestFirst, u64x2>(key, blocks, hash)
+    c_calls::hash_begin::<tags::LowestFirst>(state, key)
 }
 
-/// POLYVAL of more bytes, zeros added to whole blocks: hash is that of the blocks before, and then that of these too; key and hash have 16
-/// bytes.
+/// Adds bytes to the message, of any number: no zeros come between them and the next ones.
 #[unsafe(no_mangle)]
-pub extern "C" fn bf_tag_polyval_update_padded(key: &[u8], message: &[u8], hash: &mut [u8]) -> u32
-    ensures { Hashes (Unit {0}) key.now (polyval_from key.now hash.old (blocks_of message.now)) hash.old hash.new result }
+pub extern "C" fn bf_tag_polyval_update(state: &mut HashState, message: &[u8]) -> u32
+    ensures { ChangesMessage HoldsPolyval (λ m. m ++ message.now) state.old state.new result }
 {
-    c_calls::hash_update_padded::<tags::LowestFirst, u64x2>(key, message, hash)
+    c_calls::hash_update::<tags::LowestFirst, u64x2>(state, message)
 }
 
-/// What hashes under the key go by, for tag_polyval_update_prepared: the element by which the field multiplies for it, and its powers up
-/// to the fourth; key has 16 bytes, and prepared 64.
+/// Adds as many zeros as make the message whole blocks, which may be none.
 #[unsafe(no_mangle)]
-pub extern "C" fn bf_tag_polyval_prepare(key: &[u8], prepared: &mut [u8]) -> u32
-    ensures { PreparesKey key.now (polyval_prepared key.now) prepared.old prepared.new result }
+pub extern "C" fn bf_tag_polyval_pad(state: &mut HashState) -> u32
+    ensures { ChangesMessage HoldsPolyval (λ m. zero_padded m) state.old state.new result }
 {
-    c_calls::hash_prepare::<tags::LowestFirst>(key, prepared)
+    c_calls::hash_pad::<tags::LowestFirst>(state)
 }
 
-/// The same as tag_polyval_update_padded, by what tag_polyval_prepare wrote for the key; by other bytes it writes 16 bytes of which
-/// nothing is said; prepared has 64 bytes, and hash 16.
+/// What tag_polyval gives of the message, which is then empty, under the same key; hash has 16 bytes.
 #[unsafe(no_mangle)]
-pub extern "C" fn bf_tag_polyval_update_prepared(
-    prepared: &[u8],
-    message: &[u8],
-    hash: &mut [u8],
-) -> u32
-    ensures { HashesPrepared polyval_prepared prepared.now (λ key. polyval_from key hash.old
-        (blocks_of message.now)) hash.old hash.new result }
+pub extern "C" fn bf_tag_polyval_final(state: &mut HashState, hash: &mut [u8]) -> u32
+    ensures { EndsHash HoldsPolyval (Unit {0}) (λ key m. polyval key (blocks_of m)) state.old hash.old state.new hash.new result }
 {
-    c_calls::hash_update_prepared::<tags::LowestFirst, u64x2>(prepared, message, hash)
+    c_calls::hash_end::<tags::LowestFirst>(state, hash)
 }
 
-/// GHASH of the block of two lengths in bytes, each below 2^61, as GCM has them: hash is that of the blocks before, and then that of this
-/// one too; key and hash have 16 bytes.
+/// What tag_gcm_ghash gives, where the message is the associated data, tag_ghash_pad behind them, and the ciphertext, by their lengths in
+/// bytes, each below 2^61; the message is then empty, under the same key; hash has 16 bytes.
 #[unsafe(no_mangle)]
 pub extern "C" fn bf_tag_gcm_ghash_final(
-    key: &[u8],
+    state: &mut HashState,
     associated_length: u64,
     ciphertext_length: u64,
     hash: &mut [u8],
 ) -> u32
-    ensures { Hashes ((associated_length < 2 ^ 61) × (ciphertext_length < 2 ^ 61)) key.now
-        (ghash_from key.now hash.old (block_of_lengths associated_length ciphertext_length ∷ []))
-        hash.old hash.new result }
+    ensures { EndsHash HoldsGhash ((associated_length < 2 ^ 61) × (ciphertext_length < 2 ^ 61))
+        (hash_with_lengths associated_length ciphertext_length) state.old hash.old state.new
+        hash.new result }
 {
-    c_calls::gcm_ghash_final(key, associated_length, ciphertext_length, hash)
+    c_calls::gcm_hash_end(state, associated_length, ciphertext_length, hash)
 }
 
 /// 1 where the two have the same bytes, else 0. What a compiler made of it was looked at: all bytes are read whatever they are, and one

@@ -1,8 +1,8 @@
 // Calls over shards, which stand one after the other and have one size: those of data, and then those of parity.
 // Written by scripts/make_c_exports.py; do not edit.
 ghost use Rattle.std.specs.Prelude.{◌+◌, length};
-ghost use Rattle.c_calls.specs.Bytes.{AddsOneShard, Encodes, EncodesPrepared, Prepares, Reconstructs, TellsTablesLength, Verifies};
-ghost use Rattle.c_calls.specs.Bytes.{VerifiesPrepared};
+ghost use Rattle.c_calls.specs.Bytes.{AddsOneMultiple, AddsOneShard, Encodes, EncodesPrepared, Prepares, Reconstructs, TellsFactors};
+ghost use Rattle.c_calls.specs.Bytes.{TellsTablesLength, Verifies, VerifiesPrepared};
 
 /// Writes the shards of parity, which stand behind those of data; all shards stand one after the other and have one size.
 #[unsafe(no_mangle)]
@@ -81,6 +81,29 @@ pub extern "C" fn bf_rs_add_shard(
     ensures { AddsOneShard «data» parity tables.now data_shard parity_shard shard.now sums.old sums.new result }
 {
     c_calls::add_shard(data, parity, tables, data_shard, parity_shard, shard, sums)
+}
+
+/// The factor of each shard in a missing one, which is the sum of the products of the present shards by their factors: shard i is missing
+/// where present[i] is 0, and the factors of all but the first present shards, as many as data, are 0.
+#[unsafe(no_mangle)]
+pub extern "C" fn bf_rs_shard_factors(
+    data: u64,
+    parity: u64,
+    present: &[u8],
+    shard: u64,
+    factors: &mut [u8],
+) -> u32
+    ensures { TellsFactors «data» parity present.now shard factors.old factors.new result }
+{
+    c_calls::factors_of(data, parity, present, shard, factors)
+}
+
+/// Adds to each byte of sums the product of the byte of shard at its place by the factor, modulo x^8 + x^4 + x^3 + x^2 + 1.
+#[unsafe(no_mangle)]
+pub extern "C" fn bf_rs_add_multiple(factor: u8, shard: &[u8], sums: &mut [u8]) -> u32
+    ensures { AddsOneMultiple factor shard.now sums.old sums.new result }
+{
+    c_calls::add_multiple(factor, shard, sums)
 }
 
 /// Writes the missing shards: shard i is missing where present[i] is 0.

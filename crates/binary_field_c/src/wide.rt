@@ -1,18 +1,17 @@
 // Second forms of calls, made for x86-64-v3, whose vectors have 256 bits.
 // Written by scripts/make_c_exports.py; do not edit.
-ghost use Rattle.std.specs.Prelude.{◌≡◌, ◌^◌, ◌%◌, ◌<◌, length};
+ghost use Rattle.std.specs.Prelude.{◌^◌, ◌<◌, ◌++◌, length};
+ghost use Rattle.tags.specs.Absorbed.{HoldsGhash, HoldsPolyval};
 ghost use Rattle.tags.specs.Blocks.{blocks_of, gcm_blocks};
 ghost use Rattle.tags.specs.Gcm.{ghash};
-ghost use Rattle.tags.specs.Pieces.{ghash_from, polyval_from};
 ghost use Rattle.tags.specs.Polyval.{polyval};
-ghost use Rattle.tags.specs.Prepared.{ghash_prepared, polyval_prepared};
-ghost use Rattle.c_calls.specs.Bytes.{Hashes, HashesPrepared};
+ghost use Rattle.c_calls.specs.Bytes.{ChangesMessage, Hashes};
 ghost use Rattle.c_calls.specs.Transforms.{ButterfliesForward, ButterfliesInverse, InvertsTransform, RunsLowStages, Transforms};
 ghost use Rattle.c_calls.specs.Calls.{AddsScaled, Inverts, Multiplies, MultipliesBy, TakesDotProduct};
 ghost use Rattle.c_calls.specs.Fields.{ghash_field, level_field, poly64_field, wide_level_field, wide_number};
 ghost use Rattle.c_calls.specs.Matrices.{InvertsMatrix, MultipliesMatrices, ReducesRows, SolvesEquations, TakesDeterminant, TakesRank};
 
-use c_calls::{Bits16, Bits32, Bits64, Bits128, GhashKernel, Poly64Kernel, Tower, Wide};
+use c_calls::{Bits16, Bits32, Bits64, Bits128, GhashKernel, HashState, Poly64Kernel, Tower, Wide};
 use std::simd::prelude::*;
 
 /// The same as `bf_g128_multiply`.
@@ -479,65 +478,16 @@ pub extern "C" fn bf_tag_gcm_ghash_wide(
 
 /// The same as `bf_tag_ghash_update`.
 #[unsafe(no_mangle)]
-pub extern "C" fn bf_tag_ghash_update_wide(key: &[u8], blocks: &[u8], hash: &mut [u8]) -> u32
-    ensures { Hashes (length blocks.now % 16 ≡ 0) key.now (ghash_from key.now hash.old (blocks_of blocks.now)) hash.old hash.new result }
+pub extern "C" fn bf_tag_ghash_update_wide(state: &mut HashState, message: &[u8]) -> u32
+    ensures { ChangesMessage HoldsGhash (λ m. m ++ message.now) state.old state.new result }
 {
-    c_calls::hash_update::<tags::HighestFirst, u64x4>(key, blocks, hash)
-}
-
-/// The same as `bf_tag_ghash_update_padded`.
-#[unsafe(no_mangle)]
-pub extern "C" fn bf_tag_ghash_update_padded_wide(
-    key: &[u8],
-    message: &[u8],
-    hash: &mut [u8],
-) -> u32
-    ensures { Hashes (Unit {0}) key.now (ghash_from key.now hash.old (blocks_of message.now)) hash.old hash.new result }
-{
-    c_calls::hash_update_padded::<tags::HighestFirst, u64x4>(key, message, hash)
-}
-
-/// The same as `bf_tag_ghash_update_prepared`.
-#[unsafe(no_mangle)]
-pub extern "C" fn bf_tag_ghash_update_prepared_wide(
-    prepared: &[u8],
-    message: &[u8],
-    hash: &mut [u8],
-) -> u32
-    ensures { HashesPrepared ghash_prepared prepared.now (λ key. ghash_from key hash.old (blocks_of message.now)) hash.old hash.new result }
-{
-    c_calls::hash_update_prepared::<tags::HighestFirst, u64x4>(prepared, message, hash)
+    c_calls::hash_update::<tags::HighestFirst, u64x4>(state, message)
 }
 
 /// The same as `bf_tag_polyval_update`.
 #[unsafe(no_mangle)]
-pub extern "C" fn bf_tag_polyval_update_wide(key: &[u8], blocks: &[u8], hash: &mut [u8]) -> u32
-    ensures { Hashes (length blocks.now % 16 ≡ 0) key.now (polyval_from key.now hash.old (blocks_of blocks.now)) hash.old hash.new result }
+pub extern "C" fn bf_tag_polyval_update_wide(state: &mut HashState, message: &[u8]) -> u32
+    ensures { ChangesMessage HoldsPolyval (λ m. m ++ message.now) state.old state.new result }
 {
-    c_calls::hash_update::<tags::LowestFirst, u64x4>(key, blocks, hash)
-}
-
-/// The same as `bf_tag_polyval_update_padded`.
-#[unsafe(no_mangle)]
-pub extern "C" fn bf_tag_polyval_update_padded_wide(
-    key: &[u8],
-    message: &[u8],
-    hash: &mut [u8],
-) -> u32
-    ensures { Hashes (Unit {0}) key.now (polyval_from key.now hash.old (blocks_of message.now)) hash.old hash.new result }
-{
-    c_calls::hash_update_padded::<tags::LowestFirst, u64x4>(key, message, hash)
-}
-
-/// The same as `bf_tag_polyval_update_prepared`.
-#[unsafe(no_mangle)]
-pub extern "C" fn bf_tag_polyval_update_prepared_wide(
-    prepared: &[u8],
-    message: &[u8],
-    hash: &mut [u8],
-) -> u32
-    ensures { HashesPrepared polyval_prepared prepared.now (λ key. polyval_from key hash.old
-        (blocks_of message.now)) hash.old hash.new result }
-{
-    c_calls::hash_update_prepared::<tags::LowestFirst, u64x4>(prepared, message, hash)
+    c_calls::hash_update::<tags::LowestFirst, u64x4>(state, message)
 }

@@ -3,4 +3,5 @@ mod Endings
 mod Equations
 mod ErasureCounts
 mod ErasureRestored
+mod FactorsTold
 pub mod LowNumbers

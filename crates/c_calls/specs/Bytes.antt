@@ -1,9 +1,10 @@
 -- Calls over messages and over shards.
-use Rattle.std.specs.Prelude.{◌≡◌, ◌≢◌, ℕ, ◌+◌, ◌*◌, ◌/◌, ◌<◌, ◌≤◌, Bool, not, nat_eq, List, length, map, take}
-use Rattle.reed_solomon.specs.Adding.{AddsShard}
+use Rattle.std.specs.Prelude.{◌≡◌, ◌≢◌, ℕ, ◌+◌, ◌*◌, ◌/◌, ◌<◌, ◌≤◌, Bool, not, nat_eq, List, [], length, map, take}
+use Rattle.reed_solomon.specs.Adding.{AddsMultiple, AddsShard, MakeShard}
 use Rattle.reed_solomon.specs.Parity.{HaveParityTables, tables_length}
-use Rattle.reed_solomon.specs.Shards.{AreCodewords, IsEncoded, IsReconstructed, present_count}
+use Rattle.reed_solomon.specs.Shards.{AreCodewords, IsEncoded, IsPresent, IsReconstructed, present_count}
 use Rattle.reed_solomon.specs.Sizes.{HasShardSize}
+use Rattle.tags.specs.declared.state.HashState.{HashState}
 use Rattle.c_calls.specs.Calls.{CallOf}
 use Rattle.c_calls.specs.declared.status.TheConstants.{OK, LENGTH, CODE, TOO_FEW_SHARDS}
 
@@ -12,16 +13,23 @@ abbrev pub Hashes : Type 0 → List ℕ → List ℕ → List ℕ → List ℕ �
 Hashes fits key hash old new status =
     CallOf ((length key ≡ 16) × (length old ≡ 16) × fits) (Unit {0}) (new ≡ hash) old new status
 
--- a call that writes what a hash under a key goes by: the key has 16 bytes, and that 64
-abbrev pub PreparesKey : List ℕ → List ℕ → List ℕ → List ℕ → ℕ → Type 0
-PreparesKey key prepared old new status = CallOf ((length key ≡ 16) × (length old ≡ 64)) (Unit {0}) (new ≡ prepared) old new status
+-- a call that makes a hash of the empty message under a key of 16 bytes; `holds` says which key and which message a hash holds
+abbrev pub BeginsHash : (HashState → List ℕ → List ℕ → Type 0) → List ℕ → HashState → HashState → ℕ → Type 0
+BeginsHash holds key old new status = CallOf (length key ≡ 16) (Unit {0}) (holds new key []) old new status
 
--- a call that hashes by 64 bytes in place of a key: where they were made of a key, it writes the hash under that key. By others it writes 16
--- bytes of which nothing is said
-abbrev pub HashesPrepared : (List ℕ → List ℕ) → List ℕ → (List ℕ → List ℕ) → List ℕ → List ℕ → ℕ → Type 0
-HashesPrepared prepared_of prepared hash old new status =
-    CallOf ((length prepared ≡ 64) × (length old ≡ 16)) (Unit {0})
-    (((key : List ℕ) → prepared ≡ prepared_of key → new ≡ hash key) × (length new ≡ 16)) old new status
+-- a call that changes the message of a hash, and nothing else
+abbrev pub ChangesMessage : (HashState → List ℕ → List ℕ → Type 0) → (List ℕ → List ℕ) → HashState → HashState → ℕ → Type 0
+ChangesMessage holds change old new status =
+    (status ≡ OK) × ((key message : List ℕ) → holds old key message → holds new key (change message))
+
+-- a call that writes what is the hash of a key and a message, where a hash holds them; its message is then empty. Of a hash that holds none it
+-- writes 16 bytes of which nothing is said
+abbrev pub EndsHash : (HashState → List ℕ → List ℕ → Type 0) → Type 0 → (List ℕ → List ℕ → List ℕ) → HashState → List ℕ → HashState
+    → List ℕ → ℕ → Type 0
+EndsHash holds fits hash old old_bytes new new_bytes status =
+    CallOf {T = HashState × List ℕ} ((length old_bytes ≡ 16) × fits) (Unit {0})
+    (((key message : List ℕ) → holds old key message → (new_bytes ≡ hash key message) × holds new key []) × (length new_bytes ≡ 16))
+    (old, old_bytes) (new, new_bytes) status
 
 -- a byte that answers whether a fact holds
 pub record Answers (fact : Type 0) (answer : ℕ) : Type 0 where
@@ -94,6 +102,19 @@ abbrev pub AddsOneShard : ℕ → ℕ → List ℕ → ℕ → ℕ → List ℕ 
 AddsOneShard k parity tables j t shard old new status =
     CallOfCode (IsCode k parity) ((length tables ≡ tables_length k parity) × (j < k) × (t < parity) × (length shard ≡ length old)) (Unit {0})
     ((HaveParityTables k parity tables → AddsShard k t j shard old new) × (length new ≡ length old)) old new status
+
+-- a call that adds to each byte the product of the byte at its place by a factor
+abbrev pub AddsOneMultiple : ℕ → List ℕ → List ℕ → List ℕ → ℕ → Type 0
+AddsOneMultiple factor shard old new status =
+    CallOf (length shard ≡ length old) (Unit {0}) (AddsMultiple factor shard old new × (length new ≡ length old)) old new status
+
+-- a call that tells the factors by which the shards at hand make one that is missing
+abbrev pub TellsFactors : ℕ → ℕ → List ℕ → ℕ → List ℕ → List ℕ → ℕ → Type 0
+TellsFactors k parity present shard old new status =
+    CallOfCode (IsCode k parity)
+    ((length present ≡ k + parity) × (length old ≡ k + parity) × (shard < k + parity) × ¬ IsPresent (flags_of present) shard)
+    (k ≤ present_count (flags_of present))
+    (MakeShard k (k + parity) (flags_of present) shard new × (length new ≡ k + parity)) old new status
 
 -- the missing shards before shard `until` are restored
 abbrev pub Reconstructs : ℕ → ℕ → ℕ → List ℕ → List ℕ → List ℕ → ℕ → Type 0

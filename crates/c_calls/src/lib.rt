@@ -28,13 +28,12 @@ pub use crate::many::{
     multiply_by, multiply_by_in_place, multiply_in_place,
 };
 pub use crate::messages::{
-    gcm_ghash, gcm_ghash_final, hash, hash_prepare, hash_update, hash_update_padded,
-    hash_update_prepared, tags_are_equal,
+    gcm_ghash, gcm_hash_end, hash, hash_begin, hash_end, hash_pad, hash_update, tags_are_equal,
 };
 pub use crate::scalars::{Words, truncate_all, truncated};
 pub use crate::shards::{
-    add_shard, encode, encode_prepared, prepare, reconstruct, reconstruct_data, tables_length,
-    verify, verify_prepared,
+    add_multiple, add_shard, encode, encode_prepared, factors_of, prepare, reconstruct,
+    reconstruct_data, tables_length, verify, verify_prepared,
 };
 pub use crate::transforms::{
     butterfly_forward, butterfly_inverse, inverse_transform, inverse_transform_level, low_stages,
@@ -44,5 +43,6 @@ pub use crate::wide::Wide;
 pub use crate::words::Cubic;
 pub use field_base::Holds;
 pub use many_words::{ChangeOfBasis, FromTower, ToTower};
+pub use tags::HashState;
 pub use word_polynomial::{CubicKernel, GhashKernel, Poly64Kernel, RijndaelKernel, Triple};
 pub use word_tower::{Bits1, Bits2, Bits4, Bits8, Bits16, Bits32, Bits64, Bits128, Tower};

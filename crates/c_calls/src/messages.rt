@@ -1,20 +1,17 @@
 // Universal hashes of messages, which may come in pieces.
-ghost use Rattle.std.specs.Prelude.{◌≡◌, ◌^◌, ◌%◌, ◌<◌, [], ◌∷◌, length};
-ghost use Rattle.tags.specs.Blocks.{block_of_lengths, blocks_of, gcm_blocks};
+ghost use Rattle.std.specs.Prelude.{◌≡◌, ◌^◌, ◌<◌, ◌++◌, length};
+ghost use Rattle.tags.specs.Absorbed.{HoldsGhash, StoresKeyed};
+ghost use Rattle.tags.specs.Blocks.{blocks_of, gcm_blocks, zero_padded};
 ghost use Rattle.tags.specs.Gcm.{ghash};
-ghost use Rattle.tags.specs.Pieces.{ghash_from};
-ghost use Rattle.tags.specs.Prepared.{powers_as_bytes};
-ghost use Rattle.c_calls.specs.Bytes.{Compares, Hashes, HashesPrepared, PreparesKey};
+ghost use Rattle.tags.specs.Pieces.{hash_with_lengths};
+ghost use Rattle.c_calls.specs.Bytes.{BeginsHash, ChangesMessage, Compares, EndsHash, Hashes};
 
 use crate::status;
 use ghash_slices::Width;
-use tags::{Encoding, KeyedHash, UniversalHash, hash_from_in_vectors, hash_from_prepared};
+use tags::{Encoding, HashState, KeyedHash, UniversalHash};
 
 // The bytes of a key, and of a hash.
 const BYTES: usize = 16;
-
-// What is made of a key.
-const PREPARED_BYTES: usize = 64;
 
 // The longest part of a message for GCM, whose length in bits has 64 bits.
 const PART_END: usize = 1 << 61;
@@ -32,55 +29,42 @@ pub fn hash<E: Encoding, V: Width>(key: &[u8], message: &[u8], hash: &mut [u8]) 
     status::OK
 }
 
-/// Goes on with a hash over more blocks, the last one filled up with zeros: `hash` is that of the blocks so far.
-pub fn hash_update_padded<E: Encoding, V: Width>(key: &[u8], message: &[u8], hash: &mut [u8]) -> u32
-    ensures { Hashes (Unit {0}) key.now (E.hash_from key.now hash.old (blocks_of message.now)) hash.old hash.new result }
+/// Makes the hash of the empty message under the key.
+pub fn hash_begin<E: Encoding>(state: &mut HashState, key: &[u8]) -> u32
+    ensures { BeginsHash (StoresKeyed E.element E.multiplier) key.now state.old state.new result }
 {
-    if key.len() != BYTES || hash.len() != BYTES {
+    if key.len() != BYTES {
         return status::LENGTH;
     }
-    let next = hash_from_in_vectors::<E, V>(&block_of(key), &block_of(hash), message);
-    hash.copy_from_slice(&next);
+    *state = HashState::new::<E>(&block_of(key));
     status::OK
 }
 
-/// Goes on with a hash over whole blocks.
-pub fn hash_update<E: Encoding, V: Width>(key: &[u8], blocks: &[u8], hash: &mut [u8]) -> u32
-    ensures { Hashes (length blocks.now % 16 ≡ 0) key.now (E.hash_from key.now hash.old (blocks_of blocks.now)) hash.old hash.new result }
+/// Adds bytes to the message of a hash.
+pub fn hash_update<E: Encoding, V: Width>(state: &mut HashState, bytes: &[u8]) -> u32
+    ensures { ChangesMessage (StoresKeyed E.element E.multiplier) (λ m. m ++ bytes.now) state.old state.new result }
 {
-    if blocks.len() % BYTES != 0 {
-        return status::LENGTH;
-    }
-    hash_update_padded::<E, V>(key, blocks, hash)
-}
-
-/// Writes what hashes under the key go by.
-pub fn hash_prepare<E: Encoding>(key: &[u8], prepared: &mut [u8]) -> u32
-    ensures { PreparesKey key.now (powers_as_bytes (E.multiplier key.now)) prepared.old prepared.new result }
-{
-    if key.len() != BYTES || prepared.len() != PREPARED_BYTES {
-        return status::LENGTH;
-    }
-    prepared.copy_from_slice(&tags::prepare_key::<E>(&block_of(key)));
+    state.update::<E, V>(bytes);
     status::OK
 }
 
-/// Goes on with a hash over more blocks, the last one filled up with zeros, under a prepared key.
-pub fn hash_update_prepared<E: Encoding, V: Width>(
-    prepared: &[u8],
-    message: &[u8],
-    hash: &mut [u8],
-) -> u32
-    ensures { HashesPrepared (λ key. powers_as_bytes (E.multiplier key)) prepared.now
-        (λ key. E.hash_from key hash.old (blocks_of message.now)) hash.old hash.new result }
+/// Adds zeros to whole blocks to the message of a hash.
+pub fn hash_pad<E: Encoding>(state: &mut HashState) -> u32
+    ensures { ChangesMessage (StoresKeyed E.element E.multiplier) (λ m. zero_padded m) state.old state.new result }
 {
-    if prepared.len() != PREPARED_BYTES || hash.len() != BYTES {
+    state.pad::<E>();
+    status::OK
+}
+
+/// Writes the hash of the message, zeros added to whole blocks. The message is then empty.
+pub fn hash_end<E: Encoding>(state: &mut HashState, hash: &mut [u8]) -> u32
+    ensures { EndsHash (StoresKeyed E.element E.multiplier) (Unit {0}) (λ key m. E.hash key (blocks_of m))
+        state.old hash.old state.new hash.new result }
+{
+    if hash.len() != BYTES {
         return status::LENGTH;
     }
-    let mut powers = [0; PREPARED_BYTES];
-    powers.copy_from_slice(prepared);
-    let next = hash_from_prepared::<E, V>(&powers, &block_of(hash), message);
-    hash.copy_from_slice(&next);
+    hash.copy_from_slice(&state.take_hash::<E>());
     status::OK
 }
 
@@ -99,29 +83,24 @@ pub fn gcm_ghash<V: Width>(key: &[u8], associated: &[u8], ciphertext: &[u8], has
     status::OK
 }
 
-/// Goes on with the hash of GCM over the block of the lengths of associated data and ciphertext, in bytes.
-pub fn gcm_ghash_final(
-    key: &[u8],
+/// Writes the hash of GCM of the message, which is the associated data, zeros to whole blocks, and the ciphertext, by their lengths in
+/// bytes. The message is then empty.
+pub fn gcm_hash_end(
+    state: &mut HashState,
     associated_length: u64,
     ciphertext_length: u64,
     hash: &mut [u8],
 ) -> u32
-    ensures { Hashes ((associated_length < 2 ^ 61) × (ciphertext_length < 2 ^ 61)) key.now
-        (ghash_from key.now hash.old (block_of_lengths associated_length ciphertext_length ∷ [])) hash.old hash.new result }
+    ensures { EndsHash HoldsGhash ((associated_length < 2 ^ 61) × (ciphertext_length < 2 ^ 61))
+        (hash_with_lengths associated_length ciphertext_length) state.old hash.old state.new hash.new result }
 {
-    if key.len() != BYTES || hash.len() != BYTES {
+    if hash.len() != BYTES {
         return status::LENGTH;
     }
     if associated_length >= PART_END as u64 || ciphertext_length >= PART_END as u64 {
         return status::LENGTH;
     }
-    let last = tags::gcm_ghash_final(
-        &block_of(key),
-        &block_of(hash),
-        associated_length,
-        ciphertext_length,
-    );
-    hash.copy_from_slice(&last);
+    hash.copy_from_slice(&state.take_gcm_hash(associated_length, ciphertext_length));
     status::OK
 }
 

@@ -1,9 +1,10 @@
 // Reed-Solomon codes over shards that stand one after the other.
 ghost use Rattle.std.specs.Prelude.{◌≡◌, ◌≢◌, ◌↔◌, ◌+◌, ◌<◌, ◌≤◌, IfErr, IfOk, IsErr, IsOk, IsTrue, length, take};
 ghost use Rattle.reed_solomon.specs.Parity.{tables_length};
+ghost use Rattle.reed_solomon.specs.Shards.{IsPresent};
 ghost use Rattle.reed_solomon.specs.Sizes.{HasShardSize};
-ghost use Rattle.c_calls.specs.Bytes.{AddsOneShard, Encodes, EncodesPrepared, IsCode, Prepares, Reconstructs, TellsTablesLength};
-ghost use Rattle.c_calls.specs.Bytes.{Verifies, VerifiesPrepared, flags_of};
+ghost use Rattle.c_calls.specs.Bytes.{AddsOneMultiple, AddsOneShard, Encodes, EncodesPrepared, IsCode, Prepares, Reconstructs};
+ghost use Rattle.c_calls.specs.Bytes.{TellsFactors, TellsTablesLength, Verifies, VerifiesPrepared, flags_of};
 ghost use Rattle.c_calls.specs.declared.status.TheConstants.{CODE, LENGTH, OK, TOO_FEW_SHARDS};
 
 use crate::status;
@@ -125,6 +126,39 @@ pub fn add_shard(
     status::OK
 }
 
+/// Adds to each byte of `sums` the product of the byte of the shard at its place by the factor.
+pub fn add_multiple(factor: u8, shard: &[u8], sums: &mut [u8]) -> u32
+    ensures { AddsOneMultiple factor shard.now sums.old sums.new result }
+{
+    if shard.len() != sums.len() {
+        return status::LENGTH;
+    }
+    ReedSolomon::add_multiple(factor, shard, sums);
+    status::OK
+}
+
+/// Writes the factors by which the shards at hand make one that is missing.
+pub fn factors_of(data: u64, parity: u64, present: &[u8], shard: u64, factors: &mut [u8]) -> u32
+    ensures { TellsFactors «data» parity present.now shard factors.old factors.new result }
+{
+    let code = match ReedSolomon::new(data as usize, parity as usize) {
+        Ok(code) => code,
+        Err(_) => return status::CODE,
+    };
+    let total = code.total_shard_count();
+    if present.len() != total || factors.len() != total || !is_missing(present, shard) {
+        return status::LENGTH;
+    }
+    let flags = flags_of::<256>(present);
+    match code.factors_of(&flags[..total], shard as usize) {
+        Some(found) => {
+            factors.copy_from_slice(&found[..total]);
+            status::OK
+        }
+        None => status::TOO_FEW_SHARDS,
+    }
+}
+
 /// Writes the missing shards: shard i is missing where `present[i]` is 0.
 pub fn reconstruct(data: u64, parity: u64, shards: &mut [u8], present: &[u8]) -> u32
     ensures { Reconstructs «data» parity («data» + parity) present.now shards.old shards.new result }
@@ -195,6 +229,13 @@ fn have_size(bytes: usize, shards: usize) -> bool
     ensures { IsTrue result ↔ HasShardSize shards bytes }
 {
     bytes != 0 && bytes % shards == 0
+}
+
+// Whether there is such a shard, and it is missing.
+fn is_missing(present: &[u8], shard: u64) -> bool
+    ensures { IsTrue result ↔ ((shard < length present.now) × ¬ IsPresent (flags_of present.now) shard) }
+{
+    shard < present.len() as u64 && present[shard as usize] == 0
 }
 
 // Which shards are there, by bytes that are not 0.
