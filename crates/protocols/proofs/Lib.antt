@@ -1,5 +1,7 @@
 mod CodeColumns
+mod CodeDistances
 mod HonestColumns
+mod OpenedTables
 mod ProofBytes
 mod TableLaws
 mod TableOpenings

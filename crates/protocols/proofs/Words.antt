@@ -8,6 +8,9 @@ use Rattle.std.proofs.lemmas.Grind.{same_number_lists}
 use Rattle.std.proofs.lemmas.List.{get_or_append_left, get_or-append_right, length-append, take_at}
 use Rattle.std.proofs.lemmas.Nat.{pow-add}
 use native.Mathlib.Nat.{one-mul}
+use Rattle.field_base.specs.Field.{IsField}
+use Rattle.field_base.specs.Orders.{AreCantorVectors}
+use Rattle.field_base.specs.PolynomialRoots.{AreDistinctBelow}
 use Rattle.field_base.proofs.Polynomials.{polynomial-unique}
 use Rattle.ghash_slices.specs.Cantor.{point, polynomial_value}
 use Rattle.ghash_slices.proofs.CantorValues.{points_are_distinct}
@@ -112,6 +115,24 @@ shifted e few = shl_exact {a = 1} 1 e 64 (lit< tt) (omega (arith, few)) ∙ one-
 
 -- ---- as many symbols as the message has
 
+-- polynomials of 2 ^ k coefficients that agree at 2 ^ k different points are the same
+module _ (width : ℕ) (times : ℕ → ℕ → ℕ) (vector : ℕ → ℕ) (wide : 0 < width) (field : IsField width times)
+    (vectors : AreCantorVectors width times vector) (fit : (b : ℕ) → b < width → vector b < 2 ^ width) where
+  pub values-determine : (k : ℕ) (one other : ℕ → ℕ) (place : ℕ → ℕ) → AreDistinctBelow (2 ^ k) (2 ^ width) place
+      → ((i : ℕ) → i < 2 ^ k
+      → polynomial_value times k one (point width vector 0 (place i)) ≡ polynomial_value times k other (point width vector 0 (place i)))
+      → (x : ℕ) → polynomial_value times k one x ≡ polynomial_value times k other x
+  values-determine k one other place distinct same =
+      polynomial-unique width times field.ring field.inverses (2 ^ k) (polynomial_value times k one) (polynomial_value times k other)
+      (value-polynomial width times wide field.ring k one) (value-polynomial width times wide field.ring k other)
+      (λ i. point width vector 0 (place i)) (λ i below. point-lt width vector fit (place i)) apart same
+    where
+      apart : (i j : ℕ) → i < 2 ^ k → j < 2 ^ k → point width vector 0 (place i) ≡ point width vector 0 (place j) → i ≡ j
+      apart i j i_below j_below e =
+          distinct.differ i j i_below j_below
+          (points_are_distinct width times vector wide field.ring vectors 0 (place i) (place j) (distinct.below i i_below)
+          (distinct.below j j_below) e)
+
 -- two code words that agree at 2 ^ k places are the same
 pub parts_determine : PartsDetermine
 parts_determine width times vector wide field vectors fit k r one other place few a b distinct agree =
@@ -119,29 +140,18 @@ parts_determine width times vector wide field vectors fit k r one other place fe
     (λ p within.
     let below : p < 2 ^ r * 2 ^ k = omega (arith, within, a.size) in
     a.values p below
-    ∙ polynomial-unique width times field.ring field.inverses (2 ^ k) (value_of a.coefficients) (value_of b.coefficients)
-    (value-polynomial width times wide field.ring k (slice_index a.coefficients))
-    (value-polynomial width times wide field.ring k (slice_index b.coefficients))
-    (λ i. at (place i)) (λ i i_below. point-lt width vector fit (place i)) apart same (at p)
+    ∙ values-determine width times vector wide field vectors fit k (slice_index a.coefficients) (slice_index b.coefficients) place
+    (record { below = fits; differ = distinct.differ }) same (point width vector 0 p)
     ∙ sym (b.values p below))
   where
-    at : ℕ → ℕ
-    at p = point width vector 0 p
-
-    value_of : List ℕ → ℕ → ℕ
-    value_of coefficients = polynomial_value times k (slice_index coefficients)
-
     fits : (i : ℕ) → i < 2 ^ k → place i < 2 ^ width
     fits i i_below =
         let below = distinct.below i i_below in
         let room : 2 ^ (r + k) ≤ 2 ^ width = pow-le-pow_right (lit< tt) few in
         le_trans below (subst (λ (n : ℕ). n ≤ 2 ^ width) (pow-add 2 r k) room)
 
-    apart : (i j : ℕ) → i < 2 ^ k → j < 2 ^ k → at (place i) ≡ at (place j) → i ≡ j
-    apart i j i_below j_below e =
-        distinct.differ i j i_below j_below
-        (points_are_distinct width times vector wide field.ring vectors 0 (place i) (place j) (fits i i_below) (fits j j_below) e)
-
-    same : (i : ℕ) → i < 2 ^ k → value_of a.coefficients (at (place i)) ≡ value_of b.coefficients (at (place i))
+    same : (i : ℕ) → i < 2 ^ k
+        → polynomial_value times k (slice_index a.coefficients) (point width vector 0 (place i))
+        ≡ polynomial_value times k (slice_index b.coefficients) (point width vector 0 (place i))
     same i below =
         sym (a.values (place i) (distinct.below i below)) ∙ agree i below ∙ b.values (place i) (distinct.below i below)

@@ -1,3 +1,5 @@
+pub mod CodeDistances
 pub mod CodeWords
 pub mod Interleaved
+pub mod OpenedTables
 pub mod Tables

@@ -4,8 +4,9 @@
 
 pub mod extension;
 pub mod interleaved;
+pub mod laws;
 pub mod proof_bytes;
 pub mod tables;
 
 pub use merkle_trees::{caps, commitment, merkle_paths, merkle_tree, openings, queries};
-pub use sum_checks::{ProtocolError, laws, statement, sumcheck, terms, zero_check};
+pub use sum_checks::{ProtocolError, statement, sumcheck, terms, zero_check};

@@ -1,0 +1,37 @@
+// Soundness of protocols, for every prover, as contracts of functions that compute nothing: of tables of which columns are opened, whatever
+// columns a prover has chosen. It passes on the laws of sum-checks.
+ghost use Rattle.protocols.specs.CodeDistances.{CodeWordsHaveDistance, QuarterRateGap};
+ghost use Rattle.protocols.specs.OpenedTables.{OpenedRowsNeedLuck, OpenedValuesNeedLuck, TableIsOne};
+
+pub use sum_checks::laws::{
+    false_claims_need_luck, false_zeros_need_luck, few_challenges_save, honest_reduces,
+    lines_have_one_root, zero_check_evaluates, zero_needs_root, zeros_reduce,
+};
+
+/// States that two code words of n symbols, of messages of 2^k, that differ at no more than n - 2^k places are the same.
+pub fn code_words_have_distance()
+    ensures { CodeWordsHaveDistance }
+{}
+
+/// States the lemma by triples of points in numbers for the rate 1/4: lines that are near the code within 93 of 256 columns for as many
+/// values as 34 times the places are near it as a whole. For messages of 64 symbols or more.
+pub fn quarter_rate_gap()
+    ensures { QuarterRateGap }
+{}
+
+/// States soundness for every prover: a row that agrees with columns at places, whatever the columns are, has the values of the table to
+/// which they commit, or a coordinate of the point is one of few, or the places are.
+pub fn opened_rows_need_luck()
+    ensures { OpenedRowsNeedLuck }
+{}
+
+/// States the same of the value at a whole point: what such a row has at the other coordinates is the value of the table to which the
+/// columns commit, or a coordinate of the point is one of few, or the places are.
+pub fn opened_values_need_luck()
+    ensures { OpenedValuesNeedLuck }
+{}
+
+/// States that columns commit to at most one table.
+pub fn table_is_one()
+    ensures { TableIsOne }
+{}
