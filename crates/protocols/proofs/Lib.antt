@@ -3,6 +3,7 @@ mod CodeDistances
 mod HonestColumns
 mod OpenedTables
 mod ProofBytes
+mod RootColumns
 mod TableLaws
 mod TableOpenings
 mod TableRows

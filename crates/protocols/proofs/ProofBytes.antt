@@ -32,13 +32,13 @@ module _ {F : Type 0} (size : ℕ) (repr : F → ℕ) where
       ap length (proof-cons x xs) ∙ length-append (low_bytes size (repr x)) (joined_bytes size repr xs) ∙ ap₂ (λ (a b : ℕ). a + b) first rest ∙ omega arith
 
   -- the first element, and the others
-  proof-first : (x : F) (xs : List F) → take size (joined_bytes size repr (x ∷ xs)) ≡ low_bytes size (repr x)
+  pub proof-first : (x : F) (xs : List F) → take size (joined_bytes size repr (x ∷ xs)) ≡ low_bytes size (repr x)
   proof-first x xs =
       ap (take size) (proof-cons x xs)
       ∙ ap (λ (n : ℕ). take n (low_bytes size (repr x) ++ joined_bytes size repr xs)) (sym (length-chunks 8 size (repr x)))
       ∙ take-append_seam (low_bytes size (repr x)) (joined_bytes size repr xs)
 
-  proof-rest : (x : F) (xs : List F) → drop size (joined_bytes size repr (x ∷ xs)) ≡ joined_bytes size repr xs
+  pub proof-rest : (x : F) (xs : List F) → drop size (joined_bytes size repr (x ∷ xs)) ≡ joined_bytes size repr xs
   proof-rest x xs =
       ap (drop size) (proof-cons x xs)
       ∙ ap (λ (n : ℕ). drop n (low_bytes size (repr x) ++ joined_bytes size repr xs)) (sym (length-chunks 8 size (repr x)))

@@ -2,4 +2,5 @@ pub mod CodeDistances
 pub mod CodeWords
 pub mod Interleaved
 pub mod OpenedTables
+pub mod RootColumns
 pub mod Tables

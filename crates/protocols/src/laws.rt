@@ -2,6 +2,9 @@
 // columns a prover has chosen. It passes on the laws of sum-checks.
 ghost use Rattle.protocols.specs.CodeDistances.{CodeWordsHaveDistance, QuarterRateGap};
 ghost use Rattle.protocols.specs.OpenedTables.{OpenedRowsNeedLuck, OpenedValuesNeedLuck, TableIsOne};
+ghost use Rattle.protocols.specs.RootColumns.{RootsHoldColumns};
+
+use merkle_trees::openings::openings_bind;
 
 pub use sum_checks::laws::{
     false_claims_need_luck, false_zeros_need_luck, few_challenges_save, honest_reduces,
@@ -30,6 +33,14 @@ pub fn opened_rows_need_luck()
 pub fn opened_values_need_luck()
     ensures { OpenedValuesNeedLuck }
 {}
+
+/// States what a root holds, whatever is opened under it: the columns of all openings that are accepted are those of one function, or two
+/// of them have two inputs of the hash function that differ and have one digest.
+pub fn roots_hold_columns()
+    ensures { RootsHoldColumns }
+{
+    openings_bind();
+}
 
 /// States that columns commit to at most one table.
 pub fn table_is_one()
