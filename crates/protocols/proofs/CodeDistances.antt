@@ -2,15 +2,17 @@
 -- lemma by triples at the rate 1 / 4.
 use Rattle.std.proofs.Common.{◌≡◌, ℕ, ◌+◌, ◌-◌, ◌*◌, ◌^◌, ◌<◌, ◌≤◌, Bool, true, false, refl, sym, ◌∙◌, ap, subst, le_trans, arith}
 use Rattle.std.specs.Prelude.{not}
-use Rattle.std.proofs.Math.Nat.{mul-le-mul_left}
+use Rattle.std.proofs.Math.Nat.{mul-le-mul_left, mul-le-mul_right, pow-le-pow_left}
 use Rattle.std.proofs.lemmas.Nat.{pow_pos}
 use Rattle.ghash_slices.specs.Cantor.{point, polynomial_value}
 use Rattle.ghash_slices.specs.Stages.{sum_of_factors}
-use Rattle.proximity.specs.Codes.{HasDistance, encoded}
+use Rattle.proximity.specs.Blocks.{cheats_in_blocks}
+use Rattle.proximity.specs.Codes.{HasDistance, HasGap, encoded}
 use Rattle.proximity.specs.Marks.{marked_below}
+use Rattle.proximity.proofs.Blocks.{few_cheats_in_blocks}
 use Rattle.proximity.proofs.Counts.{enumerated, unmarked-count}
 use Rattle.proximity.proofs.Triples.{triples_are_near}
-use Rattle.protocols.specs.CodeDistances.{CodeWordsHaveDistance, QuarterRateGap, point_generator}
+use Rattle.protocols.specs.CodeDistances.{CodeWordsHaveDistance, FewQuarterRateCheats, QuarterRateGap, point_generator}
 use Rattle.protocols.proofs.Words.{values-determine}
 
 -- ---- the code of values as that of a generator matrix
@@ -84,3 +86,33 @@ quarter_rate_gap width times vector wide field vectors fit k j is points =
     holds =
         subst (λ (m : ℕ). 34 * (4 * m * (4 * m) * (2 ^ k - 1)) + 4 * m * (3 * m + 1) * (93 * j + 2) < 34 * (163 * j * (163 * j) * (163 * j)))
         (sym is) (room j (2 ^ k - 1) some (let one = positive in omega (arith, one, is)))
+
+-- a bound whose numbers are raised
+raised : (a b c d f p q left : ℕ) → a ≤ c → p ≤ q → left ≤ a * b * d + f * (b * p) → left ≤ c * b * d + f * (b * q)
+raised a b c d f p q left few less is =
+    let one = mul-le-mul_right d (mul-le-mul_right b few) in
+    let other = mul-le-mul_left f (mul-le-mul_left b less) in
+    omega (arith, one, other, is)
+
+pub few_quarter_rate_cheats : FewQuarterRateCheats
+few_quarter_rate_cheats width times vector wide field vectors fit k j m block h word prover cheats is points whole fits sends false_is =
+    raised (h * (34 * (4 * 2 ^ k) - 1)) ((2 ^ width) ^ h) (h * (34 * (256 * j))) ((256 * j) ^ 2 ^ m) (2 ^ width)
+    ((2 ^ m * block - (93 * j + 1)) ^ 2 ^ m) ((163 * j) ^ 2 ^ m)
+    (2 ^ width * ((2 ^ m) ^ 2 ^ m * cheats_in_blocks width times block h m word prover cheats))
+    (mul-le-mul_left h (omega (arith, is)))
+    (pow-le-pow_left (omega (arith, is, whole)) (2 ^ m))
+    (subst (λ (n : ℕ). 2 ^ width * ((2 ^ m) ^ 2 ^ m * cheats_in_blocks width times block h m word prover cheats)
+    ≤ h * (34 * (4 * 2 ^ k) - 1) * (2 ^ width) ^ h * n ^ 2 ^ m + 2 ^ width * ((2 ^ width) ^ h * (2 ^ m * block - (93 * j + 1)) ^ 2 ^ m))
+    (whole ∙ ap (λ (n : ℕ). 4 * n) is ∙ omega arith)
+    (few_cheats_in_blocks width times (2 ^ k) (3 * 2 ^ k + 1) m block (point_generator width times vector k) wide field distance (93 * j)
+    (34 * (4 * 2 ^ k) - 1) h word prover cheats (omega (arith, is)) gap fits sends false_is))
+  where
+    distance : HasDistance times (2 ^ k) (2 ^ m * block) (point_generator width times vector k) (3 * 2 ^ k + 1)
+    distance =
+        code_words_have_distance width times vector wide field vectors fit k (2 ^ m * block) (3 * 2 ^ k + 1)
+        (subst (λ (n : ℕ). n ≤ 2 ^ width) (sym whole) points) (omega (arith, whole))
+
+    gap : HasGap width times (2 ^ k) (2 ^ m * block) (point_generator width times vector k) (93 * j) (34 * (4 * 2 ^ k) - 1)
+    gap =
+        subst (λ (n : ℕ). HasGap width times (2 ^ k) n (point_generator width times vector k) (93 * j) (34 * (4 * 2 ^ k) - 1)) (sym whole)
+        (quarter_rate_gap width times vector wide field vectors fit k j is points)

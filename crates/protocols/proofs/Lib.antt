@@ -2,9 +2,9 @@ mod CodeColumns
 mod CodeDistances
 mod HonestColumns
 mod OpenedTables
-mod ProofBytes
+pub mod ProofBytes
 mod RootColumns
 mod TableLaws
-mod TableOpenings
+pub mod TableOpenings
 mod TableRows
 mod Words

@@ -1,6 +1,7 @@
 // Soundness of protocols, for every prover, as contracts of functions that compute nothing: of tables of which columns are opened, whatever
 // columns a prover has chosen. It passes on the laws of sum-checks.
-ghost use Rattle.protocols.specs.CodeDistances.{CodeWordsHaveDistance, QuarterRateGap};
+ghost use Rattle.std.specs.Prelude.{◌*◌, ◌^◌, ◌<◌};
+ghost use Rattle.protocols.specs.CodeDistances.{CodeWordsHaveDistance, FewQuarterRateCheats, QuarterRateGap};
 ghost use Rattle.protocols.specs.OpenedTables.{OpenedRowsNeedLuck, OpenedValuesNeedLuck, TableIsOne};
 ghost use Rattle.protocols.specs.RootColumns.{RootsHoldColumns};
 
@@ -20,6 +21,13 @@ pub fn code_words_have_distance()
 /// values as 34 times the places are near it as a whole. For messages of 64 symbols or more.
 pub fn quarter_rate_gap()
     ensures { QuarterRateGap }
+{}
+
+/// States in numbers, at the rate 1/4 and with one place in each block, for how many points and lists of numbers a prover that cheats is
+/// accepted, at most; and that the share of lists that it allows is less than 2^-83 where there are 128 blocks.
+pub fn few_quarter_rate_cheats()
+    ensures cheats { FewQuarterRateCheats }
+    ensures share { 163 ^ 128 * 2 ^ 83 < 256 ^ 128 }
 {}
 
 /// States soundness for every prover: a row that agrees with columns at places, whatever the columns are, has the values of the table to
