@@ -29,9 +29,11 @@ pub(crate) fn split_file(rt: &HostRuntime, words: &Words<'_>, file: &str) -> Res
 
 // The same where this run alone writes shards of that name.
 fn split_locked(rt: &HostRuntime, words: &Words<'_>, file: &str, base: String) -> Result<()> {
-    let (length, identity) = identify(rt, file, words.is_quiet)?;
-    let mode = mode_of(rt, file)?;
     let (data, parity) = (words.data_shards, words.parity_shards);
+    let files = NewFiles::new(rt, mode_of(rt, file)?, words.is_forced);
+    // Where the first shard stands in the way, that is told before a long file is read.
+    files.require_free(format!(in rt.alloc(); "{base}.0")?.as_str())?;
+    let (length, identity) = identify(rt, file, words.is_quiet)?;
     let code = words
         .code
         .unwrap_or(default_code(data as usize, parity as usize));
@@ -41,7 +43,6 @@ fn split_locked(rt: &HostRuntime, words: &Words<'_>, file: &str, base: String) -
         None => bail!("cannot split {file}: {}", limit_of(code)),
     };
     let (total, size) = (layout.total(), layout.file_length());
-    let files = NewFiles::new(rt, mode, words.is_forced);
     let progress = Progress::new(words.is_quiet, size.saturating_mul(total as u64));
     let mut new = NewShards::new(rt, files, base, vec![in rt.alloc(); None; total]?, progress)?;
     for index in 0..total {
