@@ -6,7 +6,6 @@ ghost use Rattle.protocols.specs.OpenedTables.{OpenedRowsNeedLuck, OpenedValuesN
 ghost use Rattle.protocols.specs.RootColumns.{RootsHoldColumns};
 
 use merkle_trees::openings::openings_bind;
-
 pub use sum_checks::laws::{
     false_claims_need_luck, false_zeros_need_luck, few_challenges_save, honest_reduces,
     lines_have_one_root, zero_check_evaluates, zero_needs_root, zeros_reduce,
