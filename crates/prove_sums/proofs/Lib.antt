@@ -3,5 +3,6 @@ mod Files
 mod Places
 mod Refusals
 mod Sizes
+mod Soundness
 mod StateRuns
 mod SumSteps

@@ -65,7 +65,7 @@ turns-length observes gives [] (r ∷ rs) old new none = absurd none
 turns-length observes gives (m ∷ ms) [] old new none = absurd none
 turns-length observes gives (m ∷ ms) (r ∷ rs) old new turns = ap suc (turns-length observes gives ms rs turns.0 new turns.2)
 
-messages-length : {F : Type 0} (d n : ℕ) (values : List F) → length (messages_of d n values) ≡ n
+pub messages-length : {F : Type 0} (d n : ℕ) (values : List F) → length (messages_of d n values) ≡ n
 unfolding messages_of
 messages-length d zero values = refl
 messages-length d (suc n) values = ap suc (messages-length d n (drop d values))

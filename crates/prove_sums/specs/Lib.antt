@@ -1,4 +1,5 @@
 pub mod ProofFiles
 pub mod Reports
 pub mod Shapes
+pub mod Soundness
 pub mod Verdicts

@@ -9,6 +9,7 @@
 mod answers;
 mod commands;
 mod example;
+mod laws;
 mod proof_file;
 mod proving;
 mod refusal;

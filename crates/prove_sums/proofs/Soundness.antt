@@ -1,0 +1,383 @@
+-- What accepted proofs of a sum of products of two tables show.
+use Rattle.std.proofs.Common.{◌≡◌, ◌⊎◌, inl, inr, ℕ, zero, suc, ◌+◌, ◌-◌, ◌*◌, ◌/◌, ◌^◌, ◌<◌, ◌≤◌, List, [], ◌∷◌, ◌++◌, length, map, take, drop, refl, sym, ◌∙◌, ap, ap₂, subst, arith, lit<, lit≤}
+use Rattle.std.specs.Prelude.{Bool, slice_index}
+use Rattle.std.proofs.Math.Nat.{pow-le-pow_right}
+use Rattle.std.proofs.lemmas.Bool.Decides.{eqb_tells}
+use Rattle.std.proofs.lemmas.List.{get_or-drop, get_or-take, length-append, length-drop, length-map, length-take, length-take-le, map-append, take-append-drop}
+use Rattle.std.proofs.lemmas.Nat.{pow-add, pow_pos}
+use native.Mathlib.Nat.{mod-eq_of_lt}
+use lib.Bits.{xor_zero_r}
+use Rattle.field_base.specs.Basis.{product_below}
+use Rattle.field_base.specs.Field.{IsField}
+use Rattle.field_base.specs.Orders.{AreCantorVectors}
+use Rattle.field_base.specs.Ring.{IsRing}
+use Rattle.field_base.proofs.BasisSums.{sum_below-same}
+use Rattle.field_base.proofs.Places.{numbers-lt}
+use Rattle.field_base.proofs.RingLemmas.{mod-times}
+use Rattle.field_bytes.specs.Bytes.{low_bytes}
+use Rattle.field_bytes.specs.Streams.{joined_bytes}
+use Rattle.field_slices.specs.Multilinear.{eq_corner, multilinear_value}
+use Rattle.merkle_trees.specs.Commitments.{row_at}
+use Rattle.merkle_trees.specs.MerkleTrees.{HaveDigestSize}
+use Rattle.sum_checks.specs.Sumcheck.{messages_of}
+use Rattle.sum_checks.specs.SumcheckClaims.{AreMessages, FalseClaimsNeedLuck, IsClaimShape, IsSaved, reduced_claim}
+use Rattle.sum_checks.specs.Terms.{HaveFactors, cube_sum, table_value, terms_value}
+use Rattle.protocols.specs.OpenedTables.{AreLuckyPlaces, CommitsTo, HasLuckyCoordinate, OpenedValuesNeedLuck}
+use Rattle.protocols.specs.RootColumns.{AreAccepted, HaveOtherColumns, RootsHoldColumns, SentColumns, column_bytes}
+use Rattle.protocols.specs.Tables.{AgreesAt}
+use Rattle.protocols.proofs.ProofBytes.{length-proof, proof-cons}
+use Rattle.protocols.proofs.TableOpenings.{opens-same, row-room}
+use Rattle.prove_sums.specs.Shapes.{columns_in, columns_size, depth_of, element_count, levels_of, messages_in, nodes_in, row_in, row_size, rows_of, sum_in}
+use Rattle.prove_sums.specs.ProofFiles.{file_bytes}
+use Rattle.prove_sums.specs.Soundness.{AcceptedFile, AcceptedProof, ElementsShowSum, FilesShowSums, HasPoints, ShowsSum, SumsAreProved, SumsNeedLuck, sent_columns}
+use Rattle.prove_sums.specs.Verdicts.{IsProductAt, OpensTable, checks_number, gives_number, interleaved, observes_number, passes_number, product_terms, samples_bits, word_times, word_vector}
+use Rattle.prove_sums.proofs.SumSteps.{messages-length, product-within, rows-length}
+
+-- ---- two tables as rows
+
+rows-fit : (bound : ℕ) → 0 < bound → (xs ys : List ℕ) → ((i : ℕ) → slice_index xs i < bound) → ((i : ℕ) → slice_index ys i < bound)
+    → (i : ℕ) → slice_index (interleaved xs ys) i < bound
+rows-fit bound some [] ys one other i = some
+rows-fit bound some (x ∷ xs) [] one other i = some
+rows-fit bound some (x ∷ xs) (y ∷ ys) one other zero = one 0
+rows-fit bound some (x ∷ xs) (y ∷ ys) one other (suc zero) = other 0
+rows-fit bound some (x ∷ xs) (y ∷ ys) one other (suc (suc i)) = rows-fit bound some xs ys (λ j. one (suc j)) (λ j. other (suc j)) i
+
+first-at : (xs ys : List ℕ) → length ys ≡ length xs → (i : ℕ) → i < length xs → slice_index (interleaved xs ys) (i * 2 + 0) ≡ slice_index xs i
+first-at [] ys same i below = absurd (omega (arith, below))
+first-at (x ∷ xs) [] same i below = absurd (omega (arith, same))
+first-at (x ∷ xs) (y ∷ ys) same zero below = refl
+first-at (x ∷ xs) (y ∷ ys) same (suc i) below =
+    let next : suc i * 2 + 0 ≡ suc (suc (i * 2 + 0)) = omega arith in
+    ap (slice_index (x ∷ y ∷ interleaved xs ys)) next ∙ first-at xs ys (omega (arith, same)) i (omega (arith, below))
+
+second-at : (xs ys : List ℕ) → length ys ≡ length xs → (i : ℕ) → i < length xs
+    → slice_index (interleaved xs ys) (i * 2 + 1) ≡ slice_index ys i
+second-at [] ys same i below = absurd (omega (arith, below))
+second-at (x ∷ xs) [] same i below = absurd (omega (arith, same))
+second-at (x ∷ xs) (y ∷ ys) same zero below = refl
+second-at (x ∷ xs) (y ∷ ys) same (suc i) below =
+    let next : suc i * 2 + 1 ≡ suc (suc (i * 2 + 1)) = omega arith in
+    ap (slice_index (x ∷ y ∷ interleaved xs ys)) next ∙ second-at xs ys (omega (arith, same)) i (omega (arith, below))
+
+module _ (width : ℕ) (times : ℕ → ℕ → ℕ) (ring : IsRing width 1 times) where
+  -- the term at a row of two values
+  term-value : (row : ℕ → ℕ) → terms_value times product_terms row ≡ times (row 0) (row 1)
+  unfolding terms_value product_below
+  term-value row =
+      xor_zero_r (times 1 (times (times 1 (row 0)) (row 1)))
+      ∙ ring.one (times (times 1 (row 0)) (row 1)) ∙ mod-eq_of_lt (ring.below (times 1 (row 0)) (row 1))
+      ∙ ap (λ (v : ℕ). times v (row 1)) (ring.one (row 0)) ∙ mod-times width 1 times ring (row 0) (row 1)
+
+  -- .. of the values of both tables at a point
+  values-product : (xs ys point : List ℕ) → length xs ≡ 2 ^ length point → length ys ≡ length xs
+      → terms_value times product_terms (table_value times 2 (interleaved xs ys) point)
+      ≡ times (multilinear_value times xs point) (multilinear_value times ys point)
+  values-product xs ys point size same =
+      term-value (table_value times 2 (interleaved xs ys) point)
+      ∙ ap₂ times
+      (sum_below-same (λ i. times (slice_index (interleaved xs ys) (i * 2 + 0)) (eq_corner times point i))
+      (λ i. times (slice_index xs i) (eq_corner times point i)) (2 ^ length point)
+      (λ i below. ap (λ (v : ℕ). times v (eq_corner times point i)) (first-at xs ys same i (subst (λ (m : ℕ). i < m) (sym size) below))))
+      (sum_below-same (λ i. times (slice_index (interleaved xs ys) (i * 2 + 1)) (eq_corner times point i))
+      (λ i. times (slice_index ys i) (eq_corner times point i)) (2 ^ length point)
+      (λ i below. ap (λ (v : ℕ). times v (eq_corner times point i)) (second-at xs ys same i (subst (λ (m : ℕ). i < m) (sym size) below))))
+
+product-factors : HaveFactors 2 product_terms
+unfolding HaveFactors
+product-factors = (omega arith, tt)
+
+-- ---- of columns
+
+pub sums_need_luck : FalseClaimsNeedLuck → OpenedValuesNeedLuck → SumsNeedLuck
+sums_need_luck false_claims opened width times vector wide field vectors fit k r e left right sum messages first others left_row right_row places few
+    radius long left_fits right_fits sum_fits are same_length reduced left_agrees right_agrees =
+    cases
+    (opened width times vector some_width field vectors fit k r e left first others left_row places few radius long left_fits left_agrees)
+    (opened width times vector some_width field vectors fit k r e right first others right_row places few radius long right_fits right_agrees)
+  where
+    some_width : 0 < width
+    some_width = omega (arith, wide)
+
+    nodes : 3 ≤ 2 ^ width
+    nodes = let more : 2 ^ 2 ≤ 2 ^ width = pow-le-pow_right (lit< tt) wide in omega (arith, more)
+
+    whole : (table : List ℕ) → length table ≡ 2 ^ length first * 2 ^ k → length table ≡ 2 ^ length (first ++ others)
+    whole table size =
+        size ∙ sym (ap (λ (m : ℕ). 2 ^ m) (length-append first others ∙ ap (λ (m : ℕ). length first + m) long) ∙ pow-add 2 (length first) k)
+
+    shape : (one other : List ℕ) → CommitsTo width times vector k r e (2 ^ length first) left one
+        → CommitsTo width times vector k r e (2 ^ length first) right other
+        → IsClaimShape width times product_terms 2 2 (length (first ++ others)) (interleaved one other)
+    shape one other a b = record {
+      summed = record {
+        field = field;
+        wide = some_width;
+        nodes = nodes;
+        some = omega arith;
+        few = product-factors;
+        within = product-within;
+      };
+      size = rows-length one other (b.size ∙ sym a.size) ∙ ap (λ (m : ℕ). m * 2) (whole one a.size);
+      fits = rows-fit (2 ^ width) (pow_pos width) one other a.fits b.fits;
+    }
+
+    claimed : (one other : List ℕ) → CommitsTo width times vector k r e (2 ^ length first) left one
+        → CommitsTo width times vector k r e (2 ^ length first) right other
+        → multilinear_value times left_row others ≡ multilinear_value times one (first ++ others)
+        → multilinear_value times right_row others ≡ multilinear_value times other (first ++ others)
+        → (sum ≡ cube_sum times product_terms 2 (length (first ++ others)) (interleaved one other))
+        ⊎ ((j : ℕ) × IsSaved width times product_terms 2 sum (interleaved one other) (first ++ others) messages j)
+    claimed one other a b one_is other_is =
+        elim (eqb_tells sum (cube_sum times product_terms 2 (length (first ++ others)) (interleaved one other))) [
+          | inl same ↦ inl same.1
+          | inr differs ↦ inr (false_claims width times product_terms 2 2 sum (interleaved one other) (first ++ others) messages
+              (shape one other a b) sum_fits are same_length differs.1
+              (reduced ∙ ap₂ times one_is other_is
+              ∙ sym (values-product width times field.ring one other (first ++ others) (whole one a.size) (b.size ∙ sym a.size))))
+        ]
+
+    cases : ((table : List ℕ) × CommitsTo width times vector k r e (2 ^ length first) left table
+        × (multilinear_value times left_row others ≡ multilinear_value times table (first ++ others)))
+        ⊎ HasLuckyCoordinate width times vector k r e left first
+        ⊎ AreLuckyPlaces width times vector k r e left first left_row places
+        → ((table : List ℕ) × CommitsTo width times vector k r e (2 ^ length first) right table
+        × (multilinear_value times right_row others ≡ multilinear_value times table (first ++ others)))
+        ⊎ HasLuckyCoordinate width times vector k r e right first
+        ⊎ AreLuckyPlaces width times vector k r e right first right_row places
+        → ShowsSum width times vector k r e left right sum messages first others left_row right_row places
+    cases (inr (inl lucky)) other = inr (inl lucky)
+    cases (inr (inr lucky)) other = inr (inr (inr (inl lucky)))
+    cases (inl one) (inr (inl lucky)) = inr (inr (inl lucky))
+    cases (inl one) (inr (inr lucky)) = inr (inr (inr (inr lucky)))
+    cases (inl one) (inl other) = inl (one.0, other.0, one.1, other.1, claimed one.0 other.0 one.1 other.1 one.2 other.2)
+
+-- ---- parts of a proof
+
+-- messages of two elements each
+messages-are : {F : Type 0} (repr : F → ℕ) (width n : ℕ) → ((x : F) → repr x < 2 ^ width) → (values : List F) → length values ≡ n * 2
+    → AreMessages width 2 (map (map repr) (messages_of 2 n values))
+unfolding AreMessages messages_of
+messages-are repr width zero range values long = tt
+messages-are repr width (suc n) range values long = (
+  length-map (take 2 values) repr ∙ length-take-le 2 values (omega (arith, long)),
+  numbers-lt repr width range (take 2 values),
+  let rest = length-drop 2 values in messages-are repr width n range (drop 2 values) (omega (arith, long, rest)),
+)
+
+-- the bytes of elements are those of their numbers
+number-bytes : {F : Type 0} (size : ℕ) (repr : F → ℕ) (xs : List F) → joined_bytes size repr xs ≡ joined_bytes size (λ (n : ℕ). n) (map repr xs)
+number-bytes size repr [] = refl
+number-bytes size repr (x ∷ xs) =
+    proof-cons size repr x xs ∙ ap (λ (l : List ℕ). low_bytes size (repr x) ++ l) (number-bytes size repr xs)
+    ∙ sym (proof-cons size (λ (n : ℕ). n) (repr x) (map repr xs))
+
+-- digests of a part have the size of all
+part-digests : (digest from size : ℕ) (nodes : List (List ℕ)) → HaveDigestSize digest nodes → HaveDigestSize digest (take size (drop from nodes))
+part-digests digest from size nodes all k below =
+    let front = length-take size (drop from nodes) in
+    let back = length-drop from nodes in
+    let inside : k < size = omega (arith, front, below) in
+    let within : from + k < length nodes = omega (arith, front, back, below) in
+    ap length (get_or-take size (drop from nodes) k [] inside ∙ get_or-drop from nodes k []) ∙ all (from + k) within
+
+-- a column among columns of one length has that length
+column-long : {F : Type 0} (count height : ℕ) (columns : List F) (k : ℕ) → length columns ≡ count * height → k < count
+    → length (row_at height columns k) ≡ height
+column-long count height columns k long below =
+    let room = row-room count height (length columns) k long below in
+    let behind = length-drop (k * height) columns in
+    length-take-le height (drop (k * height) columns) (enough (k * height) (length columns) (length (drop (k * height) columns)) room behind)
+  where
+    enough : (from all left : ℕ) → from + height ≤ all → left ≡ all - from → height ≤ left
+    enough from all left room is = omega (arith, room, is)
+
+-- ---- of proofs
+
+module _ {C F : Type 0} (observes : C → F → C → Type 0) (gives : C → F → C → Type 0) (passing : C → ℕ → ℕ → Bool)
+    (checks : C → ℕ → ℕ → C → Type 0) (gives_bits : C → ℕ → ℕ → C → Type 0) (number repr : F → ℕ) (size width : ℕ) (times : ℕ → ℕ → ℕ)
+    (vector : ℕ → ℕ) (points : HasPoints repr size width times vector) (hold : RootsHoldColumns) (luck : SumsNeedLuck)
+    (hash : List ℕ → List ℕ) (digest : ℕ) (digests : (bytes : List ℕ) → length (hash bytes) ≡ digest) (n e : ℕ) (left right : List ℕ)
+    (wide : 2 ≤ width) (deep : depth_of n ≤ width) (radius : 2 * e + 2 ^ levels_of n ≤ 2 ^ 2 * 2 ^ levels_of n) where
+  abbrev Proof : Type 0
+  Proof = AcceptedProof observes gives passing checks gives_bits number repr size width times vector hash digest n left right
+
+  -- the first coordinates
+  abbrev first : Proof → List F
+  first p = take (rows_of n) p.verdict.point
+
+  first-long : (p : Proof) → length (first p) ≡ rows_of n
+  first-long p = let long = p.verdict.reduced.challenge_count in length-take-le (rows_of n) p.verdict.point (omega (arith, long))
+
+  abbrev sent : ℕ → Proof → SentColumns
+  sent which p = sent_columns repr n which p.elements p.nodes p.verdict.places
+
+  -- what a proof opens of table 0 or 1
+  abbrev Opens : ℕ → List ℕ → Proof → Type 0
+  Opens which root p = OpensTable hash repr size width times vector n which root (first p) p.elements p.verdict.places p.nodes
+
+  opens-left : (p : Proof) → Opens 0 left p
+  opens-left p = (p.verdict.decided.0 refl).2
+
+  opens-right : (p : Proof) → Opens 1 right p
+  opens-right p = (p.verdict.decided.0 refl).3
+
+  accepted : (which : ℕ) (root : List ℕ) (p : Proof) → Opens which root p
+      → AreAccepted hash digest size width (depth_of n) (2 ^ rows_of n) root (sent which p)
+  accepted which root p opens = record {
+    digests = part-digests digest (which * (length p.nodes / 2)) (length p.nodes / 2) p.nodes p.digests;
+    heights = λ k below.
+        length-map (row_at (2 ^ rows_of n) (columns_in n which p.elements) k) repr
+        ∙ column-long (length p.verdict.places) (2 ^ rows_of n) (columns_in n which p.elements) k
+        (opens.count ∙ ap (λ (h : ℕ). length p.verdict.places * 2 ^ h) (first-long p)) below;
+    fits = λ k below. numbers-lt repr width points.range (row_at (2 ^ rows_of n) (columns_in n which p.elements) k);
+    opened =
+        opens-same hash (depth_of n) root p.verdict.places
+        (λ k. joined_bytes size repr (row_at (2 ^ length (first p)) (columns_in n which p.elements) k)) (column_bytes size (sent which p))
+        (nodes_in which p.nodes)
+        (λ k below.
+        ap (λ (h : ℕ). joined_bytes size repr (row_at (2 ^ h) (columns_in n which p.elements) k)) (first-long p)
+        ∙ number-bytes size repr (row_at (2 ^ rows_of n) (columns_in n which p.elements) k)) opens.opened;
+  }
+
+  -- its row agrees with the columns that a root holds
+  agreed : (which : ℕ) (root : List ℕ) (p : Proof) → Opens which root p → (column : ℕ → List ℕ)
+      → ((k : ℕ) → k < length p.verdict.places
+      → map repr (row_at (2 ^ rows_of n) (columns_in n which p.elements) k) ≡ column (slice_index p.verdict.places k))
+      → AgreesAt width times vector (levels_of n) 2 (map repr (first p)) (map repr (row_in n which p.elements)) p.verdict.places
+      (λ k. column (slice_index p.verdict.places k))
+  agreed which root p opens column same = record {
+    word = opens.agrees.word;
+    code_word = opens.agrees.code_word;
+    begins = opens.agrees.begins;
+    below = opens.agrees.below;
+    agrees = λ k below.
+        ap (λ (c : List ℕ). multilinear_value times c (map repr (first p)))
+        (sym
+        (ap (λ (h : ℕ). map repr (row_at (2 ^ h) (columns_in n which p.elements) k)) (first-long p) ∙ same k below))
+        ∙ opens.agrees.agrees k below;
+  }
+
+  shows : (one other : ℕ → List ℕ) → ((p i : ℕ) → slice_index (one p) i < 2 ^ width) → ((p i : ℕ) → slice_index (other p) i < 2 ^ width)
+      → (p : Proof)
+      → ((k : ℕ) → k < length p.verdict.places
+      → map repr (row_at (2 ^ rows_of n) (columns_in n 0 p.elements) k) ≡ one (slice_index p.verdict.places k))
+      → ((k : ℕ) → k < length p.verdict.places
+      → map repr (row_at (2 ^ rows_of n) (columns_in n 1 p.elements) k) ≡ other (slice_index p.verdict.places k))
+      → ElementsShowSum repr width times vector n e one other p.elements p.verdict.point p.verdict.places
+  shows one other one_fits other_fits p one_same other_same =
+      luck width times vector wide points.field points.vectors points.fit (levels_of n) 2 e one other (sum_in repr p.elements)
+      (map (map repr) (messages_of 2 n (messages_in n p.elements))) (map repr (first p)) (map repr others) (map repr (row_in n 0 p.elements))
+      (map repr (row_in n 1 p.elements)) p.verdict.places deep radius others_long (λ q i below. one_fits q i) (λ q i below. other_fits q i)
+      (numbers-lt repr width points.range p.elements 0) (messages-are repr width n points.range (messages_in n p.elements) messages_long) same_length reduced
+      (agreed 0 left p (opens-left p) one one_same) (agreed 1 right p (opens-right p) other other_same)
+    where
+      others : List F
+      others = drop (rows_of n) p.verdict.point
+
+      challenges : length p.verdict.point ≡ n
+      challenges = p.verdict.reduced.challenge_count
+
+      others_long : length (map repr others) ≡ levels_of n
+      others_long =
+          length-map others repr ∙ length-drop (rows_of n) p.verdict.point ∙ ap (λ (m : ℕ). m - rows_of n) challenges
+
+      messages_long : length (messages_in n p.elements) ≡ n * 2
+      messages_long =
+          let behind = length-drop 1 p.elements in
+          let room : 2 * n ≤ length (drop 1 p.elements) = enough (row_size n) (columns_size n) (length p.elements) (length (drop 1 p.elements)) p.count behind in
+          length-take-le (2 * n) (drop 1 p.elements) room ∙ omega arith
+        where
+          enough : (r s all left : ℕ) → all ≡ 2 * n + 2 + 2 * r + 2 * s → left ≡ all - 1 → 2 * n ≤ left
+          enough r s all left is behind = omega (arith, is, behind)
+
+      whole : map repr (first p) ++ map repr others ≡ map repr p.verdict.point
+      whole = sym (map-append repr (first p) others) ∙ ap (map repr) (take-append-drop (rows_of n) p.verdict.point)
+
+      same_length : length (map (map repr) (messages_of 2 n (messages_in n p.elements))) ≡ length (map repr (first p) ++ map repr others)
+      same_length =
+          length-map (messages_of 2 n (messages_in n p.elements)) (map repr) ∙ messages-length 2 n (messages_in n p.elements)
+          ∙ sym (ap length whole ∙ length-map p.verdict.point repr ∙ challenges)
+
+      reduced : reduced_claim width times (sum_in repr p.elements) (map (map repr) (messages_of 2 n (messages_in n p.elements)))
+          (map repr (first p) ++ map repr others)
+          ≡ times (multilinear_value times (map repr (row_in n 0 p.elements)) (map repr others))
+          (multilinear_value times (map repr (row_in n 1 p.elements)) (map repr others))
+      reduced =
+          ap (reduced_claim width times (sum_in repr p.elements) (map (map repr) (messages_of 2 n (messages_in n p.elements)))) whole
+          ∙ sym p.verdict.reduced.left ∙ (p.verdict.decided.0 refl).1
+
+  module _ (count : ℕ) (proof : ℕ → Proof) where
+    abbrev Held : ℕ → Type 0
+    Held which = (column : ℕ → List ℕ) × ((p i : ℕ) → slice_index (column p) i < 2 ^ width)
+        × ((i k : ℕ) → i < count → k < length (sent which (proof i)).places
+        → (sent which (proof i)).column k ≡ column (slice_index (sent which (proof i)).places k))
+
+    abbrev Other : ℕ → List ℕ → Type 0
+    Other which root = HaveOtherColumns hash size (depth_of n) root count (λ i. sent which (proof i))
+
+    held : (which : ℕ) (root : List ℕ) → ((p : Proof) → Opens which root p) → Held which ⊎ Other which root
+    held which root opens =
+        hold hash digest digests size width (depth_of n) (2 ^ rows_of n) root points.room count (λ i. sent which (proof i))
+        (λ i below. accepted which root (proof i) (opens (proof i)))
+
+    pub proofs-show : ((one other : ℕ → List ℕ) × ((p i : ℕ) → p < 2 ^ 2 * 2 ^ levels_of n → slice_index (one p) i < 2 ^ width)
+        × ((p i : ℕ) → p < 2 ^ 2 * 2 ^ levels_of n → slice_index (other p) i < 2 ^ width)
+        × ((i : ℕ) → i < count
+        → ElementsShowSum repr width times vector n e one other (proof i).elements (proof i).verdict.point (proof i).verdict.places))
+        ⊎ Other 0 left ⊎ Other 1 right
+    proofs-show = join (held 0 left opens-left) (held 1 right opens-right)
+      where
+        join : Held 0 ⊎ Other 0 left → Held 1 ⊎ Other 1 right
+            → ((one other : ℕ → List ℕ) × ((p i : ℕ) → p < 2 ^ 2 * 2 ^ levels_of n → slice_index (one p) i < 2 ^ width)
+            × ((p i : ℕ) → p < 2 ^ 2 * 2 ^ levels_of n → slice_index (other p) i < 2 ^ width)
+            × ((i : ℕ) → i < count
+            → ElementsShowSum repr width times vector n e one other (proof i).elements (proof i).verdict.point (proof i).verdict.places))
+            ⊎ Other 0 left ⊎ Other 1 right
+        join (inr collision) other = inr (inl collision)
+        join (inl one) (inr collision) = inr (inr collision)
+        join (inl one) (inl other) =
+            inl (
+              one.0,
+              other.0,
+              (λ p i below. one.1 p i),
+              (λ p i below. other.1 p i),
+              λ i below.
+                  shows one.0 other.0 one.1 other.1 (proof i) (λ k inside. one.2 i k below inside) (λ k inside. other.2 i k below inside),
+            )
+
+pub sums_are_proved : {C F : Type 0} (observes gives : C → F → C → Type 0) (passing : C → ℕ → ℕ → Bool) (checks : C → ℕ → ℕ → C → Type 0)
+    (gives_bits : C → ℕ → ℕ → C → Type 0) (number repr : F → ℕ) (size width : ℕ) (times : ℕ → ℕ → ℕ) (vector : ℕ → ℕ)
+    → HasPoints repr size width times vector → RootsHoldColumns → SumsNeedLuck
+    → SumsAreProved observes gives passing checks gives_bits number repr size width times vector
+sums_are_proved observes gives passing checks gives_bits number repr size width times vector points hold luck hash digest digests n e left right wide
+    deep radius count proof =
+    proofs-show observes gives passing checks gives_bits number repr size width times vector points hold luck hash digest digests n e left right wide
+    deep radius count proof
+
+-- ---- of files
+
+pub files_show_sums : {F H : Type 0} (digest : H → List ℕ → List ℕ) (repr : F → ℕ) → HasPoints repr 16 128 word_times word_vector
+    → RootsHoldColumns → SumsNeedLuck → FilesShowSums digest repr
+files_show_sums {F} {H} digest repr points hold luck hasher digests n e left right radius count file =
+    sums_are_proved (λ old x new. observes_number digest old (repr x) new) (λ old x new. gives_number digest old (repr x) new)
+    (passes_number digest) (checks_number digest) (samples_bits digest) repr repr 16 128 word_times word_vector points hold luck (digest hasher) 32
+    digests n e left right (lit≤ tt) deep radius count (λ i. proof (file i))
+  where
+    deep : depth_of n ≤ 128
+    deep = let few = (file 0).file.may_be.few in omega (arith, few)
+
+    proof : AcceptedFile digest hasher repr n left right
+        → AcceptedProof (λ old x new. observes_number digest old (repr x) new) (λ old x new. gives_number digest old (repr x) new)
+        (passes_number digest) (checks_number digest) (samples_bits digest) repr repr 16 128 word_times word_vector (digest hasher) 32 n left right
+    proof held = record {
+      elements = held.elements;
+      nodes = held.nodes;
+      old = (hasher, file_bytes n left right [] [], []);
+      count = enough (length held.elements) (element_count n) (sym (length-proof 16 repr held.elements) ∙ held.file.may_be.body_size);
+      digests = held.file.may_be.node_size;
+      verdict = held.verdict;
+    }
+      where
+        enough : (a b : ℕ) → a * 16 ≡ b * 16 → a ≡ b
+        enough a b is = omega (arith, is)

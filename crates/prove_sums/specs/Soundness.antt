@@ -1,0 +1,136 @@
+-- Soundness of sums of products of two tables, for every prover: what accepted proofs show of the columns that two roots hold.
+use Rattle.std.specs.Prelude.{◌≡◌, ◌⊎◌, ℕ, ◌+◌, ◌*◌, ◌^◌, ◌<◌, ◌≤◌, Bool, true, List, [], ◌++◌, length, map, take, drop, slice_index}
+use Rattle.field_base.specs.Field.{IsField}
+use Rattle.field_base.specs.Orders.{AreCantorVectors}
+use Rattle.field_element.specs.Element.{repr_of}
+use Rattle.field_slices.specs.Multilinear.{multilinear_value}
+use Rattle.merkle_trees.specs.Commitments.{row_at}
+use Rattle.merkle_trees.specs.MerkleTrees.{HaveDigestSize}
+use Rattle.sum_checks.specs.Sumcheck.{messages_of}
+use Rattle.sum_checks.specs.SumcheckClaims.{AreMessages, IsSaved, reduced_claim}
+use Rattle.sum_checks.specs.Terms.{cube_sum}
+use Rattle.protocols.specs.OpenedTables.{AreColumnsOf, AreLuckyPlaces, CommitsTo, HasLuckyCoordinate}
+use Rattle.protocols.specs.RootColumns.{HaveOtherColumns, SentColumns}
+use Rattle.protocols.specs.Tables.{AgreesAt}
+use Rattle.prove_sums.specs.declared.tables.Table.{Table}
+use Rattle.prove_sums.specs.ProofFiles.{IsFileOf, file_bytes, number_in}
+use Rattle.prove_sums.specs.Shapes.{columns_in, depth_of, element_count, levels_of, messages_in, nodes_in, row_in, rows_of, sum_in}
+use Rattle.prove_sums.specs.Verdicts.{IsSumVerdict, VerifiesSum, interleaved, product_terms, word_times, word_vector}
+
+-- ---- of columns
+
+-- What messages and rows show of the columns of two tables, whatever these are: the columns commit to two tables, and the sum is that of
+-- the products of both or a round is saved; or else a coordinate of the point is lucky for the columns of one, or the places are for its
+-- row.
+abbrev pub ShowsSum : ℕ → (ℕ → ℕ → ℕ) → (ℕ → ℕ) → ℕ → ℕ → ℕ → (ℕ → List ℕ) → (ℕ → List ℕ) → ℕ → List (List ℕ) → List ℕ → List ℕ
+    → List ℕ → List ℕ → List ℕ → Type 0
+ShowsSum width times vector k r e left right sum messages first others left_row right_row places =
+    ((one other : List ℕ) × CommitsTo width times vector k r e (2 ^ length first) left one
+    × CommitsTo width times vector k r e (2 ^ length first) right other
+    × ((sum ≡ cube_sum times product_terms 2 (length (first ++ others)) (interleaved one other))
+    ⊎ ((j : ℕ) × IsSaved width times product_terms 2 sum (interleaved one other) (first ++ others) messages j)))
+    ⊎ HasLuckyCoordinate width times vector k r e left first
+    ⊎ HasLuckyCoordinate width times vector k r e right first
+    ⊎ AreLuckyPlaces width times vector k r e left first left_row places
+    ⊎ AreLuckyPlaces width times vector k r e right first right_row places
+
+-- Messages that leave the product of what two rows have at the other coordinates as the claim, and rows that agree with columns at places,
+-- show the sum, for every prover.
+abbrev pub SumsNeedLuck : Type 0
+SumsNeedLuck =
+    (width : ℕ) (times : ℕ → ℕ → ℕ) (vector : ℕ → ℕ) → 2 ≤ width → IsField width times → AreCantorVectors width times vector
+    → ((b : ℕ) → b < width → vector b < 2 ^ width)
+    → (k r e : ℕ) (left right : ℕ → List ℕ) (sum : ℕ) (messages : List (List ℕ)) (first others left_row right_row places : List ℕ)
+    → r + k ≤ width → 2 * e + 2 ^ k ≤ 2 ^ r * 2 ^ k → length others ≡ k
+    → AreColumnsOf width (2 ^ r * 2 ^ k) left → AreColumnsOf width (2 ^ r * 2 ^ k) right
+    → sum < 2 ^ width → AreMessages width 2 messages → length messages ≡ length (first ++ others)
+    → reduced_claim width times sum messages (first ++ others)
+    ≡ times (multilinear_value times left_row others) (multilinear_value times right_row others)
+    → AgreesAt width times vector k r first left_row places (λ i. left (slice_index places i))
+    → AgreesAt width times vector k r first right_row places (λ i. right (slice_index places i))
+    → ShowsSum width times vector k r e left right sum messages first others left_row right_row places
+
+-- ---- of proofs
+
+-- what is asked of a field, of elements of `size` bytes: it has Cantor vectors, at whose sums code words have their values
+pub record HasPoints {F : Type 0} (repr : F → ℕ) (size width : ℕ) (times : ℕ → ℕ → ℕ) (vector : ℕ → ℕ) : Type 0 where
+  pub field : IsField width times
+  pub vectors : AreCantorVectors width times vector
+  pub fit : (b : ℕ) → b < width → vector b < 2 ^ width
+  pub range : (x : F) → repr x < 2 ^ width
+  pub room : width ≤ 8 * size
+
+-- a proof for two roots that is accepted, from some state of a transcript
+pub record AcceptedProof {C F : Type 0} (observes gives : C → F → C → Type 0) (passing : C → ℕ → ℕ → Bool)
+    (checks : C → ℕ → ℕ → C → Type 0) (gives_bits : C → ℕ → ℕ → C → Type 0) (number repr : F → ℕ) (size width : ℕ) (times : ℕ → ℕ → ℕ)
+    (vector : ℕ → ℕ) (hash : List ℕ → List ℕ) (digest n : ℕ) (left right : List ℕ) : Type 0 where
+  pub elements : List F
+  pub nodes : List (List ℕ)
+  pub old : C
+  pub count : length elements ≡ element_count n
+  pub digests : HaveDigestSize digest nodes
+  pub verdict : VerifiesSum observes gives passing checks gives_bits number repr hash size width times vector n left right elements nodes
+      old true
+
+-- the columns of table 0 or 1 that it opens
+abbrev pub sent_columns : {F : Type 0} → (F → ℕ) → ℕ → ℕ → List F → List (List ℕ) → List ℕ → SentColumns
+sent_columns repr n which elements nodes places = record {
+  places = places;
+  column = λ k. map repr (row_at (2 ^ rows_of n) (columns_in n which elements) k);
+  nodes = nodes_in which nodes;
+}
+
+-- what its messages and rows show of the columns of both roots
+abbrev pub ElementsShowSum : {F : Type 0} → (F → ℕ) → ℕ → (ℕ → ℕ → ℕ) → (ℕ → ℕ) → ℕ → ℕ → (ℕ → List ℕ) → (ℕ → List ℕ) → List F
+    → List F → List ℕ → Type 0
+ElementsShowSum repr width times vector n e one other elements point places =
+    ShowsSum width times vector (levels_of n) 2 e one other (sum_in repr elements)
+    (map (map repr) (messages_of 2 n (messages_in n elements))) (map repr (take (rows_of n) point)) (map repr (drop (rows_of n) point))
+    (map repr (row_in n 0 elements)) (map repr (row_in n 1 elements)) places
+
+-- Of any proofs that are accepted for the same roots, as many as one likes, there are two functions of columns, one for each root, of which
+-- each proof shows its sum; or two proofs open other columns at one place, and have a collision of the hash function. The columns are those
+-- of all proofs, so that what is lucky is the same for all, and so are the tables to which they commit (`TableIsOne` of `protocols`).
+abbrev pub SumsAreProved : {C F : Type 0} → (C → F → C → Type 0) → (C → F → C → Type 0) → (C → ℕ → ℕ → Bool)
+    → (C → ℕ → ℕ → C → Type 0) → (C → ℕ → ℕ → C → Type 0) → (F → ℕ) → (F → ℕ) → ℕ → ℕ → (ℕ → ℕ → ℕ) → (ℕ → ℕ) → Type 0
+SumsAreProved observes gives passing checks gives_bits number repr size width times vector =
+    (hash : List ℕ → List ℕ) (digest : ℕ) → ((bytes : List ℕ) → length (hash bytes) ≡ digest)
+    → (n e : ℕ) (left right : List ℕ) → 2 ≤ width → depth_of n ≤ width → 2 * e + 2 ^ levels_of n ≤ 2 ^ 2 * 2 ^ levels_of n
+    → (count : ℕ)
+    (proof : ℕ → AcceptedProof observes gives passing checks gives_bits number repr size width times vector hash digest n left right)
+    → ((one other : ℕ → List ℕ) × AreColumnsOf width (2 ^ 2 * 2 ^ levels_of n) one × AreColumnsOf width (2 ^ 2 * 2 ^ levels_of n) other
+    × ((i : ℕ) → i < count
+    → ElementsShowSum repr width times vector n e one other (proof i).elements (proof i).verdict.point (proof i).verdict.places))
+    ⊎ HaveOtherColumns hash size (depth_of n) left count
+    (λ i. sent_columns repr n 0 (proof i).elements (proof i).nodes (proof i).verdict.places)
+    ⊎ HaveOtherColumns hash size (depth_of n) right count
+    (λ i. sent_columns repr n 1 (proof i).elements (proof i).nodes (proof i).verdict.places)
+
+-- ---- of files
+
+-- a file of a proof for the tables with these roots, of 2 ^ n words, which is accepted
+pub record AcceptedFile {F H : Type 0} (digest : H → List ℕ → List ℕ) (hasher : H) (repr : F → ℕ) (n : ℕ) (left right : List ℕ)
+    : Type 0 where
+  pub bytes : List ℕ
+  pub elements : List F
+  pub nodes : List (List ℕ)
+  pub file : IsFileOf repr bytes n left right elements nodes
+  pub verdict : IsSumVerdict digest hasher repr (file_bytes n left right [] []) n left right elements nodes true
+
+-- The same of files that the program accepts for the same roots, by a hasher whose digests have 32 bytes.
+abbrev pub FilesShowSums : {F H : Type 0} → (H → List ℕ → List ℕ) → (F → ℕ) → Type 0
+FilesShowSums {F} {H} digest repr =
+    (hasher : H) → ((bytes : List ℕ) → length (digest hasher bytes) ≡ 32)
+    → (n e : ℕ) (left right : List ℕ) → 2 * e + 2 ^ levels_of n ≤ 2 ^ 2 * 2 ^ levels_of n
+    → (count : ℕ) (file : ℕ → AcceptedFile digest hasher repr n left right)
+    → ((one other : ℕ → List ℕ) × AreColumnsOf 128 (2 ^ 2 * 2 ^ levels_of n) one × AreColumnsOf 128 (2 ^ 2 * 2 ^ levels_of n) other
+    × ((i : ℕ) → i < count
+    → ElementsShowSum repr 128 word_times word_vector n e one other (file i).elements (file i).verdict.point (file i).verdict.places))
+    ⊎ HaveOtherColumns (digest hasher) 16 (depth_of n) left count
+    (λ i. sent_columns repr n 0 (file i).elements (file i).nodes (file i).verdict.places)
+    ⊎ HaveOtherColumns (digest hasher) 16 (depth_of n) right count
+    (λ i. sent_columns repr n 1 (file i).elements (file i).nodes (file i).verdict.places)
+
+-- .. of words
+abbrev pub WordFilesShowSums : {H : Type 0} → (H → List ℕ → List ℕ) → Type 0
+WordFilesShowSums digest = FilesShowSums digest (number_in (λ (table : Table). table.elements.items) repr_of)

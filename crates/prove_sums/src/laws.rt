@@ -1,0 +1,45 @@
+// Soundness of sums of products of two tables, for every prover, as contracts of functions that compute nothing.
+ghost use Rattle.prove_sums.specs.Soundness.{HasPoints, SumsAreProved, SumsNeedLuck, WordFilesShowSums};
+
+use field_element::Ghash128;
+use protocols::laws::{false_claims_need_luck, opened_values_need_luck, roots_hold_columns};
+use transcript_elements::{ByteLevel, FieldChallenger};
+use transcripts::{ByteHasher32, CanSampleUniformBits, GrindingChallenger};
+
+/// States what messages and rows show of columns, whatever these are: the columns commit to two tables whose products have the sum, or a
+/// round is saved, or a coordinate of the point is one of few, or the places are.
+pub fn sums_need_luck()
+    ensures { SumsNeedLuck }
+{
+    false_claims_need_luck();
+    opened_values_need_luck();
+}
+
+// States that the fields of proofs have points for code words.
+fn field_has_points<F: ByteLevel>()
+    ensures { HasPoints F.repr F.NUM_BYTES F.width F.product (λ i. F.basis (F.cantor i)) }
+{}
+
+/// States what proofs show that `verify` accepts for the same roots, any number of them, in transcripts of any challenger and for every
+/// hash function whose digests have one length: they are of one function of columns for each root, and each shows its sum of the tables to
+/// which these commit; or two of them have two inputs of the hash function that differ and have one digest.
+pub fn sums_are_proved<
+    F: ByteLevel,
+    C: FieldChallenger<F> + GrindingChallenger<Witness = F> + CanSampleUniformBits<F>,
+>()
+    ensures { SumsAreProved C.observes C.gives C.passing C.checks C.gives_bits C.number F.repr F.NUM_BYTES F.width F.product
+        (λ i. F.basis (F.cantor i)) }
+{
+    field_has_points::<F>();
+    roots_hold_columns();
+    sums_need_luck();
+}
+
+/// States the same of files that the program accepts for the same roots, as `answer_to` does, by hashers whose digests have 32 bytes.
+pub fn files_show_sums<H: ByteHasher32>()
+    ensures { WordFilesShowSums H.digest }
+{
+    field_has_points::<Ghash128>();
+    roots_hold_columns();
+    sums_need_luck();
+}
