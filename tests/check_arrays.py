@@ -517,7 +517,7 @@ class Examples(unittest.TestCase):
 
     def test_examples(self):
         tried = 0
-        for name in ("_storage", "_facts", "_matrices", "_arrays", "_poly", "_transforms", "_workers", "_bytes"):
+        for name in ("_storage", "_facts", "_matrices", "_arrays", "_library", "_poly", "_transforms", "_workers", "_bytes"):
             module = getattr(bf, name)
             found = doctest.testmod(module, extraglobs={"bf": bf, "np": np})
             self.assertEqual(found.failed, 0)

@@ -70,7 +70,11 @@ def processor() -> str:
     """The processor whose form of the functions is called: "x86-64-v2", "x86-64-v3" or "aarch64".
 
     The library chooses it when it is loaded, as the best that runs on this processor. Where the environment variable
-    BINARY_FIELD_PROCESSOR is x86-64-v2 then, that form is taken; the variable never raises the choice. Results are the same by each form."""
+    BINARY_FIELD_PROCESSOR is x86-64-v2 then, that form is taken; the variable never raises the choice. Results are the same by each form.
+
+    >>> bf.processor() in ("x86-64-v2", "x86-64-v3", "aarch64")
+    True
+    """
     return _PROCESSOR
 
 
