@@ -45,18 +45,18 @@ uint32_t bf_hw_groups(void);
 
 /* As bf_g128_multiply. products: the product of the elements at each place. */
 uint32_t bf_hw_g128_multiply(
-    const bf_u128 *left, size_t left_length, const bf_u128 *right, size_t right_length, bf_u128 *products,
-    size_t products_length) BF_CHECKED;
+    const bf_u128 *left, size_t left_length, const bf_u128 *right, size_t right_length,
+    bf_u128 *products, size_t products_length) BF_CHECKED;
 
 /* As bf_g128_multiply_by. products: the product of each element and the scalar. */
 uint32_t bf_hw_g128_multiply_by(
-    const bf_u128 *values, size_t values_length, const bf_u128 *scalar, bf_u128 *products,
-    size_t products_length) BF_CHECKED BF_NONNULL(3);
+    const bf_u128 *values, size_t values_length, const bf_u128 *scalar,
+    bf_u128 *products, size_t products_length) BF_CHECKED BF_NONNULL(3);
 
 /* As bf_g128_add_scaled. Adds to each element of sums the scalar times the value at its place. */
 uint32_t bf_hw_g128_add_scaled(
-    bf_u128 *sums, size_t sums_length, const bf_u128 *scalar, const bf_u128 *values,
-    size_t values_length) BF_CHECKED BF_NONNULL(3);
+    bf_u128 *sums, size_t sums_length, const bf_u128 *scalar,
+    const bf_u128 *values, size_t values_length) BF_CHECKED BF_NONNULL(3);
 
 /* As bf_g128_square. squares: the square of each element. */
 uint32_t bf_hw_g128_square(
@@ -73,8 +73,8 @@ uint32_t bf_hw_g128_batch_inverse(
 
 /* As bf_g128_power. powers: each element to the power of the exponent; to the power 0 it is 1. */
 uint32_t bf_hw_g128_power(
-    const bf_u128 *values, size_t values_length, uint64_t exponent, bf_u128 *powers,
-    size_t powers_length) BF_CHECKED;
+    const bf_u128 *values, size_t values_length, uint64_t exponent,
+    bf_u128 *powers, size_t powers_length) BF_CHECKED;
 
 /* As bf_g128_dot_product. sum: the sum of the products at each place, 0 of none. */
 uint32_t bf_hw_g128_dot_product(
@@ -121,8 +121,8 @@ uint32_t bf_hw_g128_butterfly_inverse(
  * which is run first_run; four shifts, and a basis of 3 to 128 elements, 2 to the power of three less than which
  * is at least the number behind the last run. */
 uint32_t bf_hw_g128_low_stages(
-    bf_u128 *values, size_t values_length, const bf_u128 *shifts, size_t shifts_length, const bf_u128 *basis,
-    size_t basis_length, size_t first_run) BF_CHECKED;
+    bf_u128 *values, size_t values_length, const bf_u128 *shifts, size_t shifts_length,
+    const bf_u128 *basis, size_t basis_length, size_t first_run) BF_CHECKED;
 
 /* As bf_g128_transform. The value at each of 2^m points, m from 0 to 40, of the polynomial with these coefficients
  * in the basis of subspace polynomials. */
@@ -138,13 +138,13 @@ uint32_t bf_hw_g128_inverse_transform(
 
 /* As bf_p64_multiply. products: the product of the elements at each place. */
 uint32_t bf_hw_p64_multiply(
-    const uint64_t *left, size_t left_length, const uint64_t *right, size_t right_length, uint64_t *products,
-    size_t products_length) BF_CHECKED;
+    const uint64_t *left, size_t left_length, const uint64_t *right, size_t right_length,
+    uint64_t *products, size_t products_length) BF_CHECKED;
 
 /* As bf_p64_multiply_by. products: the product of each element and the scalar. */
 uint32_t bf_hw_p64_multiply_by(
-    const uint64_t *values, size_t values_length, uint64_t scalar, uint64_t *products,
-    size_t products_length) BF_CHECKED;
+    const uint64_t *values, size_t values_length, uint64_t scalar,
+    uint64_t *products, size_t products_length) BF_CHECKED;
 
 /* As bf_p64_add_scaled. Adds to each element of sums the scalar times the value at its place. */
 uint32_t bf_hw_p64_add_scaled(
@@ -165,8 +165,8 @@ uint32_t bf_hw_p64_batch_inverse(
 
 /* As bf_p64_power. powers: each element to the power of the exponent; to the power 0 it is 1. */
 uint32_t bf_hw_p64_power(
-    const uint64_t *values, size_t values_length, uint64_t exponent, uint64_t *powers,
-    size_t powers_length) BF_CHECKED;
+    const uint64_t *values, size_t values_length, uint64_t exponent,
+    uint64_t *powers, size_t powers_length) BF_CHECKED;
 
 /* As bf_p64_dot_product. sum: the sum of the products at each place, 0 of none. */
 uint32_t bf_hw_p64_dot_product(
@@ -205,14 +205,14 @@ uint32_t bf_hw_p64_power_in_place(
 /* As bf_tag_ghash. hash: GHASH of the message (NIST SP 800-38D), zeros added to whole blocks; key and hash have 16
  * bytes. */
 uint32_t bf_hw_tag_ghash(
-    const uint8_t *key, size_t key_length, const uint8_t *message, size_t message_length, uint8_t *hash,
-    size_t hash_length) BF_CHECKED;
+    const uint8_t *key, size_t key_length, const uint8_t *message, size_t message_length,
+    uint8_t *hash, size_t hash_length) BF_CHECKED;
 
 /* As bf_tag_polyval. hash: POLYVAL of the message (RFC 8452), zeros added to whole blocks; key and hash have 16
  * bytes. */
 uint32_t bf_hw_tag_polyval(
-    const uint8_t *key, size_t key_length, const uint8_t *message, size_t message_length, uint8_t *hash,
-    size_t hash_length) BF_CHECKED;
+    const uint8_t *key, size_t key_length, const uint8_t *message, size_t message_length,
+    uint8_t *hash, size_t hash_length) BF_CHECKED;
 
 /* As bf_tag_gcm_ghash. hash: the hash of GCM over associated data and ciphertext, each below 2^61 bytes, with the
  * block of their lengths; key and hash have 16 bytes. */
@@ -223,52 +223,52 @@ uint32_t bf_hw_tag_gcm_ghash(
 /* As bf_tag_ghash_update. GHASH of more whole blocks: hash is that of the blocks before, and then that of these
  * too; key and hash have 16 bytes. */
 uint32_t bf_hw_tag_ghash_update(
-    const uint8_t *key, size_t key_length, const uint8_t *blocks, size_t blocks_length, uint8_t *hash,
-    size_t hash_length) BF_CHECKED;
+    const uint8_t *key, size_t key_length, const uint8_t *blocks, size_t blocks_length,
+    uint8_t *hash, size_t hash_length) BF_CHECKED;
 
 /* As bf_tag_ghash_update_padded. GHASH of more bytes, zeros added to whole blocks: hash is that of the blocks
  * before, and then that of these too; key and hash have 16 bytes. */
 uint32_t bf_hw_tag_ghash_update_padded(
-    const uint8_t *key, size_t key_length, const uint8_t *message, size_t message_length, uint8_t *hash,
-    size_t hash_length) BF_CHECKED;
+    const uint8_t *key, size_t key_length, const uint8_t *message, size_t message_length,
+    uint8_t *hash, size_t hash_length) BF_CHECKED;
 
 /* As bf_tag_ghash_update_prepared. The same as tag_ghash_update_padded, by what tag_ghash_prepare wrote for the
  * key; by other bytes it writes 16 bytes of which nothing is said; prepared has 64 bytes, and hash 16. */
 uint32_t bf_hw_tag_ghash_update_prepared(
-    const uint8_t *prepared, size_t prepared_length, const uint8_t *message, size_t message_length, uint8_t *hash,
-    size_t hash_length) BF_CHECKED;
+    const uint8_t *prepared, size_t prepared_length, const uint8_t *message, size_t message_length,
+    uint8_t *hash, size_t hash_length) BF_CHECKED;
 
 /* As bf_tag_polyval_update. POLYVAL of more whole blocks: hash is that of the blocks before, and then that of
  * these too; key and hash have 16 bytes. */
 uint32_t bf_hw_tag_polyval_update(
-    const uint8_t *key, size_t key_length, const uint8_t *blocks, size_t blocks_length, uint8_t *hash,
-    size_t hash_length) BF_CHECKED;
+    const uint8_t *key, size_t key_length, const uint8_t *blocks, size_t blocks_length,
+    uint8_t *hash, size_t hash_length) BF_CHECKED;
 
 /* As bf_tag_polyval_update_padded. POLYVAL of more bytes, zeros added to whole blocks: hash is that of the blocks
  * before, and then that of these too; key and hash have 16 bytes. */
 uint32_t bf_hw_tag_polyval_update_padded(
-    const uint8_t *key, size_t key_length, const uint8_t *message, size_t message_length, uint8_t *hash,
-    size_t hash_length) BF_CHECKED;
+    const uint8_t *key, size_t key_length, const uint8_t *message, size_t message_length,
+    uint8_t *hash, size_t hash_length) BF_CHECKED;
 
 /* As bf_tag_polyval_update_prepared. The same as tag_polyval_update_padded, by what tag_polyval_prepare wrote for
  * the key; by other bytes it writes 16 bytes of which nothing is said; prepared has 64 bytes, and hash 16. */
 uint32_t bf_hw_tag_polyval_update_prepared(
-    const uint8_t *prepared, size_t prepared_length, const uint8_t *message, size_t message_length, uint8_t *hash,
-    size_t hash_length) BF_CHECKED;
+    const uint8_t *prepared, size_t prepared_length, const uint8_t *message, size_t message_length,
+    uint8_t *hash, size_t hash_length) BF_CHECKED;
 
 /* As bf_tag_gcm_ghash_final. GHASH of the block of two lengths in bytes, each below 2^61, as GCM has them: hash is
  * that of the blocks before, and then that of this one too; key and hash have 16 bytes. */
 uint32_t bf_hw_tag_gcm_ghash_final(
-    const uint8_t *key, size_t key_length, size_t associated_length, size_t ciphertext_length, uint8_t *hash,
-    size_t hash_length) BF_CHECKED;
+    const uint8_t *key, size_t key_length, size_t associated_length, size_t ciphertext_length,
+    uint8_t *hash, size_t hash_length) BF_CHECKED;
 
 /* ----------------------------------------------------------------------------------------------------------------- */
 /* BF_HW_TOWERS: single products of the levels of 64 and 128 bits of the tower. */
 
 /* As bf_t64_multiply. products: the product of the elements at each place. */
 uint32_t bf_hw_t64_multiply(
-    const uint64_t *left, size_t left_length, const uint64_t *right, size_t right_length, uint64_t *products,
-    size_t products_length) BF_CHECKED;
+    const uint64_t *left, size_t left_length, const uint64_t *right, size_t right_length,
+    uint64_t *products, size_t products_length) BF_CHECKED;
 
 /* As bf_t64_multiply_in_place. Multiplies each element of products by the value at its place. */
 uint32_t bf_hw_t64_multiply_in_place(
@@ -276,8 +276,8 @@ uint32_t bf_hw_t64_multiply_in_place(
 
 /* As bf_t128_multiply. products: the product of the elements at each place. */
 uint32_t bf_hw_t128_multiply(
-    const bf_u128 *left, size_t left_length, const bf_u128 *right, size_t right_length, bf_u128 *products,
-    size_t products_length) BF_CHECKED;
+    const bf_u128 *left, size_t left_length, const bf_u128 *right, size_t right_length,
+    bf_u128 *products, size_t products_length) BF_CHECKED;
 
 /* As bf_t128_multiply_in_place. Multiplies each element of products by the value at its place. */
 uint32_t bf_hw_t128_multiply_in_place(

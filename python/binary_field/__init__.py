@@ -39,6 +39,7 @@ from ._fields import (
     Rijndael8b,
 )
 from ._functions import VERSION_TEXT as __version__
+from ._hardware import hardware
 from ._library import processor
 from ._poly import Poly, egcd, gcd, irreducible_poly, lagrange_poly
 from ._transforms import (
@@ -57,7 +58,7 @@ from ._workers import get_workers, set_workers
 __all__ = [
     "BinaryField128", "BinaryField16", "BinaryField2", "BinaryField32", "BinaryField4", "BinaryField64", "BinaryField8", "FieldArray",
     "Gf2", "Ghash", "Ghash128", "Poly", "Poly192", "Poly64", "Polyval", "ReedSolomon", "Rijndael8b", "TransformCode", "butterfly_forward",
-    "butterfly_inverse", "egcd", "from_powers", "gcd", "gcm_ghash", "get_workers", "ghash", "inverse_transform", "irreducible_poly",
-    "lagrange_poly", "linear_map", "low_stages", "polyval", "processor", "set_workers", "tags_are_equal", "to_powers", "transform",
-    "transform_points",
+    "butterfly_inverse", "egcd", "from_powers", "gcd", "gcm_ghash", "get_workers", "ghash", "hardware", "inverse_transform",
+    "irreducible_poly", "lagrange_poly", "linear_map", "low_stages", "polyval", "processor", "set_workers", "tags_are_equal", "to_powers",
+    "transform", "transform_points",
 ]

@@ -33,12 +33,14 @@ PLACE_BY_PLACE = {
     "multiply_by", "power", "square", "square_root",
 }
 TAKEN_WHOLE = ("coefficients", "images")
+# Every group of functions that go by kernels, as bf_hw_begin takes it.
+EVERY_GROUP = 15
 # What an empty array is passed as: the address of something.
 EMPTY = ctypes.create_string_buffer(32)
 
 
-def _load() -> tuple[dict[str, Any], str]:
-    """The functions by their names, each with its types, and the processor whose form of them is called."""
+def _load() -> tuple[ctypes.CDLL, dict[str, Any], str]:
+    """The library, its functions by their names, each with its types, and the processor whose form of them is called."""
     named = os.environ.get("BINARY_FIELD_LIBRARY")
     beside = pathlib.Path(__file__).with_name("libbinary_field.so")
     path = f"{named}/{beside.name}" if named else str(beside) if beside.exists() else beside.name
@@ -49,12 +51,17 @@ def _load() -> tuple[dict[str, Any], str]:
     library.bf_version.restype = ctypes.c_uint32
     if library.bf_version() != VERSION:
         raise ImportError(f"binary_field: {path} has version {library.bf_version()}, but this package needs {VERSION}")
-    functions = {name: library[f"bf_{name}"] for name in FUNCTIONS}
-    for name, function in functions.items():
-        function.restype = ctypes.c_uint32
-        function.argtypes = [it for kind, _, word in FUNCTIONS[name] for it in _types(kind, word)]
+    functions = {name: _function(library, f"bf_{name}", name) for name in FUNCTIONS}
     library.bf_processor.restype = ctypes.c_char_p
-    return functions, library.bf_processor().decode("ascii")
+    return library, functions, library.bf_processor().decode("ascii")
+
+
+def _function(library: ctypes.CDLL, symbol: str, name: str) -> Any:
+    """A function of the library that has the parameters of the named one."""
+    function = library[symbol]
+    function.restype = ctypes.c_uint32
+    function.argtypes = [it for kind, _, word in FUNCTIONS[name] for it in _types(kind, word)]
+    return function
 
 
 def _types(kind: str, word: str) -> list[Any]:
@@ -63,7 +70,7 @@ def _types(kind: str, word: str) -> list[Any]:
     return [NARROW[word]] if kind == "number" or (kind == "scalar" and word in NARROW) else [ctypes.c_void_p]
 
 
-_FUNCTIONS, _PROCESSOR = _load()
+_LIBRARY, _FUNCTIONS, _PROCESSOR = _load()
 
 
 def processor() -> str:
@@ -78,18 +85,65 @@ def processor() -> str:
     return _PROCESSOR
 
 
-# Of each function itself, and of each parameter its name, whether it is a plain number, an array, and written, and the type of numpy that
-# holds an element.
-_CALLED = {
-    name: (
-        function,
-        [
-            (parameter, kind == "number" or (kind == "scalar" and word in NARROW), kind in ARRAYS, kind in WRITTEN, WORDS[word])
-            for kind, parameter, word in FUNCTIONS[name]
-        ],
-    )
-    for name, function in _FUNCTIONS.items()
-}
+# A parameter: its name, whether it is a plain number, an array, and written, and the type of numpy that holds an element.
+Parameter = tuple[str, bool, bool, bool, np.dtype[Any]]
+# Memory for a call of single elements: of each parameter an array of one, and the call of the function with their addresses.
+Room = tuple[list[Words], Callable[[], int]]
+
+
+def _parameter(kind: str, name: str, word: str) -> Parameter:
+    is_plain = kind == "number" or (kind == "scalar" and word in NARROW)
+    return name, is_plain, kind in ARRAYS, kind in WRITTEN, WORDS[word]
+
+
+class Calls:
+    """The functions as they are called, each with its parameters; and of each the rooms that are free. A thread takes a room out of the
+    list and puts it back behind the call, so that no two use one at once."""
+
+    def __init__(self, functions: dict[str, Any]) -> None:
+        self.called: dict[str, tuple[Any, list[Parameter]]] = {}
+        self.rooms: dict[str, list[Room]] = {name: [] for name in FUNCTIONS}
+        for name, function in functions.items():
+            self.called[name] = function, [_parameter(*it) for it in FUNCTIONS[name]]
+
+    def room(self, name: str) -> Room:
+        """Memory for a call of a function of single elements, each an array of the function's."""
+        function, parameters = self.called[name]
+        arrays = [np.empty((), it[-1]) for it in parameters]
+        return arrays, functools.partial(function, *(value for it in arrays for value in (it.ctypes.data, 1)))
+
+
+_PROVED = Calls(_FUNCTIONS)
+# What every call goes by: the proved functions, or those that go by kernels where there are such.
+_calls = _PROVED
+
+
+def _kernels() -> Calls | None:
+    """The functions, of which those that the library also has by the carryless multiply instruction are these; nothing without such."""
+    if not hasattr(_LIBRARY, "bf_hw_begin"):
+        return None
+    found = {name: _function(_LIBRARY, f"bf_hw_{name}", name) for name in FUNCTIONS if hasattr(_LIBRARY, f"bf_hw_{name}")}
+    return Calls(_FUNCTIONS | found)
+
+
+_KERNELS = _kernels()
+
+
+def begin_kernels() -> int | None:
+    """The status of the library where all groups of kernels are asked for; nothing where it has none."""
+    if _KERNELS is None:
+        return None
+    _LIBRARY.bf_hw_begin.restype = ctypes.c_uint32
+    _LIBRARY.bf_hw_begin.argtypes = [ctypes.c_uint32]
+    return int(_LIBRARY.bf_hw_begin(EVERY_GROUP))
+
+
+def use_kernels(is_on: bool) -> bool:
+    """Has every call from now on go by the kernels, or by the proved functions; whether it went by the kernels before."""
+    global _calls
+    before = _calls is not _PROVED
+    _calls = _KERNELS if is_on and _KERNELS is not None else _PROVED
+    return before
 
 
 def _arrays_of(name: str) -> tuple[list[tuple[int, int]], list[int]]:
@@ -121,26 +175,15 @@ def packed(words: Words) -> Words:
     return words if is_packed(words) else np.array(words, order="C")
 
 
-# For each function the rooms that are free: of each parameter an array of one element, and the call of the function with their addresses.
-# A thread takes a room out of the list and puts it back behind the call, so that no two use one at once.
-_ROOMS: dict[str, list[tuple[list[Words], Callable[[], int]]]] = {name: [] for name in FUNCTIONS}
-
-
-def _room(name: str) -> tuple[list[Words], Callable[[], int]]:
-    """Memory for a call of a function of single elements, each an array of the function's."""
-    function, parameters = _CALLED[name]
-    arrays = [np.empty((), it[-1]) for it in parameters]
-    return arrays, functools.partial(function, *(value for it in arrays for value in (it.ctypes.data, 1)))
-
-
 def call_of_one(name: str, *elements: Words) -> Words:
     """What a function that reads arrays and then writes one makes of single elements, each an array of no dimensions of the function's words.
     They are copied to where the function finds them, which takes a fifth of the time that it takes to ask an array for its address."""
-    rooms = _ROOMS[name]
+    calls = _calls
+    rooms = calls.rooms[name]
     try:
         room = rooms.pop()
     except IndexError:
-        room = _room(name)
+        room = calls.room(name)
     arrays, function = room
     for array, it in zip(arrays, elements):
         array[()] = it
@@ -164,8 +207,8 @@ def call(name: str, *arguments: Any) -> None:
     are integers, and every other scalar and result is an array of one element.
 
     What the library reads and writes is exactly what numpy holds, and what it writes nothing else shares: no other place hands out an
-    address, but for `_room`, whose arrays nobody else has."""
-    function, parameters = _CALLED[name]
+    address, but for `Calls.room`, whose arrays nobody else has."""
+    function, parameters = _calls.called[name]
     given: list[int] = []
     held: list[tuple[Words, int, int, bool]] = []
     for (parameter, is_plain, is_array, is_written, dtype), value in zip(parameters, arguments, strict=True):

@@ -39,6 +39,12 @@ mod field;
 mod fields;
 #[rustfmt::skip]
 mod functions;
+#[cfg(feature = "hardware")]
+mod hardware;
+#[cfg(feature = "hardware")]
+#[allow(dead_code)]
+#[rustfmt::skip]
+mod hardware_functions;
 mod maps;
 mod matrices;
 mod packed;
@@ -56,6 +62,8 @@ pub use bytes::{
 pub use erasure::TransformCode;
 pub use error::Error;
 pub use field::Field;
+#[cfg(feature = "hardware")]
+pub use hardware::{Carryless, Hardware};
 pub use fields::{
     BinaryField2, BinaryField4, BinaryField8, BinaryField16, BinaryField32, BinaryField64,
     BinaryField128, Gf2, Ghash128, Poly64, Poly192, Rijndael8b,
