@@ -188,33 +188,13 @@ typedef struct {
     bf_u128 shifts[40];
     int is_inverse;
 } walk_state;
-static void NAMED(walk)(bf_u128 *v, int m, size_t block, const walk_state *state);
-
-/* One stage by itself, the highest, and then each half. */
-static void NAMED(walk_odd)(bf_u128 *v, int m, size_t block, const walk_state *state)
-{
-    scalar_pair scalar;
-    size_t n = (size_t)1 << (m - 1);
-    scalar_at(scalar, state->shifts + m - 1, bf_kernel_table.vectors + 1, block);
-    if (!state->is_inverse)
-        NAMED(g128_butterfly_forward)(v, v + n, scalar, n);
-    for (size_t k = 0; m > 1 && k < 2; k++)
-        NAMED(walk)(v + k * n, m - 1, 2 * block + k, state);
-    if (state->is_inverse)
-        NAMED(g128_butterfly_inverse)(v, v + n, scalar, n);
-}
-
 #define IN_CACHE 10
-/* The stages of 2^m values that are block `block` of the whole. Above what the cache takes it is two stages and then each quarter by
- * itself; below, two stages over all after two. */
+/* The stages of 2^m values that are block `block` of the whole, for an even m. Above what the cache takes it is two stages and then each
+ * quarter by itself; below, two stages over all after two. */
 static void NAMED(walk)(bf_u128 *v, int m, size_t block, const walk_state *state)
 {
     scalar_pair scalars[2];
     int is_inverse = state->is_inverse, turns = m > IN_CACHE ? 1 : m / 2;
-    if (m & 1) {
-        NAMED(walk_odd)(v, m, block, state);
-        return;
-    }
     for (int turn = 0; turn < turns; turn++) {
         int level = is_inverse && turns > 1 ? 2 * turn + 2 : m - 2 * turn; /* blocks of 2^level */
         size_t blocks = (size_t)1 << (m - level), n = (size_t)1 << (level - 2), first = block << (m - level);
@@ -228,17 +208,25 @@ static void NAMED(walk)(bf_u128 *v, int m, size_t block, const walk_state *state
     }
 }
 
+/* A whole transform; of an odd number of stages the highest goes by itself. */
 static void NAMED(whole)(bf_u128 *v, int m, const bf_u128 *shift, int is_inverse)
 {
     walk_state state;
+    scalar_pair scalar;
     V s = LOAD(shift);
+    size_t n = m & 1 ? (size_t)1 << (m - 1) : 0;
     state.is_inverse = is_inverse;
     for (int j = 0; j < m; j++) {
         STORE(state.shifts + j, s);
+        write_pair(scalar, s); /* that of the highest stage stays */
         s = XOR(s, NAMED(square)(s));
     }
-    if (m)
-        NAMED(walk)(v, m, 0, &state);
+    if (n && !is_inverse)
+        NAMED(g128_butterfly_forward)(v, v + n, scalar, n);
+    for (size_t k = 0; k < (n ? 2 : 1); k++)
+        NAMED(walk)(v + k * n, m & ~1, k, &state);
+    if (n && is_inverse)
+        NAMED(g128_butterfly_inverse)(v, v + n, scalar, n);
 }
 
 static void NAMED(transform)(bf_u128 *v, int m, const bf_u128 *shift) { NAMED(whole)(v, m, shift, 0); }

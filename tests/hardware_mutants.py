@@ -80,7 +80,7 @@ FAULTS = [
     ("INVERSE(r2, r3, b), INVERSE(r0, r2, top)", "INVERSE(r2, r3, a), INVERSE(r0, r2, top)", BOTH),
     ("level - 2, bf_kernel_table.vectors + 1, 2 * first);", "level - 2, bf_kernel_table.vectors + 1, first);", BOTH),
     ("s = XOR(s, NAMED(square)(s));", "s = NAMED(square)(s);", BOTH),
-    ("shifts + m - 1, bf_kernel_table.vectors + 1, block)", "shifts + m - 1, bf_kernel_table.vectors, block)", BOTH),
+    ("NAMED(walk)(v + k * n, m & ~1, k, &state);", "NAMED(walk)(v + k * n, m & ~1, 0, &state);", BOTH),
     ("scalar_at(scalars[1], shifts, basis, 8 * first);", "scalar_at(scalars[1], shifts, basis, 4 * first);", BOTH),
     ("(k == 0 || (first ^ last) >> k)", "(k == 0 || (first ^ last) >> (k + 1))", BOTH),
     ("from + k < length ?", "from + k < length - 1 ?", BOTH),
