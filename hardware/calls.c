@@ -114,11 +114,11 @@ static void write_length(uint8_t out[8], uint64_t bits)
     memcpy(out, &bits, 8);
 }
 
-static void hash_lengths(const bf_kernels *kernels, const uint8_t *key, uint64_t associated_length, uint64_t ciphertext_length, uint8_t *hash)
+static void hash_lengths(const bf_kernels *kernels, const uint8_t *key, uint64_t associated, uint64_t ciphertext, uint8_t *hash)
 {
     uint8_t block[16];
-    write_length(block, 8 * associated_length);
-    write_length(block + 8, 8 * ciphertext_length);
+    write_length(block, 8 * associated);
+    write_length(block + 8, 8 * ciphertext);
     kernels->ghash(key, block, 16, hash);
 }
 

@@ -218,7 +218,7 @@ def main():
             found = said.stdout.partition("WRONG ")[2].partition("\n")[0]
             wrong += not found
             told(bool(found), name, found)
-    print(f"hardware_mutants: {refused} of {len(FAULTS)} faults refused, {len(STRUCTURE)} changes of form; {wrong} went otherwise than they have to")
+    print(f"hardware_mutants: {refused} of {len(FAULTS)} faults refused, {len(STRUCTURE)} changes of form; {wrong} went otherwise")
     return wrong != 0
 
 

@@ -39,10 +39,9 @@ def hardware(on: bool = True) -> Hardware:
     Where the library was built without them, or the processor has no such instruction, nothing changes; where one of them differs,
     nothing changes and a warning says so.
 
-    >>> a = Ghash128([2, 3])
-    >>> with hardware(False):
-    ...     a * a
-    Ghash128(['0x4', '0x5'])
+    >>> with bf.hardware(False):
+    ...     bf.Ghash128([2, 3]) * bf.Ghash128([2, 3])
+    Ghash128([0x4, 0x5])
     """
     is_on = False
     if on:

@@ -109,17 +109,32 @@ impl Hardware {
     }
 
     /// Writes the product of the elements at each place.
-    pub fn multiply<F: Carryless>(&self, left: &[F], right: &[F], products: &mut [F]) -> Result<(), Error> {
+    pub fn multiply<F: Carryless>(
+        &self,
+        left: &[F],
+        right: &[F],
+        products: &mut [F],
+    ) -> Result<(), Error> {
         Error::of(F::each_product(left, right, products))
     }
 
     /// Writes the product of each element and the scalar.
-    pub fn multiply_by<F: Carryless>(&self, values: &[F], scalar: F, products: &mut [F]) -> Result<(), Error> {
+    pub fn multiply_by<F: Carryless>(
+        &self,
+        values: &[F],
+        scalar: F,
+        products: &mut [F],
+    ) -> Result<(), Error> {
         Error::of(F::each_scaled(values, scalar, products))
     }
 
     /// Adds to each sum the scalar times the value at its place.
-    pub fn add_scaled<F: Carryless>(&self, sums: &mut [F], scalar: F, values: &[F]) -> Result<(), Error> {
+    pub fn add_scaled<F: Carryless>(
+        &self,
+        sums: &mut [F],
+        scalar: F,
+        values: &[F],
+    ) -> Result<(), Error> {
         Error::of(F::add_each_scaled(sums, scalar, values))
     }
 
@@ -134,7 +149,12 @@ impl Hardware {
     }
 
     /// Writes each element to the power of the exponent; to the power 0 it is 1.
-    pub fn power<F: Carryless>(&self, values: &[F], exponent: u64, powers: &mut [F]) -> Result<(), Error> {
+    pub fn power<F: Carryless>(
+        &self,
+        values: &[F],
+        exponent: u64,
+        powers: &mut [F],
+    ) -> Result<(), Error> {
         Error::of(F::each_power(values, exponent, powers))
     }
 
@@ -146,7 +166,12 @@ impl Hardware {
     }
 
     /// Writes the value at each point of the polynomial with these coefficients, the constant one first.
-    pub fn evaluate<F: Carryless>(&self, coefficients: &[F], points: &[F], values: &mut [F]) -> Result<(), Error> {
+    pub fn evaluate<F: Carryless>(
+        &self,
+        coefficients: &[F],
+        points: &[F],
+        values: &mut [F],
+    ) -> Result<(), Error> {
         Error::of(F::each_value(coefficients, points, values))
     }
 
@@ -165,12 +190,22 @@ impl Hardware {
     }
 
     /// low += scalar * high, and then high += low, at each place.
-    pub fn butterfly_forward(&self, low: &mut [Ghash128], high: &mut [Ghash128], scalar: Ghash128) -> Result<(), Error> {
+    pub fn butterfly_forward(
+        &self,
+        low: &mut [Ghash128],
+        high: &mut [Ghash128],
+        scalar: Ghash128,
+    ) -> Result<(), Error> {
         Error::of(call!(bf_hw_g128_butterfly_forward: [mut low], [mut high], (&raw const scalar).cast()))
     }
 
     /// high += low, and then low += scalar * high, at each place.
-    pub fn butterfly_inverse(&self, low: &mut [Ghash128], high: &mut [Ghash128], scalar: Ghash128) -> Result<(), Error> {
+    pub fn butterfly_inverse(
+        &self,
+        low: &mut [Ghash128],
+        high: &mut [Ghash128],
+        scalar: Ghash128,
+    ) -> Result<(), Error> {
         Error::of(call!(bf_hw_g128_butterfly_inverse: [mut low], [mut high], (&raw const scalar).cast()))
     }
 
