@@ -129,7 +129,7 @@ uint32_t bf_hw_g128_low_stages(
 uint32_t bf_hw_g128_transform(
     bf_u128 *values, size_t values_length, const bf_u128 *shift) BF_CHECKED BF_NONNULL(3);
 
-/* As bf_g128_inverse_transform. The coefficients that g128_transform takes to these values. */
+/* As bf_g128_inverse_transform. The coefficients that bf_hw_g128_transform takes to these values. */
 uint32_t bf_hw_g128_inverse_transform(
     bf_u128 *values, size_t values_length, const bf_u128 *shift) BF_CHECKED BF_NONNULL(3);
 
@@ -220,47 +220,49 @@ uint32_t bf_hw_tag_gcm_ghash(
     const uint8_t *key, size_t key_length, const uint8_t *associated, size_t associated_length,
     const uint8_t *ciphertext, size_t ciphertext_length, uint8_t *hash, size_t hash_length) BF_CHECKED;
 
-/* As bf_tag_ghash_update. GHASH of more whole blocks: hash is that of the blocks before, and then that of these
- * too; key and hash have 16 bytes. */
+/* As bf_tag_ghash_init. state: the hash of the empty message under the key, to which bf_hw_tag_ghash_update adds
+ * bytes; key has 16 bytes. */
+uint32_t bf_hw_tag_ghash_init(
+    bf_ghash_state *state, const uint8_t *key, size_t key_length) BF_CHECKED BF_NONNULL(1);
+
+/* As bf_tag_ghash_update. Adds bytes to the message, of any number: no zeros come between them and the next ones. */
 uint32_t bf_hw_tag_ghash_update(
-    const uint8_t *key, size_t key_length, const uint8_t *blocks, size_t blocks_length,
-    uint8_t *hash, size_t hash_length) BF_CHECKED;
+    bf_ghash_state *state, const uint8_t *message, size_t message_length) BF_CHECKED BF_NONNULL(1);
 
-/* As bf_tag_ghash_update_padded. GHASH of more bytes, zeros added to whole blocks: hash is that of the blocks
- * before, and then that of these too; key and hash have 16 bytes. */
-uint32_t bf_hw_tag_ghash_update_padded(
-    const uint8_t *key, size_t key_length, const uint8_t *message, size_t message_length,
-    uint8_t *hash, size_t hash_length) BF_CHECKED;
+/* As bf_tag_ghash_pad. Adds as many zeros as make the message whole blocks, which may be none. */
+uint32_t bf_hw_tag_ghash_pad(
+    bf_ghash_state *state) BF_CHECKED BF_NONNULL(1);
 
-/* As bf_tag_ghash_update_prepared. The same as tag_ghash_update_padded, by what tag_ghash_prepare wrote for the
- * key; by other bytes it writes 16 bytes of which nothing is said; prepared has 64 bytes, and hash 16. */
-uint32_t bf_hw_tag_ghash_update_prepared(
-    const uint8_t *prepared, size_t prepared_length, const uint8_t *message, size_t message_length,
-    uint8_t *hash, size_t hash_length) BF_CHECKED;
+/* As bf_tag_ghash_final. hash: what bf_hw_tag_ghash gives of the message, which is then empty, under the same key;
+ * hash has 16 bytes. */
+uint32_t bf_hw_tag_ghash_final(
+    bf_ghash_state *state, uint8_t *hash, size_t hash_length) BF_CHECKED BF_NONNULL(1);
 
-/* As bf_tag_polyval_update. POLYVAL of more whole blocks: hash is that of the blocks before, and then that of
- * these too; key and hash have 16 bytes. */
+/* As bf_tag_polyval_init. state: the hash of the empty message under the key, to which bf_hw_tag_polyval_update
+ * adds bytes; key has 16 bytes. */
+uint32_t bf_hw_tag_polyval_init(
+    bf_polyval_state *state, const uint8_t *key, size_t key_length) BF_CHECKED BF_NONNULL(1);
+
+/* As bf_tag_polyval_update. Adds bytes to the message, of any number: no zeros come between them and the next
+ * ones. */
 uint32_t bf_hw_tag_polyval_update(
-    const uint8_t *key, size_t key_length, const uint8_t *blocks, size_t blocks_length,
-    uint8_t *hash, size_t hash_length) BF_CHECKED;
+    bf_polyval_state *state, const uint8_t *message, size_t message_length) BF_CHECKED BF_NONNULL(1);
 
-/* As bf_tag_polyval_update_padded. POLYVAL of more bytes, zeros added to whole blocks: hash is that of the blocks
- * before, and then that of these too; key and hash have 16 bytes. */
-uint32_t bf_hw_tag_polyval_update_padded(
-    const uint8_t *key, size_t key_length, const uint8_t *message, size_t message_length,
-    uint8_t *hash, size_t hash_length) BF_CHECKED;
+/* As bf_tag_polyval_pad. Adds as many zeros as make the message whole blocks, which may be none. */
+uint32_t bf_hw_tag_polyval_pad(
+    bf_polyval_state *state) BF_CHECKED BF_NONNULL(1);
 
-/* As bf_tag_polyval_update_prepared. The same as tag_polyval_update_padded, by what tag_polyval_prepare wrote for
- * the key; by other bytes it writes 16 bytes of which nothing is said; prepared has 64 bytes, and hash 16. */
-uint32_t bf_hw_tag_polyval_update_prepared(
-    const uint8_t *prepared, size_t prepared_length, const uint8_t *message, size_t message_length,
-    uint8_t *hash, size_t hash_length) BF_CHECKED;
+/* As bf_tag_polyval_final. hash: what bf_hw_tag_polyval gives of the message, which is then empty, under the same
+ * key; hash has 16 bytes. */
+uint32_t bf_hw_tag_polyval_final(
+    bf_polyval_state *state, uint8_t *hash, size_t hash_length) BF_CHECKED BF_NONNULL(1);
 
-/* As bf_tag_gcm_ghash_final. GHASH of the block of two lengths in bytes, each below 2^61, as GCM has them: hash is
- * that of the blocks before, and then that of this one too; key and hash have 16 bytes. */
+/* As bf_tag_gcm_ghash_final. hash: what bf_hw_tag_gcm_ghash gives, where the message is the associated data,
+ * bf_hw_tag_ghash_pad behind them, and the ciphertext, by their lengths in bytes, each below 2^61; the message is
+ * then empty, under the same key; hash has 16 bytes. */
 uint32_t bf_hw_tag_gcm_ghash_final(
-    const uint8_t *key, size_t key_length, size_t associated_length, size_t ciphertext_length,
-    uint8_t *hash, size_t hash_length) BF_CHECKED;
+    bf_ghash_state *state, size_t associated_length, size_t ciphertext_length,
+    uint8_t *hash, size_t hash_length) BF_CHECKED BF_NONNULL(1);
 
 /* ----------------------------------------------------------------------------------------------------------------- */
 /* BF_HW_TOWERS: single products of the levels of 64 and 128 bits of the tower. */

@@ -114,53 +114,55 @@ static void write_length(uint8_t out[8], uint64_t bits)
     memcpy(out, &bits, 8);
 }
 
-static void hash_lengths(const bf_kernels *kernels, const uint8_t *key, uint64_t associated, uint64_t ciphertext, uint8_t *hash)
+/* The block of two lengths in bytes. */
+static void write_lengths(uint8_t block[16], uint64_t associated_length, uint64_t ciphertext_length)
 {
-    uint8_t block[16];
-    write_length(block, 8 * associated);
-    write_length(block + 8, 8 * ciphertext);
-    kernels->ghash(key, block, 16, hash);
+    write_length(block, 8 * associated_length);
+    write_length(block + 8, 8 * ciphertext_length);
 }
 
-#define WHOLE(which)                                                                                                                \
+#define HASH(which)                                                                                                                 \
     uint32_t bf_hw_tag_##which(const uint8_t *key, size_t key_length, const uint8_t *message, size_t length, uint8_t *hash,         \
                                size_t hash_length)                                                                                  \
     BODY(HASHES, key_length == 16 && hash_length == 16, tag_##which, (key, key_length, message, length, hash, hash_length),         \
-         which(key, message, length, memset(hash, 0, 16)))
-#define UPDATE(name, which, fits)                                                                                                   \
-    uint32_t bf_hw_##name(const uint8_t *key, size_t key_length, const uint8_t *message, size_t length, uint8_t *hash,              \
-                          size_t hash_length)                                                                                       \
-    BODY(HASHES, hash_length == 16 && (fits), name, (key, key_length, message, length, hash, hash_length),                          \
-         which(key, message, length, hash))
-WHOLE(ghash)
-WHOLE(polyval)
-UPDATE(tag_ghash_update, ghash, key_length == 16 && length % 16 == 0)
-UPDATE(tag_polyval_update, polyval, key_length == 16 && length % 16 == 0)
-UPDATE(tag_ghash_update_padded, ghash, key_length == 16)
-UPDATE(tag_polyval_update_padded, polyval, key_length == 16)
-UPDATE(tag_ghash_update_prepared, ghash_prepared, key_length == 64)
-UPDATE(tag_polyval_update_prepared, polyval_prepared, key_length == 64)
+         which(key, message, length, memset(hash, 0, 16)))                                                                          \
+    uint32_t bf_hw_tag_##which##_init(bf_##which##_state *state, const uint8_t *key, size_t key_length)                             \
+    BODY(HASHES, key_length == 16, tag_##which##_init, (state, key, key_length), which##_init(state->words, key))                   \
+    uint32_t bf_hw_tag_##which##_update(bf_##which##_state *state, const uint8_t *message, size_t length)                           \
+    BODY(HASHES, 1, tag_##which##_update, (state, message, length), which##_update(state->words, message, length))                  \
+    uint32_t bf_hw_tag_##which##_pad(bf_##which##_state *state)                                                                     \
+    BODY(HASHES, 1, tag_##which##_pad, (state), which##_pad(state->words))                                                          \
+    uint32_t bf_hw_tag_##which##_final(bf_##which##_state *state, uint8_t *hash, size_t hash_length)                                \
+    BODY(HASHES, hash_length == 16, tag_##which##_final, (state, hash, hash_length), which##_final(state->words, hash))
+HASH(ghash)
+HASH(polyval)
 
 uint32_t bf_hw_tag_gcm_ghash(
     const uint8_t *key, size_t key_length, const uint8_t *associated, size_t associated_length, const uint8_t *ciphertext,
     size_t ciphertext_length, uint8_t *hash, size_t hash_length)
 {
+    uint8_t block[16];
     const bf_kernels *kernels = bf_kernels_in_use(HASHES);
     if (!kernels || key_length != 16 || hash_length != 16 || associated_length >> 61 || ciphertext_length >> 61)
         return bf_tag_gcm_ghash(key, key_length, associated, associated_length, ciphertext, ciphertext_length, hash, hash_length);
     memset(hash, 0, 16);
     kernels->ghash(key, associated, associated_length, hash);
     kernels->ghash(key, ciphertext, ciphertext_length, hash);
-    hash_lengths(kernels, key, associated_length, ciphertext_length, hash);
+    write_lengths(block, associated_length, ciphertext_length);
+    kernels->ghash(key, block, 16, hash);
     return BF_OK;
 }
 
 uint32_t bf_hw_tag_gcm_ghash_final(
-    const uint8_t *key, size_t key_length, size_t associated_length, size_t ciphertext_length, uint8_t *hash, size_t hash_length)
+    bf_ghash_state *state, size_t associated_length, size_t ciphertext_length, uint8_t *hash, size_t hash_length)
 {
+    uint8_t block[16];
     const bf_kernels *kernels = bf_kernels_in_use(HASHES);
-    if (!kernels || key_length != 16 || hash_length != 16 || associated_length >> 61 || ciphertext_length >> 61)
-        return bf_tag_gcm_ghash_final(key, key_length, associated_length, ciphertext_length, hash, hash_length);
-    hash_lengths(kernels, key, associated_length, ciphertext_length, hash);
+    if (!kernels || hash_length != 16 || associated_length >> 61 || ciphertext_length >> 61)
+        return bf_tag_gcm_ghash_final(state, associated_length, ciphertext_length, hash, hash_length);
+    write_lengths(block, associated_length, ciphertext_length);
+    kernels->ghash_pad(state->words);
+    kernels->ghash_update(state->words, block, 16);
+    kernels->ghash_final(state->words, hash);
     return BF_OK;
 }

@@ -68,34 +68,48 @@ static const char *compare_sums(const bf_kernels *k, size_t n, uint64_t *state)
     return NULL;
 }
 
-/* A hash of a message, and one that goes on from a drawn hash under a prepared key. */
+/* A hash of a message; one that goes on over the same message, whose last block was filled up with zeros; and the message in pieces, cut at
+ * a place, whose states have the same bytes each time. */
+#define COMPARE_MESSAGE(which)                                                                                                      \
+    static const char *compare_##which(const bf_kernels *k, const uint8_t key[16], const uint8_t *message, size_t length, size_t cut) \
+    {                                                                                                                               \
+        uint8_t got[16] = {0}, want[16];                                                                                            \
+        bf_##which##_state ours, theirs;                                                                                            \
+        k->which(key, message, length, got);                                                                                        \
+        PROVED(bf_tag_##which(key, 16, message, length, want, 16));                                                                 \
+        SAME(!memcmp(got, want, 16), #which);                                                                                       \
+        k->which##_init(ours.words, key);                                                                                           \
+        PROVED(bf_tag_##which##_init(&theirs, key, 16));                                                                            \
+        SAME(!memcmp(&ours, &theirs, sizeof ours), #which "_init");                                                                 \
+        k->which##_update(ours.words, message, cut);                                                                                \
+        PROVED(bf_tag_##which##_update(&theirs, message, cut));                                                                     \
+        SAME(!memcmp(&ours, &theirs, sizeof ours), #which "_update");                                                               \
+        k->which##_update(ours.words, message + cut, length - cut);                                                                 \
+        PROVED(bf_tag_##which##_update(&theirs, message + cut, length - cut));                                                      \
+        SAME(!memcmp(&ours, &theirs, sizeof ours), #which "_update again");                                                         \
+        k->which##_pad(ours.words);                                                                                                 \
+        PROVED(bf_tag_##which##_pad(&theirs));                                                                                      \
+        SAME(!memcmp(&ours, &theirs, sizeof ours), #which "_pad");                                                                  \
+        k->which(key, message, length, got);                                                                                        \
+        k->which##_update(ours.words, message, length);                                                                             \
+        PROVED(bf_tag_##which##_update(&theirs, message, length));                                                                  \
+        k->which##_final(ours.words, want);                                                                                         \
+        SAME(!memcmp(got, want, 16), #which ", going on");                                                                          \
+        PROVED(bf_tag_##which##_final(&theirs, want, 16));                                                                          \
+        SAME(!memcmp(got, want, 16) && !memcmp(&ours, &theirs, sizeof ours), #which "_final");                                      \
+        return NULL;                                                                                                                \
+    }
+COMPARE_MESSAGE(ghash)
+COMPARE_MESSAGE(polyval)
+
 static const char *compare_message(const bf_kernels *k, size_t length, uint64_t *state)
 {
-    uint8_t message[LONGEST_MESSAGE], key[16], prepared[64], got[16], want[16];
+    uint8_t message[LONGEST_MESSAGE], key[16];
     draw(message, sizeof message, state);
     draw(key, sizeof key, state);
-    memset(got, 0, 16);
-    k->ghash(key, message, length, got);
-    PROVED(bf_tag_ghash(key, 16, message, length, want, 16));
-    SAME(!memcmp(got, want, 16), "ghash");
-    k->ghash(key, message, length, got);
-    PROVED(bf_tag_ghash_prepare(key, 16, prepared, 64));
-    PROVED(bf_tag_ghash_update_prepared(prepared, 64, message, length, want, 16));
-    SAME(!memcmp(got, want, 16), "ghash in pieces");
-    k->ghash_prepared(prepared, message, length, got);
-    PROVED(bf_tag_ghash_update_prepared(prepared, 64, message, length, want, 16));
-    SAME(!memcmp(got, want, 16), "ghash, prepared");
-    memset(got, 0, 16);
-    k->polyval(key, message, length, got);
-    PROVED(bf_tag_polyval(key, 16, message, length, want, 16));
-    SAME(!memcmp(got, want, 16), "polyval");
-    k->polyval(key, message, length, got);
-    PROVED(bf_tag_polyval_prepare(key, 16, prepared, 64));
-    PROVED(bf_tag_polyval_update_prepared(prepared, 64, message, length, want, 16));
-    SAME(!memcmp(got, want, 16), "polyval in pieces");
-    k->polyval_prepared(prepared, message, length, got);
-    PROVED(bf_tag_polyval_update_prepared(prepared, 64, message, length, want, 16));
-    SAME(!memcmp(got, want, 16), "polyval, prepared");
+    size_t cut = drawn(state) % (length + 1);
+    PART(compare_ghash(k, key, message, length, cut));
+    PART(compare_polyval(k, key, message, length, cut));
     return NULL;
 }
 

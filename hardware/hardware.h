@@ -71,9 +71,15 @@ typedef struct {
     /* The hash of the blocks before goes on over the message, of which zeros fill the last block. */
     void (*ghash)(const uint8_t key[16], const uint8_t *message, size_t length, uint8_t hash[16]);
     void (*polyval)(const uint8_t key[16], const uint8_t *message, size_t length, uint8_t hash[16]);
-    /* The same by what bf_tag_ghash_prepare and bf_tag_polyval_prepare make of the key. */
-    void (*ghash_prepared)(const uint8_t prepared[64], const uint8_t *message, size_t length, uint8_t hash[16]);
-    void (*polyval_prepared)(const uint8_t prepared[64], const uint8_t *message, size_t length, uint8_t hash[16]);
+    /* In pieces, by the words of a state of the same bytes that the proved functions write; any other words do no harm. */
+    void (*ghash_init)(uint64_t *state, const uint8_t key[16]);
+    void (*ghash_update)(uint64_t *state, const uint8_t *message, size_t length);
+    void (*ghash_pad)(uint64_t *state);
+    void (*ghash_final)(uint64_t *state, uint8_t hash[16]);
+    void (*polyval_init)(uint64_t *state, const uint8_t key[16]);
+    void (*polyval_update)(uint64_t *state, const uint8_t *message, size_t length);
+    void (*polyval_pad)(uint64_t *state);
+    void (*polyval_final)(uint64_t *state, uint8_t hash[16]);
 } bf_kernels;
 
 /* The builds of kernels.c. */

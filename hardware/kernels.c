@@ -546,6 +546,8 @@ KERNEL void NAMED(t128_multiply)(const bf_u128 *a, const bf_u128 *b, bf_u128 *ou
 #define TOP 0xc200000000000000
 /* x^128 modulo the polynomial twice more, and x: the product by it is that by x alone. */
 #define POWER_129 PAIR(0x4600000000000000, 3)
+/* x^127: the product by it is that by 1/x alone. */
+#define POWER_127 PAIR(0x8000000000000000, 0)
 #define GROUP 8
 
 /* high + low x^-64, where the lowest 64 bits of low are brought up. */
@@ -575,8 +577,9 @@ KERNEL V NAMED(polyval_multiply)(V a, V b)
 BLOCKS(ghash_blocks, REVERSED)
 BLOCKS(polyval_blocks, AS_IT_IS)
 
+typedef void (*sum_of_blocks)(V *hash, const V *powers, const uint8_t *blocks, size_t n);
 /* The hash goes on over a message, by groups of blocks; `some` is one of the two above. */
-static V NAMED(hash)(V key, V hash, const uint8_t *message, size_t length, void (*some)(V *, const V *, const uint8_t *, size_t))
+static V NAMED(hash)(V key, V hash, const uint8_t *message, size_t length, sum_of_blocks some)
 {
     V powers[GROUP]; /* the highest first, so that n blocks take the last n */
     size_t blocks = length / 16 + (length % 16 != 0), n;
@@ -596,12 +599,13 @@ static V NAMED(hash)(V key, V hash, const uint8_t *message, size_t length, void 
     return hash;
 }
 
-/* GHASH is POLYVAL of blocks whose bytes are reversed, under x times the key whose bytes are reversed (RFC 8452, appendix A). */
-static V NAMED(ghash_multiplier)(V reversed_key) { return NAMED(polyval_multiply)(reversed_key, POWER_129); }
+/* x times an element. */
+static V NAMED(times_x)(V a) { return NAMED(polyval_multiply)(a, POWER_129); }
 
+/* GHASH is POLYVAL of blocks whose bytes are reversed, under x times the key whose bytes are reversed (RFC 8452, appendix A). */
 static void NAMED(ghash)(const uint8_t key[16], const uint8_t *message, size_t length, uint8_t hash[16])
 {
-    V multiplier = NAMED(ghash_multiplier)(REVERSED(LOAD(key)));
+    V multiplier = NAMED(times_x)(REVERSED(LOAD(key)));
     V sum = NAMED(hash)(multiplier, REVERSED(LOAD(hash)), message, length, NAMED(ghash_blocks));
     STORE(hash, REVERSED(sum));
 }
@@ -610,6 +614,13 @@ static void NAMED(polyval)(const uint8_t key[16], const uint8_t *message, size_t
 {
     STORE(hash, NAMED(hash)(LOAD(key), LOAD(hash), message, length, NAMED(polyval_blocks)));
 }
+
+/* ---- hashes in pieces ---- */
+
+/* A state in words, as the proved functions write it: the first four powers of an element of g128, the sum over the whole blocks so far,
+ * also of g128, the bytes after these blocks, and zeros, and how many of them there are. */
+enum { SUM = 8, BLOCK = 10, USED = 12 };
+_Static_assert(sizeof(bf_ghash_state) == 8 * (USED + 1) && sizeof(bf_polyval_state) == 8 * (USED + 1), "a state");
 
 /* The bits of a word in the other order. */
 static inline uint64_t reversed_bits(uint64_t w)
@@ -620,24 +631,90 @@ static inline uint64_t reversed_bits(uint64_t w)
     return __builtin_bswap64(w);
 }
 
-/* A prepared key begins with the element of g128 that either hash multiplies by. Its bits are those of GHASH's key, reversed. */
-static V NAMED(prepared_multiplier)(const uint8_t prepared[64])
+/* Blocks are elements of g128 by their bits in the other order, with which x times the product here is the product there. */
+static inline V of_element(const uint64_t words[2]) { return PAIR(reversed_bits(words[0]), reversed_bits(words[1])); }
+
+static inline void write_element(uint64_t words[2], V v)
 {
-    uint64_t words[2];
-    memcpy(words, prepared, sizeof words);
-    return NAMED(ghash_multiplier)(PAIR(reversed_bits(words[0]), reversed_bits(words[1])));
+    words[0] = reversed_bits(HIGH_WORD(v));
+    words[1] = reversed_bits(LOW_WORD(v));
 }
 
-static void NAMED(ghash_prepared)(const uint8_t prepared[64], const uint8_t *message, size_t length, uint8_t hash[16])
+/* The state of the empty message; multiplier, what blocks are multiplied by, is x times the first power. */
+static void NAMED(begin)(uint64_t *state, V power, V multiplier)
 {
-    V sum = NAMED(hash)(NAMED(prepared_multiplier)(prepared), REVERSED(LOAD(hash)), message, length, NAMED(ghash_blocks));
-    STORE(hash, REVERSED(sum));
+    memset(state, 0, sizeof(bf_ghash_state));
+    for (int i = 0; i < SUM; i += 2) {
+        write_element(state + i, power);
+        power = NAMED(polyval_multiply)(power, multiplier);
+    }
 }
 
-static void NAMED(polyval_prepared)(const uint8_t prepared[64], const uint8_t *message, size_t length, uint8_t hash[16])
+/* Adds bytes to the message. Of a state of other content every number of bytes is taken as one below 16. */
+static void NAMED(update)(uint64_t *state, const uint8_t *message, size_t length, sum_of_blocks some)
 {
-    STORE(hash, NAMED(hash)(NAMED(prepared_multiplier)(prepared), LOAD(hash), message, length, NAMED(polyval_blocks)));
+    uint8_t *block = (uint8_t *)(state + BLOCK);
+    size_t used = state[USED] % 16, room = 16 - used;
+    if (length >= room) {
+        V multiplier = NAMED(times_x)(of_element(state)), sum = of_element(state + SUM);
+        if (used) {
+            memcpy(block + used, message, room);
+            sum = NAMED(hash)(multiplier, sum, block, 16, some);
+            message += room;
+            length -= room;
+            used = 0;
+        }
+        sum = NAMED(hash)(multiplier, sum, message, length / 16 * 16, some);
+        write_element(state + SUM, sum);
+        message += length / 16 * 16;
+        length %= 16;
+    }
+    if (length)
+        memcpy(block + used, message, length);
+    state[USED] = used + length;
+    memset(block + state[USED], 0, 16 - state[USED]);
 }
+
+static void NAMED(pad)(uint64_t *state, sum_of_blocks some)
+{
+    static const uint8_t zeros[16];
+    NAMED(update)(state, zeros, -state[USED] % 16, some);
+}
+
+/* The hash of the message, which is then empty. */
+static V NAMED(take)(uint64_t *state, sum_of_blocks some)
+{
+    NAMED(pad)(state, some);
+    V hash = of_element(state + SUM);
+    memset(state + SUM, 0, 16);
+    return hash;
+}
+
+static void NAMED(ghash_init)(uint64_t *state, const uint8_t key[16])
+{
+    V power = REVERSED(LOAD(key));
+    NAMED(begin)(state, power, NAMED(times_x)(power));
+}
+
+static void NAMED(polyval_init)(uint64_t *state, const uint8_t key[16])
+{
+    V multiplier = LOAD(key);
+    NAMED(begin)(state, NAMED(polyval_multiply)(multiplier, POWER_127), multiplier);
+}
+
+#define IN_PIECES(which, order)                                                                                                     \
+    static void NAMED(which##_update)(uint64_t * state, const uint8_t *message, size_t length)                                      \
+    {                                                                                                                               \
+        NAMED(update)(state, message, length, NAMED(which##_blocks));                                                               \
+    }                                                                                                                               \
+    static void NAMED(which##_pad)(uint64_t * state) { NAMED(pad)(state, NAMED(which##_blocks)); }                                  \
+    static void NAMED(which##_final)(uint64_t * state, uint8_t hash[16])                                                            \
+    {                                                                                                                               \
+        V sum = NAMED(take)(state, NAMED(which##_blocks));                                                                          \
+        STORE(hash, order(sum));                                                                                                    \
+    }
+IN_PIECES(ghash, REVERSED)
+IN_PIECES(polyval, AS_IT_IS)
 
 #define IN_TABLE(name) .name = NAMED(name)
 const bf_kernels NAMED(bf_kernels) = {
@@ -648,5 +725,6 @@ const bf_kernels NAMED(bf_kernels) = {
     IN_TABLE(ghash_blocks), IN_TABLE(polyval_blocks), IN_TABLE(stages_forward), IN_TABLE(stages_inverse), IN_TABLE(g128_inverse),
     IN_TABLE(g128_power), IN_TABLE(g128_evaluate), IN_TABLE(p64_inverse), IN_TABLE(p64_power), IN_TABLE(p64_evaluate),
     IN_TABLE(transform), IN_TABLE(inverse_transform), IN_TABLE(low_stages), IN_TABLE(ghash), IN_TABLE(polyval),
-    IN_TABLE(ghash_prepared), IN_TABLE(polyval_prepared),
+    IN_TABLE(ghash_init), IN_TABLE(ghash_update), IN_TABLE(ghash_pad), IN_TABLE(ghash_final), IN_TABLE(polyval_init),
+    IN_TABLE(polyval_update), IN_TABLE(polyval_pad), IN_TABLE(polyval_final),
 };

@@ -12,7 +12,7 @@ import c_library
 import cantor
 import files
 from make_bindings import rust_declared
-from make_c_header import attributes, declared
+from make_c_header import attributes, declared, own_names
 
 WRITTEN = files.generated("make_hardware.py")
 # What g128 and p64 have both.
@@ -21,13 +21,15 @@ OF_FIELD = (
     "multiply_by_in_place", "square_in_place", "inverse_in_place", "power_in_place",
 )
 STAGES = ("butterfly_forward", "butterfly_inverse", "low_stages", "transform", "inverse_transform")
+# What both hashes have of a message in pieces.
+OF_HASH = ("init", "update", "pad", "final")
 # Each group: its name, its bit, what it is, and its functions as the library names them.
 GROUPS = (
     ("G128", 1, "the field of GHASH", [f"g128_{it}" for it in (*OF_FIELD, *STAGES)]),
     ("P64", 2, "GF(2)[x] modulo x^64 + x^4 + x^3 + x + 1", [f"p64_{it}" for it in OF_FIELD]),
     ("HASHES", 4, "GHASH and POLYVAL", [
-        "tag_ghash", "tag_polyval", "tag_gcm_ghash", "tag_ghash_update", "tag_ghash_update_padded", "tag_ghash_update_prepared",
-        "tag_polyval_update", "tag_polyval_update_padded", "tag_polyval_update_prepared", "tag_gcm_ghash_final",
+        "tag_ghash", "tag_polyval", "tag_gcm_ghash", *(f"tag_{hash_name}_{it}" for hash_name in ("ghash", "polyval") for it in OF_HASH),
+        "tag_gcm_ghash_final",
     ]),
     ("TOWERS", 8, "single products of the levels of 64 and 128 bits of the tower", [
         f"{level}_{it}" for level in ("t64", "t128") for it in ("multiply", "multiply_in_place")
@@ -50,6 +52,7 @@ def functions():
 
 def about(name, parameters, text):
     """What a function does, after what it writes."""
+    text = own_names().sub(r"bf_hw_\1", text)
     written = [it[1] for it in parameters if it[0] in ("out", "result")]
     return f"As bf_{name}. {written[0] + ': ' + text if len(written) == 1 else c_library.sentence(text, parameters).rstrip('.')}."
 

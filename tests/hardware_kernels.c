@@ -134,18 +134,33 @@ static void low_stages(const bf_kernels *k, bf_u128 *b, bf_u128 *c, size_t runs)
     same("low_stages", b, c, 256 * runs);
 }
 
-static void hashes(const bf_kernels *k, const uint8_t *message, size_t length)
-{
-    uint8_t key[16], got[16] = {0}, want[16];
-    draw(key, 16);
-    k->ghash(key, message, length, got);
-    proved(bf_tag_ghash(key, 16, message, length, want, 16));
-    same("ghash", got, want, 16);
-    memset(got, 0, 16);
-    k->polyval(key, message, length, got);
-    proved(bf_tag_polyval(key, 16, message, length, want, 16));
-    same("polyval", got, want, 16);
-}
+/* A hash, whole and in pieces of drawn lengths, whose states are looked at behind each. */
+#define HASHES_OF(which)                                                                                                            \
+    static void hashes_##which(const bf_kernels *k, const uint8_t *message, size_t length, size_t longest)                          \
+    {                                                                                                                               \
+        uint8_t key[16], got[16] = {0}, want[16];                                                                                   \
+        bf_##which##_state ours, theirs;                                                                                            \
+        draw(key, 16);                                                                                                              \
+        k->which(key, message, length, got);                                                                                        \
+        proved(bf_tag_##which(key, 16, message, length, want, 16));                                                                 \
+        same(#which, got, want, 16);                                                                                                \
+        k->which##_init(ours.words, key);                                                                                           \
+        proved(bf_tag_##which##_init(&theirs, key, 16));                                                                            \
+        same(#which "_init", &ours, &theirs, sizeof ours);                                                                          \
+        for (size_t at = 0, some; at < length; at += some) {                                                                        \
+            draw(&some, sizeof some);                                                                                               \
+            some = some % longest < length - at ? some % longest : length - at;                                                     \
+            k->which##_update(ours.words, message + at, some);                                                                      \
+            proved(bf_tag_##which##_update(&theirs, message + at, some));                                                           \
+            same(#which "_update", &ours, &theirs, sizeof ours);                                                                    \
+        }                                                                                                                           \
+        k->which##_final(ours.words, got);                                                                                          \
+        same(#which "_final", got, want, 16);                                                                                       \
+        proved(bf_tag_##which##_final(&theirs, want, 16));                                                                          \
+        same(#which "_final, state", &ours, &theirs, sizeof ours);                                                                  \
+    }
+HASHES_OF(ghash)
+HASHES_OF(polyval)
 
 static int schedules(const bf_kernels *k)
 {
@@ -161,7 +176,10 @@ static int schedules(const bf_kernels *k)
         low_stages(k, b, c, runs);
     draw(a, 16 * MOST);
     for (size_t length = 0; length < 5000; length += length < 300 ? 1 : 37)
-        hashes(k, (const uint8_t *)a, length);
+        for (size_t longest = 5; longest < 1000; longest *= 9) {
+            hashes_ghash(k, (const uint8_t *)a, length, longest);
+            hashes_polyval(k, (const uint8_t *)a, length, longest);
+        }
     free(a);
     free(b);
     free(c);

@@ -27,6 +27,7 @@ FAULTS = [
     ("TOP 0xc200000000000000", "TOP 0xc100000000000000", BOTH),
     ("PAIR(0x4600000000000000, 3)", "PAIR(0x4600000000000000, 1)", BOTH),
     ("PAIR(0x4600000000000000, 3)", "PAIR(0x4400000000000000, 3)", BOTH),
+    ("POWER_127 PAIR(0x8000000000000000, 0)", "POWER_127 PAIR(0x4000000000000000, 0)", BOTH),
     ("multiply)(s, PAIR(1, 0))", "multiply)(s, PAIR(2, 0))", BOTH),
     ("PAIR(0, 1)));", "PAIR(0, 3)));", BOTH),
     ("0x5555555555555555) | (w & 0x5555555555555555) << 1", "0x5555555555555555) | (w & 0x5555555555555554) << 1", BOTH),
@@ -96,6 +97,23 @@ FAULTS = [
     ("powers + GROUP - n, message, n", "powers, message, n", BOTH),
     ("memcpy(last, message + 16 * n, length & 15);", "memcpy(last, message + 16 * n, length & 7);", BOTH),
     ("PAIR(reversed_bits(words[0]), reversed_bits(words[1]))", "PAIR(reversed_bits(words[1]), reversed_bits(words[0]))", BOTH),
+    # Hashes in pieces.
+    ("words[0] = reversed_bits(HIGH_WORD(v));", "words[0] = reversed_bits(LOW_WORD(v));", BOTH),
+    ("power = NAMED(polyval_multiply)(power, multiplier);", "power = NAMED(polyval_multiply)(power, power);", BOTH),
+    ("V multiplier = NAMED(times_x)(of_element(state)), sum", "V multiplier = of_element(state), sum", BOTH),
+    ("if (length >= room) {", "if (length > room) {", BOTH),
+    ("memcpy(block + used, message, room);", "memcpy(block, message, room);", BOTH),
+    ("message += room;", "message += used;", BOTH),
+    ("length -= room;", "length -= room / 2;", BOTH),
+    ("            used = 0;\n", "", BOTH),
+    ("message += length / 16 * 16;", "message += length / 32 * 16;", BOTH),
+    ("memcpy(block + used, message, length);", "memcpy(block, message, length);", BOTH),
+    ("state[USED] = used + length;", "state[USED] = length;", BOTH),
+    ("memset(block + state[USED], 0, 16 - state[USED]);", "", BOTH),
+    ("-state[USED] % 16, some);", "16 - state[USED], some);", BOTH),
+    ("    NAMED(pad)(state, some);\n    V hash", "    V hash", BOTH),
+    ("memset(state + SUM, 0, 16);", "memset(state + SUM, 0, 8);", BOTH),
+    ("NAMED(begin)(state, power, NAMED(times_x)(power));", "NAMED(begin)(state, power, power);", BOTH),
 ]
 # These change no result.
 KEPT = [("#define IN_CACHE 10", "#define IN_CACHE 6"), ("#define BATCH 64", "#define BATCH 16"), ("#define GROUP 8", "#define GROUP 4")]

@@ -6,17 +6,16 @@
 import pathlib
 import sys
 
+from cases import SIZES
 from definitions import c_library
 from write_cases import caller
 
 import make_hardware
 
-SIZES = {"u8": 1, "u64": 8, "u128": 16}
-
 
 def row(name, parameters):
     """An entry of the table: both callers, and of each parameter its kind, the size of its word and its name."""
-    rows = ", ".join(f'{{"{kind}", {SIZES.get(word, 8)}, "{it}"}}' for kind, it, word in parameters)
+    rows = ", ".join(f'{{"{kind}", {SIZES[word]}, "{it}"}}' for kind, it, word in parameters)
     return f'    {{"{name}", call_{name}, call_hw_{name}, {len(parameters)}, {{{rows}}}}},\n'
 
 

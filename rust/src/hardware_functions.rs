@@ -153,7 +153,7 @@ unsafe extern "C" {
         values_length: usize,
         shift: *const [u64; 2],
     ) -> u32;
-    /// As bf_g128_inverse_transform. The coefficients that g128_transform takes to these values.
+    /// As bf_g128_inverse_transform. The coefficients that bf_hw_g128_transform takes to these values.
     pub fn bf_hw_g128_inverse_transform(
         values: *mut [u64; 2],
         values_length: usize,
@@ -293,71 +293,61 @@ unsafe extern "C" {
         hash: *mut u8,
         hash_length: usize,
     ) -> u32;
-    /// As bf_tag_ghash_update. GHASH of more whole blocks: hash is that of the blocks before, and then that of these
-    /// too; key and hash have 16 bytes.
+    /// As bf_tag_ghash_init. state: the hash of the empty message under the key, to which bf_hw_tag_ghash_update adds
+    /// bytes; key has 16 bytes.
+    pub fn bf_hw_tag_ghash_init(
+        state: *mut [u64; 13],
+        key: *const u8,
+        key_length: usize,
+    ) -> u32;
+    /// As bf_tag_ghash_update. Adds bytes to the message, of any number: no zeros come between them and the next
+    /// ones.
     pub fn bf_hw_tag_ghash_update(
-        key: *const u8,
-        key_length: usize,
-        blocks: *const u8,
-        blocks_length: usize,
-        hash: *mut u8,
-        hash_length: usize,
-    ) -> u32;
-    /// As bf_tag_ghash_update_padded. GHASH of more bytes, zeros added to whole blocks: hash is that of the blocks
-    /// before, and then that of these too; key and hash have 16 bytes.
-    pub fn bf_hw_tag_ghash_update_padded(
-        key: *const u8,
-        key_length: usize,
+        state: *mut [u64; 13],
         message: *const u8,
         message_length: usize,
+    ) -> u32;
+    /// As bf_tag_ghash_pad. Adds as many zeros as make the message whole blocks, which may be none.
+    pub fn bf_hw_tag_ghash_pad(
+        state: *mut [u64; 13],
+    ) -> u32;
+    /// As bf_tag_ghash_final. hash: what bf_hw_tag_ghash gives of the message, which is then empty, under the same
+    /// key; hash has 16 bytes.
+    pub fn bf_hw_tag_ghash_final(
+        state: *mut [u64; 13],
         hash: *mut u8,
         hash_length: usize,
     ) -> u32;
-    /// As bf_tag_ghash_update_prepared. The same as tag_ghash_update_padded, by what tag_ghash_prepare wrote for the
-    /// key; by other bytes it writes 16 bytes of which nothing is said; prepared has 64 bytes, and hash 16.
-    pub fn bf_hw_tag_ghash_update_prepared(
-        prepared: *const u8,
-        prepared_length: usize,
-        message: *const u8,
-        message_length: usize,
-        hash: *mut u8,
-        hash_length: usize,
+    /// As bf_tag_polyval_init. state: the hash of the empty message under the key, to which bf_hw_tag_polyval_update
+    /// adds bytes; key has 16 bytes.
+    pub fn bf_hw_tag_polyval_init(
+        state: *mut [u64; 13],
+        key: *const u8,
+        key_length: usize,
     ) -> u32;
-    /// As bf_tag_polyval_update. POLYVAL of more whole blocks: hash is that of the blocks before, and then that of
-    /// these too; key and hash have 16 bytes.
+    /// As bf_tag_polyval_update. Adds bytes to the message, of any number: no zeros come between them and the next
+    /// ones.
     pub fn bf_hw_tag_polyval_update(
-        key: *const u8,
-        key_length: usize,
-        blocks: *const u8,
-        blocks_length: usize,
-        hash: *mut u8,
-        hash_length: usize,
-    ) -> u32;
-    /// As bf_tag_polyval_update_padded. POLYVAL of more bytes, zeros added to whole blocks: hash is that of the
-    /// blocks before, and then that of these too; key and hash have 16 bytes.
-    pub fn bf_hw_tag_polyval_update_padded(
-        key: *const u8,
-        key_length: usize,
+        state: *mut [u64; 13],
         message: *const u8,
         message_length: usize,
+    ) -> u32;
+    /// As bf_tag_polyval_pad. Adds as many zeros as make the message whole blocks, which may be none.
+    pub fn bf_hw_tag_polyval_pad(
+        state: *mut [u64; 13],
+    ) -> u32;
+    /// As bf_tag_polyval_final. hash: what bf_hw_tag_polyval gives of the message, which is then empty, under the
+    /// same key; hash has 16 bytes.
+    pub fn bf_hw_tag_polyval_final(
+        state: *mut [u64; 13],
         hash: *mut u8,
         hash_length: usize,
     ) -> u32;
-    /// As bf_tag_polyval_update_prepared. The same as tag_polyval_update_padded, by what tag_polyval_prepare wrote
-    /// for the key; by other bytes it writes 16 bytes of which nothing is said; prepared has 64 bytes, and hash 16.
-    pub fn bf_hw_tag_polyval_update_prepared(
-        prepared: *const u8,
-        prepared_length: usize,
-        message: *const u8,
-        message_length: usize,
-        hash: *mut u8,
-        hash_length: usize,
-    ) -> u32;
-    /// As bf_tag_gcm_ghash_final. GHASH of the block of two lengths in bytes, each below 2^61, as GCM has them: hash
-    /// is that of the blocks before, and then that of this one too; key and hash have 16 bytes.
+    /// As bf_tag_gcm_ghash_final. hash: what bf_hw_tag_gcm_ghash gives, where the message is the associated data,
+    /// bf_hw_tag_ghash_pad behind them, and the ciphertext, by their lengths in bytes, each below 2^61; the message
+    /// is then empty, under the same key; hash has 16 bytes.
     pub fn bf_hw_tag_gcm_ghash_final(
-        key: *const u8,
-        key_length: usize,
+        state: *mut [u64; 13],
         associated_length: usize,
         ciphertext_length: usize,
         hash: *mut u8,
