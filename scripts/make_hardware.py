@@ -90,7 +90,9 @@ HEAD = """\
  *
  * These functions are not proved. Before the first call they are compared in this process with the proved ones on a
  * basis, which determines a bilinear map; that they are bilinear was read off their machine code when they were built.
- * Schedules (transforms, hashes of many blocks) are tested.
+ * Schedules (transforms, hashes of many blocks) are tested. Not complete are what has degree 3 (two stages of a
+ * transform at once), that places of a slice do not depend on each other, and schedules: these are compared at drawn
+ * operands.
  *
  * Each has the parameters, the statuses and the conditions of the function of binary_field.h whose name has no hw.
  * Until bf_hw_begin was called for its group, and where that did not give BF_OK, it is that proved function; and so it

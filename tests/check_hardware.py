@@ -40,8 +40,10 @@ def stages(m):
     a, b = bf.Ghash128.random(2**m, seed=m), bf.Ghash128.random(2**m, seed=m + 1)
     basis, shifts, scalar = bf.Ghash128.random(m + 9, seed=1), bf.Ghash128.random(4, seed=2), bf.Ghash128.random(1, seed=3)[0]
     runs = bf.Ghash128.random(16 * (m + 1), seed=4)
-    found = [bf.transform(a, scalar), bf.inverse_transform(a, scalar), bf.transform(a)]
-    found += [*bf.butterfly_forward(a, b, scalar), *bf.butterfly_inverse(a, b, scalar), bf.low_stages(runs, shifts, basis, m)]
+    found = [bf.transform(a, scalar), bf.inverse_transform(a, scalar), bf.transform(a), bf.low_stages(runs, shifts, basis, m)]
+    for stage in (bf.butterfly_forward, bf.butterfly_inverse):
+        stage(a, b, scalar)
+        found += [a.copy(), b.copy()]
     return found
 
 

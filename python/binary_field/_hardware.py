@@ -35,7 +35,8 @@ def hardware(on: bool = True) -> Hardware:
     carryless multiply instruction from now on, in all threads; with `on` false they go by the proved functions again, as they do where
     nobody calls this. What it returns is true where they go by the instruction.
 
-    These functions are not proved. At the first call all are compared with the proved ones in this process, which takes some milliseconds.
+    These functions are not proved. At the first call all are compared with the proved ones in this process, which takes some milliseconds:
+    products on a basis, which determines them; transforms, hashes of many blocks and other schedules at drawn operands, which is not complete.
     Where the library was built without them, or the processor has no such instruction, nothing changes; where one of them differs,
     nothing changes and a warning says so.
 

@@ -1,5 +1,6 @@
 //! Functions by the processor's carryless multiply instruction. They are not proved: before the first call they are compared in this
-//! process with the proved ones.
+//! process with the proved ones, products on a basis, which determines them, and schedules (transforms, hashes of many blocks) at drawn
+//! operands, which is not complete.
 
 use crate::error::succeed;
 use crate::hardware_functions::*;
