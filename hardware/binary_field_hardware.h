@@ -10,7 +10,8 @@
  *
  * Each has the parameters, the statuses and the conditions of the function of binary_field.h whose name has no hw.
  * Until bf_hw_begin was called for its group, and where that did not give BF_OK, it is that proved function; and so it
- * is for lengths that do not fit. The functions of binary_field.h stay proved, whatever a program asks for here.
+ * is for lengths that do not fit. The functions of binary_field.h stay proved, whatever a program asks for here. A hash
+ * in pieces has the same bytes by either, so that each goes on with what the other left.
  */
 #ifndef BINARY_FIELD_HARDWARE_H
 #define BINARY_FIELD_HARDWARE_H

@@ -54,6 +54,18 @@ def hashes(length):
     return [bf.ghash(key, message), bf.polyval(key, message), bf.gcm_ghash(key, message[: length // 3], message[length // 3 :])]
 
 
+def pieces(length):
+    """What hashes of a drawn message in pieces hold behind each of them, and their digests."""
+    draw, found = random.Random(length), []
+    for kind in (bf.Ghash, bf.Polyval):
+        a_hash = kind(draw.randbytes(16), draw.randbytes(length))
+        for act in (lambda: None, lambda: a_hash.update(draw.randbytes(length // 3)), a_hash.pad, lambda: a_hash.update(draw.randbytes(5))):
+            act()
+            found.append(a_hash._state.tobytes())
+        found.append(a_hash.digest())
+    return [*found, bf.Ghash(draw.randbytes(16), draw.randbytes(length)).gcm_digest(length, 2**61 - 1)]
+
+
 class Switch(unittest.TestCase):
     """When arrays go by the instruction."""
 
@@ -90,7 +102,7 @@ class Switch(unittest.TestCase):
             for field in (bf.Ghash128, bf.Poly64, bf.BinaryField128, bf.BinaryField8):
                 field([2, 3]) * field([4, 5])
         self.assertEqual(called, ["g128_multiply", "p64_multiply", "t128_multiply", "t8_multiply"])
-        for name in ("g128_multiply", "p64_inverse", "t64_multiply_in_place", "tag_ghash", "g128_transform"):
+        for name in ("g128_multiply", "p64_inverse", "t64_multiply_in_place", "tag_ghash", "tag_polyval_update", "g128_transform"):
             self.assertIsNot(_library._KERNELS.called[name][0], _library._PROVED.called[name][0], name)
         self.assertIs(_library._KERNELS.called["t8_multiply"][0], _library._PROVED.called["t8_multiply"][0])
 
@@ -145,6 +157,21 @@ class Results(unittest.TestCase):
     def test_hashes(self):
         for length in [*range(70), 127, 128, 129, 1000, 4097]:
             self.same(hashes, length)
+            self.same(pieces, length)
+
+    def test_pieces_go_on(self):
+        """A message whose pieces go by one and by the other in turn."""
+        message = random.Random(1).randbytes(1000)
+        for kind, whole in ((bf.Ghash, bf.ghash), (bf.Polyval, bf.polyval)):
+            for step in (1, 7, 16, 30, 250):
+                for first in (False, True):
+                    with bf.hardware(first):
+                        a_hash = kind(b"sixteen byte key")
+                    for at in range(0, 1000, step):
+                        with bf.hardware(at // step % 2 == first):
+                            a_hash.update(message[at : at + step])
+                    with bf.hardware(first):
+                        self.assertEqual(a_hash.digest(), whole(b"sixteen byte key", message), (kind, step))
 
 
 class OpenSSL:
@@ -197,6 +224,11 @@ class Tags(unittest.TestCase):
                     hashed = bf.gcm_ghash(openssl.block(key, bytes(16)), associated, ciphertext)
                     mask = openssl.block(key, nonce + bytes([0, 0, 0, 1]))
                     self.assertEqual(bytes(x ^ y for x, y in zip(hashed, mask)), tag)
+                    in_pieces = bf.Ghash(openssl.block(key, bytes(16)), associated)
+                    in_pieces.pad()
+                    for at in range(0, length, 30):
+                        in_pieces.update(ciphertext[at : at + 30])
+                    self.assertEqual(in_pieces.gcm_digest(associated_length, length), hashed)
 
 
 if __name__ == "__main__":

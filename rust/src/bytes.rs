@@ -52,7 +52,7 @@ macro_rules! in_pieces {
         ///
         /// A copy goes on by itself, and one of the empty message serves for many messages. It tells the key.
         #[derive(Clone)]
-        pub struct $name([u64; 13]);
+        pub struct $name(pub(crate) [u64; 13]);
 
         impl $name {
             /// The hash of the empty message under the key.

@@ -4,7 +4,7 @@
 
 use crate::error::succeed;
 use crate::hardware_functions::*;
-use crate::{BinaryField64, BinaryField128, Error, Field, Ghash128, Poly64};
+use crate::{BinaryField64, BinaryField128, Error, Field, Ghash, Ghash128, Poly64, Polyval};
 
 /// That all functions by the carryless multiply instruction were compared with the proved ones and may be called. What else this crate
 /// has goes by the proved functions, whether there is such a value or not. Each method gives what the function of its name gives.
@@ -88,6 +88,50 @@ carryless! {
         bf_hw_g128_inverse bf_hw_g128_power bf_hw_g128_dot_product bf_hw_g128_evaluate
     Poly64 |it| it.to_bits(); bf_hw_p64_multiply bf_hw_p64_multiply_by bf_hw_p64_add_scaled bf_hw_p64_square
         bf_hw_p64_inverse bf_hw_p64_power bf_hw_p64_dot_product bf_hw_p64_evaluate
+}
+
+/// A hash of a message in pieces that `Hardware` goes on with: `Ghash` and `Polyval`. What their own methods left and what `Hardware` left
+/// is the same, so that a message may go by both.
+pub trait HashInPieces: Sized {
+    #[doc(hidden)]
+    fn of_key(key: &[u8; 16]) -> Self;
+    #[doc(hidden)]
+    fn add(&mut self, message: &[u8]);
+    #[doc(hidden)]
+    fn fill_up(&mut self);
+    #[doc(hidden)]
+    fn take(&mut self) -> [u8; 16];
+}
+
+macro_rules! in_pieces {
+    ($($hash:ident $init:ident $update:ident $pad:ident $last:ident)*) => {$(
+        impl HashInPieces for $hash {
+            fn of_key(key: &[u8; 16]) -> Self {
+                let mut state = [0; 13];
+                succeed(call!($init: &raw mut state, [key]));
+                $hash(state)
+            }
+
+            fn add(&mut self, message: &[u8]) {
+                succeed(call!($update: &raw mut self.0, [message]));
+            }
+
+            fn fill_up(&mut self) {
+                succeed(call!($pad: &raw mut self.0));
+            }
+
+            fn take(&mut self) -> [u8; 16] {
+                let mut hash = [0; 16];
+                succeed(call!($last: &raw mut self.0, [mut hash]));
+                hash
+            }
+        }
+    )*};
+}
+
+in_pieces! {
+    Ghash bf_hw_tag_ghash_init bf_hw_tag_ghash_update bf_hw_tag_ghash_pad bf_hw_tag_ghash_final
+    Polyval bf_hw_tag_polyval_init bf_hw_tag_polyval_update bf_hw_tag_polyval_pad bf_hw_tag_polyval_final
 }
 
 macro_rules! hashes {
@@ -243,5 +287,44 @@ impl Hardware {
         let mut hash = [0; 16];
         succeed(call!(bf_hw_tag_gcm_ghash: [key], [associated], [ciphertext], [mut hash]));
         hash
+    }
+
+    /// The hash of the empty message under the key.
+    pub fn new_hash<H: HashInPieces>(&self, key: &[u8; 16]) -> H {
+        H::of_key(key)
+    }
+
+    /// Adds bytes to the message of a hash, of any number.
+    pub fn update<H: HashInPieces>(&self, hash: &mut H, message: &[u8]) {
+        hash.add(message)
+    }
+
+    /// Adds as many zeros as make the message whole blocks of 16 bytes, which may be none.
+    pub fn pad<H: HashInPieces>(&self, hash: &mut H) {
+        hash.fill_up()
+    }
+
+    /// The hash of the message, with zeros added to whole blocks. The message is then empty, under the same key.
+    pub fn finalize_reset<H: HashInPieces>(&self, hash: &mut H) -> [u8; 16] {
+        hash.take()
+    }
+
+    /// The hash of the message, with zeros added to whole blocks.
+    pub fn finalize<H: HashInPieces>(&self, mut hash: H) -> [u8; 16] {
+        hash.take()
+    }
+
+    /// The hash of GCM, as [`finalize_gcm`](Ghash::finalize_gcm).
+    pub fn finalize_gcm(
+        &self,
+        mut hash: Ghash,
+        associated_length: usize,
+        ciphertext_length: usize,
+    ) -> Result<[u8; 16], Error> {
+        let mut of_gcm = [0; 16];
+        Error::of(
+            call!(bf_hw_tag_gcm_ghash_final: &raw mut hash.0, associated_length, ciphertext_length, [mut of_gcm]),
+        )?;
+        Ok(of_gcm)
     }
 }

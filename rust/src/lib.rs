@@ -63,7 +63,7 @@ pub use erasure::TransformCode;
 pub use error::Error;
 pub use field::Field;
 #[cfg(feature = "hardware")]
-pub use hardware::{Carryless, Hardware};
+pub use hardware::{Carryless, Hardware, HashInPieces};
 pub use fields::{
     BinaryField2, BinaryField4, BinaryField8, BinaryField16, BinaryField32, BinaryField64,
     BinaryField128, Gf2, Ghash128, Poly64, Poly192, Rijndael8b,

@@ -3,7 +3,7 @@
 
 mod drawn;
 
-use binary_field::{BinaryField64, BinaryField128, Carryless, Error, Field, Ghash128, Hardware, Poly64};
+use binary_field::{BinaryField64, BinaryField128, Carryless, Error, Field, Ghash, Ghash128, Hardware, HashInPieces, Poly64, Polyval};
 use binary_field::{butterfly_forward, butterfly_inverse, gcm_ghash, ghash, inverse_transform, low_stages, polyval, transform};
 use drawn::Draw;
 
@@ -105,4 +105,46 @@ fn hashes() {
         let (associated, text) = part.split_at(length / 3);
         assert_eq!(hardware.gcm_ghash(&key, associated, text), gcm_ghash(&key, associated, text));
     }
+}
+
+// Pieces that go by both kinds of functions in turn, against the whole message.
+fn in_pieces<H: HashInPieces + Clone>(
+    new: impl Fn(&[u8; 16]) -> H,
+    update: impl Fn(&mut H, &[u8]),
+    finalize: impl Fn(H) -> [u8; 16],
+    whole: impl Fn(&[u8; 16], &[u8]) -> [u8; 16],
+) {
+    let Some(hardware) = hardware() else { return };
+    let mut draw = Draw(9);
+    for length in 0..200 {
+        let key = number(&mut draw).to_le_bytes();
+        let message: Vec<u8> = (0..length).map(|_| draw.next() as u8).collect();
+        let (mut ours, mut proved) = (hardware.new_hash::<H>(&key), new(&key));
+        for (turn, part) in message.chunks(1 + length / 3).enumerate() {
+            let (one, other) = if turn % 2 == 0 { (&mut ours, &mut proved) } else { (&mut proved, &mut ours) };
+            hardware.update(one, part);
+            update(other, part);
+        }
+        assert_eq!([hardware.finalize(ours.clone()), finalize(ours.clone())], [whole(&key, &message); 2]);
+        assert_eq!([hardware.finalize(proved.clone()), finalize(proved.clone())], [whole(&key, &message); 2]);
+        hardware.pad(&mut ours);
+        update(&mut ours, b"more");
+        let padded = [&message[..], &vec![0; message.len().next_multiple_of(16) - message.len()], b"more"].concat();
+        assert_eq!(hardware.finalize_reset(&mut ours), whole(&key, &padded));
+        assert_eq!(finalize(ours), [0; 16]);
+    }
+}
+
+#[test]
+fn hashes_in_pieces() {
+    in_pieces(Ghash::new, Ghash::update, Ghash::finalize, ghash);
+    in_pieces(Polyval::new, Polyval::update, Polyval::finalize, polyval);
+    let Some(hardware) = hardware() else { return };
+    let (key, associated, text) = ([7; 16], [1; 21], [2; 40]);
+    let mut hash: Ghash = hardware.new_hash(&key);
+    hardware.update(&mut hash, &associated);
+    hardware.pad(&mut hash);
+    hardware.update(&mut hash, &text);
+    assert_eq!(hardware.finalize_gcm(hash.clone(), 21, 40), Ok(gcm_ghash(&key, &associated, &text)));
+    assert_eq!(hardware.finalize_gcm(hash, 21, 1 << 61), Err(Error::Length));
 }
