@@ -3,7 +3,9 @@
  * one longer and one shorter than it should be. Hashes in pieces go on from states of messages, and from drawn bytes. An array has a block of its own of exactly its bytes, so that sanitizers and valgrind see
  * what reads or writes beside it, and an empty one is NULL.
  *
- *   hardware_calls [GROUPS]   the groups that begin; the exit status is 1 where something differs, and 77 where there is no instruction */
+ *   hardware_calls [GROUPS [STATUS]]   the groups that begin, and the status that they have to begin with, BF_OK where none is named
+ *
+ * The exit status is 1 where something differs, and 77 where there is no instruction. */
 #include "binary_field_hardware.h"
 
 #include <pthread.h>
@@ -34,7 +36,7 @@ struct function {
 #include "hardware_callers.h"
 
 enum { FUNCTIONS = sizeof functions / sizeof *functions };
-static uint32_t groups = BF_HW_ALL;
+static uint32_t groups = BF_HW_ALL, expected = BF_OK;
 
 static uint64_t drawn(uint64_t *state)
 {
@@ -158,7 +160,7 @@ static long compare(uint64_t seed, size_t step, int is_told)
 static void *begin_and_compare(void *result)
 {
     uint32_t status = bf_hw_begin(groups);
-    *(long *)result = status == BF_OK || status == BF_NO_HARDWARE ? compare((uint64_t)(size_t)result, 13, 0) : 1;
+    *(long *)result = status == expected || status == BF_NO_HARDWARE ? compare((uint64_t)(size_t)result, 13, 0) : 1;
     return NULL;
 }
 
@@ -168,6 +170,7 @@ int main(int count, char **words)
     long results[THREADS], wrong = 0;
     uint32_t status;
     groups = count > 1 ? (uint32_t)strtoul(words[1], NULL, 10) : BF_HW_ALL;
+    expected = count > 2 ? (uint32_t)strtoul(words[2], NULL, 10) : BF_OK;
     wrong += bf_hw_groups() != 0;
     wrong += compare(1, 5, 1);
     for (int i = 0; i < THREADS; i++)
@@ -182,5 +185,5 @@ int main(int count, char **words)
     wrong += bf_hw_begin(0) != BF_OK;
     wrong += compare(2, 1, 1);
     printf("groups %u: status %u, and %u go by kernels\n", groups, status, bf_hw_groups());
-    return wrong ? 1 : status == BF_NO_HARDWARE ? 77 : status != BF_OK;
+    return wrong ? 1 : status == BF_NO_HARDWARE ? 77 : status != expected;
 }
