@@ -1,7 +1,7 @@
 /* Calls each function of binary_field_hardware.h and the proved one of the same name with the same arguments, and compares statuses and
  * what they leave: before bf_hw_begin, by eight threads that begin at once, and behind it. Lengths are 0 to 40, and each array is also
- * one longer and one shorter than it should be. Hashes in pieces go on from states of messages, and from drawn bytes. An array has a block of its own of exactly its bytes, so that sanitizers and valgrind see
- * what reads or writes beside it, and an empty one is NULL.
+ * one longer and one shorter than it should be. Hashes in pieces go on from states of messages, and from drawn bytes. An array has a block of
+ * its own of exactly its bytes, so that sanitizers and valgrind see what reads or writes beside it, and an empty one is NULL.
  *
  *   hardware_calls [GROUPS [STATUS]]   the groups that begin, and the status that they have to begin with, BF_OK where none is named
  *

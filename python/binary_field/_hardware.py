@@ -31,9 +31,10 @@ class Hardware:
 
 
 def hardware(on: bool = True) -> Hardware:
-    """Has arrays of `Ghash128` and `Poly64`, `ghash`, `polyval` and single products of `BinaryField64` and `BinaryField128` go by the
-    carryless multiply instruction from now on, in all threads; with `on` false they go by the proved functions again, as they do where
-    nobody calls this. What it returns is true where they go by the instruction.
+    """Has arrays of `Ghash128` and `Poly64`, hashes of messages, whole and in pieces, and single products of `BinaryField64` and
+    `BinaryField128` go by the carryless multiply instruction from now on, in all threads; with `on` false they go by the proved functions
+    again, as they do where nobody calls this. A hash in pieces goes on either way. What it returns is true where they go by the
+    instruction.
 
     These functions are not proved. At the first call all are compared with the proved ones in this process, which takes some milliseconds:
     products on a basis, which determines them; transforms, hashes of many blocks and other schedules at drawn operands, which is not complete.
