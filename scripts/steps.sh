@@ -11,7 +11,7 @@ step() {
     local name=$1
     shift
     if "$@" >"$work/log" 2>&1; then
-        grep -h '^check_\|^Ran\|^test result' "$work/log" | sed 's/^/    /'
+        grep -h '^check_\|^hardware_\|^Ran\|^test result' "$work/log" | sed 's/^/    /'
         say "$name: as it has to be"
     else
         # (the scripts read it)

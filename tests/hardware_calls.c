@@ -153,7 +153,7 @@ static long compare(uint64_t seed, size_t step, int is_told)
                     }
         }
     if (is_told)
-        printf("%ld calls, %ld differ\n", calls, wrong);
+        printf("hardware_calls: %ld calls, %ld differ\n", calls, wrong);
     return wrong;
 }
 
@@ -184,6 +184,6 @@ int main(int count, char **words)
     wrong += bf_hw_groups() != (status == BF_OK ? groups & BF_HW_ALL : 0);
     wrong += bf_hw_begin(0) != BF_OK;
     wrong += compare(2, 1, 1);
-    printf("groups %u: status %u, and %u go by kernels\n", groups, status, bf_hw_groups());
+    printf("hardware_calls: groups %u, status %u, and %u go by kernels\n", groups, status, bf_hw_groups());
     return wrong ? 1 : status == BF_NO_HARDWARE ? 77 : status != expected;
 }

@@ -66,9 +66,9 @@ static int compare(const char *build, const bf_kernels *kernels, int rounds, dou
         }
         found |= where != NULL || best > most;
         if (where)
-            printf("%s, %s: %s\n", build, names[group], where);
+            printf("hardware_kernels: %s, %s: %s\n", build, names[group], where);
         else
-            printf("%s, %s: no difference, %.2f ms\n", build, names[group], best);
+            printf("hardware_kernels: %s, %s: no difference, %.2f ms\n", build, names[group], best);
     }
     return found;
 }
@@ -205,6 +205,6 @@ int main(int count, char **words)
             status |= schedules(builds[i]);
     }
     if (is_schedules)
-        printf("%ld compared at more lengths, %ld differ\n", compared, different);
+        printf("hardware_kernels: %ld compared at more lengths, %ld differ\n", compared, different);
     return status;
 }

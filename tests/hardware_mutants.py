@@ -191,7 +191,7 @@ class Tries:
             assert made.returncode == 0, made.stderr
             said = run(self.work / "tried", "compare")
             for name in builds:
-                lines = [it for it in said.stdout.splitlines() if it.startswith(f"{name},") and "no difference" not in it]
+                lines = [it for it in said.stdout.splitlines() if it.startswith(f"hardware_kernels: {name},") and "no difference" not in it]
                 if lines or said.returncode < 0:
                     found.setdefault(name, lines[0] if lines else f"signal {-said.returncode}")
         return found
