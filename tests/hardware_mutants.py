@@ -162,8 +162,7 @@ class Tries:
             if path.name != "kernels.c":
                 self.objects.append(self.work / f"{path.stem}.o")
                 self.make(path, self.objects[-1])
-        for name in BUILDS:
-            self.build(name, self.source)
+        self.kernels = {name: self.build(name, self.source) for name in BUILDS}
 
     def make(self, source, into, *more):
         """Compiles a file."""
@@ -177,23 +176,25 @@ class Tries:
         self.make(path, into, "-mpclmul", BUILDS[name], *more)
         return into
 
+    def different(self, builds, source):
+        """Where the comparison finds each build of a changed source, if it does; compiled fast, since only the form asks for the flags."""
+        changed = {name: self.build(name, source, "-O1", into=self.work / f"changed_{name}.o") for name in builds}
+        made = run("gcc", *self.objects, *({**self.kernels, **changed}.values()), self.archive, "-pthread", "-o", self.work / "tried")
+        assert made.returncode == 0, made.stderr
+        said, found = run(self.work / "tried", "compare"), {}
+        for name in builds:
+            lines = [it for it in said.stdout.splitlines() if it.startswith(f"hardware_kernels: {name},") and "no difference" not in it]
+            if lines or said.returncode < 0:
+                found[name] = lines[0] if lines else f"signal {-said.returncode}"
+        return found
+
     def refused(self, builds, source):
-        """By what each build of a changed source is refused, if it is."""
-        found = {}
-        changed = {name: self.build(name, source, into=self.work / f"changed_{name}.o") for name in builds}
-        for name, path in changed.items():
-            said = run(HARDWARE / "check-object", path)
-            if said.returncode:
-                found[name] = "check-object: " + said.stdout.partition("WRONG ")[2].partition("\n")[0]
-        if len(found) < len(builds):
-            rest = [changed.get(name, self.work / f"{name}.o") for name in BUILDS]
-            made = run("gcc", *self.objects, *rest, self.archive, "-pthread", "-o", self.work / "tried")
-            assert made.returncode == 0, made.stderr
-            said = run(self.work / "tried", "compare")
-            for name in builds:
-                lines = [it for it in said.stdout.splitlines() if it.startswith(f"hardware_kernels: {name},") and "no difference" not in it]
-                if lines or said.returncode < 0:
-                    found.setdefault(name, lines[0] if lines else f"signal {-said.returncode}")
+        """By what each build of a changed source is refused, if it is: the comparison, or else check-object."""
+        found = self.different(builds, source)
+        for name in builds:
+            said = "" if name in found else run(HARDWARE / "check-object", self.build(name, source, into=self.work / "form.o")).stdout
+            if "WRONG " in said:
+                found[name] = "check-object: " + said.partition("WRONG ")[2].partition("\n")[0]
         return found
 
 
@@ -225,7 +226,7 @@ def main():
             wrong += not is_refused
             told(is_refused, f"{old} -> {new}", *found.values())
         for old, new in KEPT:
-            found = tries.refused(AVX2, changed(tries.source, old, new))
+            found = tries.different(AVX2, changed(tries.source, old, new))
             wrong += bool(found)
             print("REFUSED, and changes no result" if found else "kept", "|", old, "->", new, "|", *found.values())
         for name, old, new in STRUCTURE:
