@@ -34,8 +34,8 @@ extern "C" {
 #define BF_HW_TOWERS 8u /* single products of the levels of 64 and 128 bits of the tower */
 #define BF_HW_ALL 15u
 
-/* Compares the kernels of each of these groups, which takes less than 3 ms a group and is done once in a process, and
- * has the group's functions go by them from then on. BF_OK: all of the groups go by kernels. BF_NO_HARDWARE: the
+/* Compares the kernels of each of these groups, which takes 1 to 3 ms a group and is done once in a process, and has
+ * the group's functions go by them from then on. BF_OK: all of the groups go by kernels. BF_NO_HARDWARE: the
  * processor has not the instructions. BF_DIFFERENT: of a group that was asked for a kernel differs, and the group stays
  * with the proved functions. Threads may call it at the same time. Other bits than those of groups are not read. */
 uint32_t bf_hw_begin(uint32_t groups) BF_CHECKED;

@@ -147,7 +147,7 @@ macro_rules! hashes {
 
 impl Hardware {
     /// The functions, where the processor has the instruction and none of them differs from the proved one. The first call in a process
-    /// compares them, in less than 12 ms; threads may call it at the same time.
+    /// compares them, in some 7 ms; threads may call it at the same time.
     pub fn begin() -> Option<Hardware> {
         // SAFETY: it takes no pointer.
         (unsafe { bf_hw_begin(ALL) } == crate::functions::BF_OK).then_some(Hardware(()))

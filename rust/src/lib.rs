@@ -9,7 +9,8 @@
 //!
 //! Three features are off by default, and stand in the manifest `features/Cargo.toml`. With `serde` an element is the number of its
 //! representation (`Poly192` the array of its coefficients), and a number above the field is refused. With `rand` the distribution
-//! `Standard` draws every element with the same likelihood. With `num-traits` elements have `Zero`, `One`, `Inv` and `Pow`.
+//! `Standard` draws every element with the same likelihood. With `num-traits` elements have `Zero`, `One`, `Inv` and `Pow`. Both manifests
+//! have the feature `hardware`: functions by the carryless multiply instruction, which are not proved, over a library that has them.
 //!
 //! ```
 //! use binary_field::{BinaryField128, Field, Ghash128, PrimeCharacteristicRing};
