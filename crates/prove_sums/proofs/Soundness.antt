@@ -43,22 +43,17 @@ rows-fit bound some (x ∷ xs) (y ∷ ys) one other zero = one 0
 rows-fit bound some (x ∷ xs) (y ∷ ys) one other (suc zero) = other 0
 rows-fit bound some (x ∷ xs) (y ∷ ys) one other (suc (suc i)) = rows-fit bound some xs ys (λ j. one (suc j)) (λ j. other (suc j)) i
 
-first-at : (xs ys : List ℕ) → length ys ≡ length xs → (i : ℕ) → i < length xs → slice_index (interleaved xs ys) (i * 2 + 0) ≡ slice_index xs i
-first-at [] ys same i below = absurd (omega (arith, below))
-first-at (x ∷ xs) [] same i below = absurd (omega (arith, same))
-first-at (x ∷ xs) (y ∷ ys) same zero below = refl
-first-at (x ∷ xs) (y ∷ ys) same (suc i) below =
-    let next : suc i * 2 + 0 ≡ suc (suc (i * 2 + 0)) = omega arith in
-    ap (slice_index (x ∷ y ∷ interleaved xs ys)) next ∙ first-at xs ys (omega (arith, same)) i (omega (arith, below))
-
-second-at : (xs ys : List ℕ) → length ys ≡ length xs → (i : ℕ) → i < length xs
-    → slice_index (interleaved xs ys) (i * 2 + 1) ≡ slice_index ys i
-second-at [] ys same i below = absurd (omega (arith, below))
-second-at (x ∷ xs) [] same i below = absurd (omega (arith, same))
-second-at (x ∷ xs) (y ∷ ys) same zero below = refl
-second-at (x ∷ xs) (y ∷ ys) same (suc i) below =
-    let next : suc i * 2 + 1 ≡ suc (suc (i * 2 + 1)) = omega arith in
-    ap (slice_index (x ∷ y ∷ interleaved xs ys)) next ∙ second-at xs ys (omega (arith, same)) i (omega (arith, below))
+rows-at : (xs ys : List ℕ) → length ys ≡ length xs → (i : ℕ) → i < length xs
+    → (slice_index (interleaved xs ys) (i * 2 + 0) ≡ slice_index xs i) × (slice_index (interleaved xs ys) (i * 2 + 1) ≡ slice_index ys i)
+rows-at [] ys same i below = absurd (omega (arith, below))
+rows-at (x ∷ xs) [] same i below = absurd (omega (arith, same))
+rows-at (x ∷ xs) (y ∷ ys) same zero below = (refl, refl)
+rows-at (x ∷ xs) (y ∷ ys) same (suc i) below =
+    let first : suc i * 2 + 0 ≡ suc (suc (i * 2 + 0)) = omega arith in
+    let second : suc i * 2 + 1 ≡ suc (suc (i * 2 + 1)) = omega arith in
+    let before = rows-at xs ys (omega (arith, same)) i (omega (arith, below)) in
+    let at = slice_index (x ∷ y ∷ interleaved xs ys) in
+    (ap at first ∙ before.0, ap at second ∙ before.1)
 
 module _ (width : ℕ) (times : ℕ → ℕ → ℕ) (ring : IsRing width 1 times) where
   -- the term at a row of two values
@@ -78,10 +73,10 @@ module _ (width : ℕ) (times : ℕ → ℕ → ℕ) (ring : IsRing width 1 time
       ∙ ap₂ times
       (sum_below-same (λ i. times (slice_index (interleaved xs ys) (i * 2 + 0)) (eq_corner times point i))
       (λ i. times (slice_index xs i) (eq_corner times point i)) (2 ^ length point)
-      (λ i below. ap (λ (v : ℕ). times v (eq_corner times point i)) (first-at xs ys same i (subst (λ (m : ℕ). i < m) (sym size) below))))
+      (λ i below. ap (λ (v : ℕ). times v (eq_corner times point i)) (rows-at xs ys same i (subst (λ (m : ℕ). i < m) (sym size) below)).0))
       (sum_below-same (λ i. times (slice_index (interleaved xs ys) (i * 2 + 1)) (eq_corner times point i))
       (λ i. times (slice_index ys i) (eq_corner times point i)) (2 ^ length point)
-      (λ i below. ap (λ (v : ℕ). times v (eq_corner times point i)) (second-at xs ys same i (subst (λ (m : ℕ). i < m) (sym size) below))))
+      (λ i below. ap (λ (v : ℕ). times v (eq_corner times point i)) (rows-at xs ys same i (subst (λ (m : ℕ). i < m) (sym size) below)).1))
 
 product-factors : HaveFactors 2 product_terms
 unfolding HaveFactors

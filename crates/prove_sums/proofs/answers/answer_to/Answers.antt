@@ -13,18 +13,14 @@ returns-in-Err-clause-answer g c =
 pub returns-then-not-accepted-clause-answer : goal.returns-then-not-accepted-clause-answer
 returns-then-not-accepted-clause-answer g c =
     let proof = c.in-Ok.proof in
-    answered g.H.ByteHasher32.digest c.args.hasher.now repr_of c.args.roots.now.left c.args.roots.now.right c.args.bytes.now proof.shape.rounds
-    proof.roots.left proof.roots.right proof.elements.items proof.nodes.now
-    (ok-told _ c.in_ok-proof.field-0 proof c.in-Ok.is c.in_ok-proof.ensures.whole) c.in_ok-accepted.accepted false (search rules) (search rules)
-    c.in_ok-accepted.ensures.verdict c.if-not-accepted.true
+    let file = ok-told _ c.in_ok-proof.field-0 proof c.in-Ok.is c.in_ok-proof.ensures.whole in
+    answered g.H.ByteHasher32.digest _ _ _ _ _ _ _ _ _ _ file _ false (search rules) (search rules) c.in_ok-accepted.ensures.verdict c.if-not-accepted.true
 
 pub returns-clause-answer : goal.returns-clause-answer
 returns-clause-answer g c =
     let proof = c.in-Ok.proof in
-    answered g.H.ByteHasher32.digest c.args.hasher.now repr_of c.args.roots.now.left c.args.roots.now.right c.args.bytes.now proof.shape.rounds
-    proof.roots.left proof.roots.right proof.elements.items proof.nodes.now
-    (ok-told _ c.in_ok-proof.field-0 proof c.in-Ok.is c.in_ok-proof.ensures.whole) c.in_ok-accepted.accepted true (search rules) (search rules)
-    c.in_ok-accepted.ensures.verdict c.if-not-accepted.false
+    let file = ok-told _ c.in_ok-proof.field-0 proof c.in-Ok.is c.in_ok-proof.ensures.whole in
+    answered g.H.ByteHasher32.digest _ _ _ _ _ _ _ _ _ _ file _ true (search rules) (search rules) c.in_ok-accepted.ensures.verdict c.if-not-accepted.false
 
 pub returns-clause-proof : goal.returns-clause-proof
 returns-clause-proof g c =
