@@ -241,7 +241,9 @@ impl Hardware {
         high: &mut [Ghash128],
         scalar: Ghash128,
     ) -> Result<(), Error> {
-        Error::of(call!(bf_hw_g128_butterfly_forward: [mut low], [mut high], (&raw const scalar).cast()))
+        Error::of(
+            call!(bf_hw_g128_butterfly_forward: [mut low], [mut high], (&raw const scalar).cast()),
+        )
     }
 
     /// high += low, and then low += scalar * high, at each place.
@@ -251,7 +253,9 @@ impl Hardware {
         high: &mut [Ghash128],
         scalar: Ghash128,
     ) -> Result<(), Error> {
-        Error::of(call!(bf_hw_g128_butterfly_inverse: [mut low], [mut high], (&raw const scalar).cast()))
+        Error::of(
+            call!(bf_hw_g128_butterfly_inverse: [mut low], [mut high], (&raw const scalar).cast()),
+        )
     }
 
     /// Runs the four lowest stages over runs of sixteen values, as [`low_stages`](crate::low_stages).

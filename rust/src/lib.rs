@@ -63,12 +63,12 @@ pub use bytes::{
 pub use erasure::TransformCode;
 pub use error::Error;
 pub use field::Field;
-#[cfg(feature = "hardware")]
-pub use hardware::{Carryless, Hardware, HashInPieces};
 pub use fields::{
     BinaryField2, BinaryField4, BinaryField8, BinaryField16, BinaryField32, BinaryField64,
     BinaryField128, Gf2, Ghash128, Poly64, Poly192, Rijndael8b,
 };
+#[cfg(feature = "hardware")]
+pub use hardware::{Carryless, Hardware, HashInPieces};
 pub use maps::{
     Transformed, butterfly_forward, butterfly_inverse, inverse_transform, linear_map,
     linear_map_of_bytes, low_stages, transform,

@@ -3,8 +3,14 @@
 
 mod drawn;
 
-use binary_field::{BinaryField64, BinaryField128, Carryless, Error, Field, Ghash, Ghash128, Hardware, HashInPieces, Poly64, Polyval};
-use binary_field::{butterfly_forward, butterfly_inverse, gcm_ghash, ghash, inverse_transform, low_stages, polyval, transform};
+use binary_field::{
+    BinaryField64, BinaryField128, Carryless, Error, Field, Ghash, Ghash128, Hardware,
+    HashInPieces, Poly64, Polyval,
+};
+use binary_field::{
+    butterfly_forward, butterfly_inverse, gcm_ghash, ghash, inverse_transform, low_stages, polyval,
+    transform,
+};
 use drawn::Draw;
 
 fn number(draw: &mut Draw) -> u128 {
@@ -23,7 +29,17 @@ fn arithmetic<F: Carryless + Field + PartialEq + core::fmt::Debug>(of: impl Fn(u
     let Some(hardware) = hardware() else { return };
     let mut draw = Draw(5);
     for n in [0, 1, 2, 3, 4, 5, 15, 16, 17, 64, 257] {
-        let mut next = || (0..n).map(|i| if i % 6 == 5 { F::ZERO } else { of(number(&mut draw)) }).collect::<Vec<F>>();
+        let mut next = || {
+            (0..n)
+                .map(|i| {
+                    if i % 6 == 5 {
+                        F::ZERO
+                    } else {
+                        of(number(&mut draw))
+                    }
+                })
+                .collect::<Vec<F>>()
+        };
         let (a, b, mut out) = (next(), next(), vec![F::ZERO; n]);
         let scalar = of(0x1234_5678_9abc_def0_0fed_cba9_8765_4321);
         hardware.multiply(&a, &b, &mut out).unwrap();
@@ -72,19 +88,41 @@ fn stages() {
     let Some(hardware) = hardware() else { return };
     let mut draw = Draw(7);
     for m in 0..11 {
-        let mut next = |n: usize| (0..n).map(|_| Ghash128::new(number(&mut draw))).collect::<Vec<_>>();
-        let (a, b, basis, shifts, runs) = (next(1 << m), next(1 << m), next(m + 9), next(4), next(16 * m));
-        let same = |ours: &dyn Fn(&mut [Ghash128], &mut [Ghash128]), proved: &dyn Fn(&mut [Ghash128], &mut [Ghash128])| {
+        let mut next = |n: usize| {
+            (0..n)
+                .map(|_| Ghash128::new(number(&mut draw)))
+                .collect::<Vec<_>>()
+        };
+        let (a, b, basis, shifts, runs) = (
+            next(1 << m),
+            next(1 << m),
+            next(m + 9),
+            next(4),
+            next(16 * m),
+        );
+        let same = |ours: &dyn Fn(&mut [Ghash128], &mut [Ghash128]),
+                    proved: &dyn Fn(&mut [Ghash128], &mut [Ghash128])| {
             let (mut x, mut y, mut u, mut v) = (a.clone(), b.clone(), a.clone(), b.clone());
             ours(&mut x, &mut y);
             proved(&mut u, &mut v);
             assert_eq!((x, y), (u, v));
         };
         let s = shifts[0];
-        same(&|x, y| hardware.butterfly_forward(x, y, s).unwrap(), &|x, y| butterfly_forward(x, y, s).unwrap());
-        same(&|x, y| hardware.butterfly_inverse(x, y, s).unwrap(), &|x, y| butterfly_inverse(x, y, s).unwrap());
-        same(&|x, _| hardware.transform(x, s).unwrap(), &|x, _| transform(x, s).unwrap());
-        same(&|x, _| hardware.inverse_transform(x, s).unwrap(), &|x, _| inverse_transform(x, s).unwrap());
+        same(
+            &|x, y| hardware.butterfly_forward(x, y, s).unwrap(),
+            &|x, y| butterfly_forward(x, y, s).unwrap(),
+        );
+        same(
+            &|x, y| hardware.butterfly_inverse(x, y, s).unwrap(),
+            &|x, y| butterfly_inverse(x, y, s).unwrap(),
+        );
+        same(&|x, _| hardware.transform(x, s).unwrap(), &|x, _| {
+            transform(x, s).unwrap()
+        });
+        same(
+            &|x, _| hardware.inverse_transform(x, s).unwrap(),
+            &|x, _| inverse_transform(x, s).unwrap(),
+        );
         let (mut x, mut y) = (runs.clone(), runs);
         hardware.low_stages(&mut x, &shifts, &basis, m).unwrap();
         low_stages(&mut y, &shifts, &basis, m).unwrap();
@@ -103,7 +141,10 @@ fn hashes() {
         assert_eq!(hardware.ghash(&key, part), ghash(&key, part));
         assert_eq!(hardware.polyval(&key, part), polyval(&key, part));
         let (associated, text) = part.split_at(length / 3);
-        assert_eq!(hardware.gcm_ghash(&key, associated, text), gcm_ghash(&key, associated, text));
+        assert_eq!(
+            hardware.gcm_ghash(&key, associated, text),
+            gcm_ghash(&key, associated, text)
+        );
     }
 }
 
@@ -121,15 +162,30 @@ fn in_pieces<H: HashInPieces + Clone>(
         let message: Vec<u8> = (0..length).map(|_| draw.next() as u8).collect();
         let (mut ours, mut proved) = (hardware.new_hash::<H>(&key), new(&key));
         for (turn, part) in message.chunks(1 + length / 3).enumerate() {
-            let (one, other) = if turn % 2 == 0 { (&mut ours, &mut proved) } else { (&mut proved, &mut ours) };
+            let (one, other) = if turn % 2 == 0 {
+                (&mut ours, &mut proved)
+            } else {
+                (&mut proved, &mut ours)
+            };
             hardware.update(one, part);
             update(other, part);
         }
-        assert_eq!([hardware.finalize(ours.clone()), finalize(ours.clone())], [whole(&key, &message); 2]);
-        assert_eq!([hardware.finalize(proved.clone()), finalize(proved.clone())], [whole(&key, &message); 2]);
+        assert_eq!(
+            [hardware.finalize(ours.clone()), finalize(ours.clone())],
+            [whole(&key, &message); 2]
+        );
+        assert_eq!(
+            [hardware.finalize(proved.clone()), finalize(proved.clone())],
+            [whole(&key, &message); 2]
+        );
         hardware.pad(&mut ours);
         update(&mut ours, b"more");
-        let padded = [&message[..], &vec![0; message.len().next_multiple_of(16) - message.len()], b"more"].concat();
+        let padded = [
+            &message[..],
+            &vec![0; message.len().next_multiple_of(16) - message.len()],
+            b"more",
+        ]
+        .concat();
         assert_eq!(hardware.finalize_reset(&mut ours), whole(&key, &padded));
         assert_eq!(finalize(ours), [0; 16]);
     }
@@ -145,6 +201,9 @@ fn hashes_in_pieces() {
     hardware.update(&mut hash, &associated);
     hardware.pad(&mut hash);
     hardware.update(&mut hash, &text);
-    assert_eq!(hardware.finalize_gcm(hash.clone(), 21, 40), Ok(gcm_ghash(&key, &associated, &text)));
+    assert_eq!(
+        hardware.finalize_gcm(hash.clone(), 21, 40),
+        Ok(gcm_ghash(&key, &associated, &text))
+    );
     assert_eq!(hardware.finalize_gcm(hash, 21, 1 << 61), Err(Error::Length));
 }
