@@ -33,11 +33,13 @@ typedef uint32_t dot(const void *, size_t, const void *, size_t, void *);
 typedef uint32_t pairs(void *, size_t, void *, size_t, const bf_u128 *);
 typedef uint32_t stages(void *, size_t, const void *, size_t, const void *, size_t, size_t);
 typedef uint32_t whole(void *, size_t, const bf_u128 *);
+typedef uint32_t piece(bf_ghash_state *, const void *, size_t);
 /* Any of them; a row casts it to what it is. */
 typedef void (*function)(void);
 
 static bf_u128 *a, *b, *out, *many, scalar, point, basis[40];
 static uint8_t *bytes, key[16];
+static bf_ghash_state state;
 
 static void products_128(function f) { (void)!((three *)f)(a, N, b, N, out, N); }
 static void scaled_128(function f) { (void)!((by_128 *)f)(a, N, &scalar, out, N); }
@@ -80,6 +82,8 @@ static void hash_64(function f) { hash(f, 64); }
 static void hash_1k(function f) { hash(f, 1024); }
 static void hash_16k(function f) { hash(f, 16384); }
 static void hash_1m(function f) { hash(f, MOST); }
+static void piece_16(function f) { (void)!((piece *)f)(&state, bytes, 16); }
+static void piece_1k(function f) { (void)!((piece *)f)(&state, bytes, 1024); }
 
 /* A row: what it is, the function by its name, how many operations a call counts, and the call. */
 static const struct {
@@ -112,6 +116,8 @@ static const struct {
     {"GHASH of 1 KiB, a byte", "tag_ghash", 1024, hash_1k},
     {"GHASH of 16 KiB, a byte", "tag_ghash", 16384, hash_16k},
     {"GHASH of 1 MiB, a byte", "tag_ghash", MOST, hash_1m},
+    {"GHASH, a piece of 16 bytes", "tag_ghash_update", 1, piece_16},
+    {"GHASH, a piece of 1 KiB, a byte", "tag_ghash_update", 1024, piece_1k},
     {"POLYVAL of 16 KiB, a byte", "tag_polyval", 16384, hash_16k},
 };
 
@@ -233,6 +239,7 @@ int main(int count, char **words)
     fill(&point, sizeof point);
     fill(basis, sizeof basis);
     fill(key, sizeof key);
+    fill(&state, 80); /* the powers and the sum; no bytes wait */
     printf("| Nanoseconds |");
     for (int side = 0; side < SIDES; side++)
         printf(" %s |", titles[side]);
