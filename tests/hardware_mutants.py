@@ -141,7 +141,7 @@ STRUCTURE = [
      "STORE(out + i, i == 5000 ? MUL(LOAD(a + i), LOAD(b + i), 0x00) : product_128(LOAD(a + i), LOAD(b + i)));"),
     ("two elements a turn", PRODUCT, PRODUCT + "\n    if (n > 1)\n        STORE(out + 1, product_128(LOAD(a + 1), LOAD(b + 1)));"),
     ("a minimum", PRODUCT, "STORE(out + i, _mm_min_epu8(LOAD(a + i), LOAD(b + i)));"),
-    ("a product in a chain", "V s = LOAD(shift);\n    size_t", "V s = MUL(LOAD(shift), PAIR(0, 1), 0x00);\n    size_t"),
+    ("a product in a chain", "STORE(state.shifts + j, s);", "STORE(state.shifts + j, MUL(s, PAIR(0, 1), 0x00));"),
 ]
 
 
