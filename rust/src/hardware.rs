@@ -10,7 +10,7 @@ use crate::{BinaryField64, BinaryField128, Error, Field, Ghash, Ghash128, Poly64
 /// has goes by the proved functions, whether there is such a value or not. Each method gives what the function of its name gives.
 ///
 /// ```
-/// use binary_field::{Ghash128, Hardware, PrimeCharacteristicRing};
+/// use binary_field::{Field, Ghash128, Hardware, PrimeCharacteristicRing};
 ///
 /// let (a, b) = (Ghash128::new(1 << 127), Ghash128::new(2));
 /// let mut products = [Ghash128::ZERO];
