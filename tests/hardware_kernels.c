@@ -1,8 +1,8 @@
 /* The kernels of hardware/ as each build made them, beside the proved library. It is linked with the objects of hardware/ themselves.
  *
- *   hardware_kernels compare [ROUNDS [MILLISECONDS]]   what the comparison of each group says: where it finds a difference, or else the
- *                                                      least of so many times that it took, which may not be more than that
- *   hardware_kernels schedules                         at more lengths than the comparison has: inverses, powers, transforms and hashes
+ *   hardware_kernels compare [ROUNDS]   what the comparison of each group says: where it finds a difference, or else the least of so
+ *                                       many times that it took
+ *   hardware_kernels schedules          at more lengths than the comparison has: inverses, powers, transforms and hashes
  *
  * The exit status is 1 where anything differs. */
 #include "hardware.h"
@@ -50,7 +50,7 @@ static void same(const char *name, const void *got, const void *want, size_t byt
     }
 }
 
-static int compare(const char *build, const bf_kernels *kernels, int rounds, double most)
+static int compare(const char *build, const bf_kernels *kernels, int rounds)
 {
     static const char *(*const groups[])(const bf_kernels *) = {bf_compare_g128, bf_compare_p64, bf_compare_hashes, bf_compare_towers};
     static const char *const names[] = {"g128", "p64", "hashes", "towers"};
@@ -64,7 +64,7 @@ static int compare(const char *build, const bf_kernels *kernels, int rounds, dou
             began = milliseconds() - began;
             best = began < best ? began : best;
         }
-        found |= where != NULL || best > most;
+        found |= where != NULL;
         if (where)
             printf("hardware_kernels: %s, %s: %s\n", build, names[group], where);
         else
@@ -198,9 +198,8 @@ int main(int count, char **words)
     int builds_here = __builtin_cpu_supports("avx2") ? 2 : 1;
 #endif
     int is_schedules = count > 1 && !strcmp(words[1], "schedules"), rounds = count > 2 ? atoi(words[2]) : 1, status = 0;
-    double most = count > 3 ? atof(words[3]) : 1e9;
     for (int i = 0; i < builds_here; i++) {
-        status |= compare(names[i], builds[i], rounds, most);
+        status |= compare(names[i], builds[i], rounds);
         if (is_schedules && !status)
             status |= schedules(builds[i]);
     }
