@@ -352,10 +352,6 @@ def erasure_cases(draw):
         yield case("erasure_verify", data, parity, words, coded, space, [1])
         for changed in ((words[:-1] + [words[-1] ^ 1], coded), (words, [coded[0] ^ 0x8000] + coded[1:])):
             yield case("erasure_verify", data, parity, *changed, space, [0])
-        factor = draw.choice((0, 1, 2, 0x8E, 255, draw.getrandbits(8)))
-        multiple = [a ^ definitions.make_shards.multiply(factor, b) for a, b in zip(sums, content[:size])]
-        yield case("rs_add_multiple", factor, list(content[:size]), (sums, multiple))
-        yield from factor_cases(draw, data, parity)
         for lost in sorted({0, 1, parity // 2, parity}):
             missing = set(draw.sample(range(total), lost))
             damaged = [draw.getrandbits(16) if at // size in missing else it for at, it in enumerate(words + coded)]
@@ -363,7 +359,6 @@ def erasure_cases(draw):
             halves = (damaged[: data * size], words), (damaged[data * size :], coded)
             yield case("erasure_reconstruct", data, parity, *halves, present, space)
         few = [0] * (parity + 1) + [1] * (data - 1)
-        yield refused(case("rs_shard_factors", data, parity, few, 0, [0] * total), "BF_TOO_FEW_SHARDS")
         yield refused(case("erasure_reconstruct", data, parity, (words, words), (coded, coded), few, space), "BF_TOO_FEW_SHARDS")
     # There is no code of such counts, whatever the lengths.
     for data, parity in ((0, 1), (1, 0), (1, 65536), (32769, 1), (65536, 1), (65537, 1), (1 << 63, 1 << 63), ((1 << 64) - 1, 1), (1, (1 << 64) - 1)):
