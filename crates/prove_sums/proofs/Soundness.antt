@@ -8,8 +8,6 @@ use Rattle.std.proofs.lemmas.Nat.{pow-add, pow_pos}
 use native.Mathlib.Nat.{mod-eq_of_lt}
 use lib.Bits.{xor_zero_r}
 use Rattle.field_base.specs.Basis.{product_below}
-use Rattle.field_base.specs.Field.{IsField}
-use Rattle.field_base.specs.Orders.{AreCantorVectors}
 use Rattle.field_base.specs.Ring.{IsRing}
 use Rattle.field_base.proofs.BasisSums.{sum_below-same}
 use Rattle.field_base.proofs.Places.{numbers-lt}
@@ -22,15 +20,15 @@ use Rattle.merkle_trees.specs.MerkleTrees.{HaveDigestSize}
 use Rattle.sum_checks.specs.Sumcheck.{messages_of}
 use Rattle.sum_checks.specs.SumcheckClaims.{AreMessages, FalseClaimsNeedLuck, IsClaimShape, IsSaved, reduced_claim}
 use Rattle.sum_checks.specs.Terms.{HaveFactors, cube_sum, table_value, terms_value}
-use Rattle.protocols.specs.OpenedTables.{AreLuckyPlaces, CommitsTo, HasLuckyCoordinate, OpenedValuesNeedLuck}
+use Rattle.protocols.specs.OpenedTables.{AreColumnsOf, AreLuckyPlaces, CommitsTo, HasLuckyCoordinate, OpenedValuesNeedLuck}
 use Rattle.protocols.specs.RootColumns.{AreAccepted, HaveOtherColumns, RootsHoldColumns, SentColumns, column_bytes}
 use Rattle.protocols.specs.Tables.{AgreesAt}
 use Rattle.protocols.proofs.ProofBytes.{length-proof, proof-cons}
 use Rattle.protocols.proofs.TableOpenings.{opens-same, row-room}
 use Rattle.prove_sums.specs.Shapes.{columns_in, columns_size, depth_of, element_count, levels_of, messages_in, nodes_in, row_in, row_size, rows_of, sum_in}
 use Rattle.prove_sums.specs.ProofFiles.{file_bytes}
-use Rattle.prove_sums.specs.Soundness.{AcceptedFile, AcceptedProof, ElementsShowSum, FilesShowSums, HasPoints, ShowsSum, SumsAreProved, SumsNeedLuck, sent_columns}
-use Rattle.prove_sums.specs.Verdicts.{IsProductAt, OpensTable, checks_number, gives_number, interleaved, observes_number, passes_number, product_terms, samples_bits, word_times, word_vector}
+use Rattle.prove_sums.specs.Soundness.{AcceptedFile, AcceptedProof, ElementsShowSum, FilesShowSums, HasPoints, HasSent, HaveColumns, RootsShowSums, ShowsSum, SumsAreProved, SumsNeedLuck, sent_columns}
+use Rattle.prove_sums.specs.Verdicts.{OpensTable, checks_number, gives_number, interleaved, observes_number, passes_number, product_terms, samples_bits, word_times, word_vector}
 use Rattle.prove_sums.proofs.SumSteps.{messages-length, product-within, rows-length}
 
 -- ---- two tables as rows
@@ -253,7 +251,7 @@ module _ {C F : Type 0} (observes : C → F → C → Type 0) (gives : C → F �
         ∙ opens.agrees.agrees k below;
   }
 
-  shows : (one other : ℕ → List ℕ) → ((p i : ℕ) → slice_index (one p) i < 2 ^ width) → ((p i : ℕ) → slice_index (other p) i < 2 ^ width)
+  shows : (one other : ℕ → List ℕ) → AreColumnsOf width (2 ^ 2 * 2 ^ levels_of n) one → AreColumnsOf width (2 ^ 2 * 2 ^ levels_of n) other
       → (p : Proof)
       → ((k : ℕ) → k < length p.verdict.places
       → map repr (row_at (2 ^ rows_of n) (columns_in n 0 p.elements) k) ≡ one (slice_index p.verdict.places k))
@@ -263,7 +261,7 @@ module _ {C F : Type 0} (observes : C → F → C → Type 0) (gives : C → F �
   shows one other one_fits other_fits p one_same other_same =
       luck width times vector wide points.field points.vectors points.fit (levels_of n) 2 e one other (sum_in repr p.elements)
       (map (map repr) (messages_of 2 n (messages_in n p.elements))) (map repr (first p)) (map repr others) (map repr (row_in n 0 p.elements))
-      (map repr (row_in n 1 p.elements)) p.verdict.places deep radius others_long (λ q i below. one_fits q i) (λ q i below. other_fits q i)
+      (map repr (row_in n 1 p.elements)) p.verdict.places deep radius others_long one_fits other_fits
       (numbers-lt repr width points.range p.elements 0) (messages-are repr width n points.range (messages_in n p.elements) messages_long) same_length reduced
       (agreed 0 left p (opens-left p) one one_same) (agreed 1 right p (opens-right p) other other_same)
     where
@@ -304,41 +302,37 @@ module _ {C F : Type 0} (observes : C → F → C → Type 0) (gives : C → F �
 
   module _ (count : ℕ) (proof : ℕ → Proof) where
     abbrev Held : ℕ → Type 0
-    Held which = (column : ℕ → List ℕ) × ((p i : ℕ) → slice_index (column p) i < 2 ^ width)
-        × ((i k : ℕ) → i < count → k < length (sent which (proof i)).places
-        → (sent which (proof i)).column k ≡ column (slice_index (sent which (proof i)).places k))
+    Held which = HaveColumns width (2 ^ 2 * 2 ^ levels_of n) count (λ i. sent which (proof i))
 
     abbrev Other : ℕ → List ℕ → Type 0
     Other which root = HaveOtherColumns hash size (depth_of n) root count (λ i. sent which (proof i))
 
     held : (which : ℕ) (root : List ℕ) → ((p : Proof) → Opens which root p) → Held which ⊎ Other which root
     held which root opens =
-        hold hash digest digests size width (depth_of n) (2 ^ rows_of n) root points.room count (λ i. sent which (proof i))
-        (λ i below. accepted which root (proof i) (opens (proof i)))
+        within
+        (hold hash digest digests size width (depth_of n) (2 ^ rows_of n) root points.room count (λ i. sent which (proof i))
+        (λ i below. accepted which root (proof i) (opens (proof i))))
+      where
+        within : ((column : ℕ → List ℕ) × ((p i : ℕ) → slice_index (column p) i < 2 ^ width) × HasSent count (λ i. sent which (proof i)) column)
+            ⊎ Other which root → Held which ⊎ Other which root
+        within (inl found) = inl (found.0, (λ p i below. found.1 p i), found.2)
+        within (inr collision) = inr collision
 
-    pub proofs-show : ((one other : ℕ → List ℕ) × ((p i : ℕ) → p < 2 ^ 2 * 2 ^ levels_of n → slice_index (one p) i < 2 ^ width)
-        × ((p i : ℕ) → p < 2 ^ 2 * 2 ^ levels_of n → slice_index (other p) i < 2 ^ width)
-        × ((i : ℕ) → i < count
-        → ElementsShowSum repr width times vector n e one other (proof i).elements (proof i).verdict.point (proof i).verdict.places))
-        ⊎ Other 0 left ⊎ Other 1 right
+    pub proofs-show : RootsShowSums repr hash size width times vector n e left right count (λ i. (proof i).elements) (λ i. (proof i).nodes)
+        (λ i. (proof i).verdict.point) (λ i. (proof i).verdict.places)
     proofs-show = join (held 0 left opens-left) (held 1 right opens-right)
       where
         join : Held 0 ⊎ Other 0 left → Held 1 ⊎ Other 1 right
-            → ((one other : ℕ → List ℕ) × ((p i : ℕ) → p < 2 ^ 2 * 2 ^ levels_of n → slice_index (one p) i < 2 ^ width)
-            × ((p i : ℕ) → p < 2 ^ 2 * 2 ^ levels_of n → slice_index (other p) i < 2 ^ width)
-            × ((i : ℕ) → i < count
-            → ElementsShowSum repr width times vector n e one other (proof i).elements (proof i).verdict.point (proof i).verdict.places))
-            ⊎ Other 0 left ⊎ Other 1 right
+            → RootsShowSums repr hash size width times vector n e left right count (λ i. (proof i).elements) (λ i. (proof i).nodes)
+            (λ i. (proof i).verdict.point) (λ i. (proof i).verdict.places)
         join (inr collision) other = inr (inl collision)
         join (inl one) (inr collision) = inr (inr collision)
         join (inl one) (inl other) =
             inl (
-              one.0,
-              other.0,
-              (λ p i below. one.1 p i),
-              (λ p i below. other.1 p i),
-              λ i below.
-                  shows one.0 other.0 one.1 other.1 (proof i) (λ k inside. one.2 i k below inside) (λ k inside. other.2 i k below inside),
+              one,
+              other,
+              λ a b a_fits b_fits a_has b_has i below.
+                  shows a b a_fits b_fits (proof i) (λ k inside. a_has i k below inside) (λ k inside. b_has i k below inside),
             )
 
 pub sums_are_proved : {C F : Type 0} (observes gives : C → F → C → Type 0) (passing : C → ℕ → ℕ → Bool) (checks : C → ℕ → ℕ → C → Type 0)

@@ -88,9 +88,32 @@ ElementsShowSum repr width times vector n e one other elements point places =
     (map (map repr) (messages_of 2 n (messages_in n elements))) (map repr (take (rows_of n) point)) (map repr (drop (rows_of n) point))
     (map repr (row_in n 0 elements)) (map repr (row_in n 1 elements)) places
 
--- Of any proofs that are accepted for the same roots, as many as one likes, there are two functions of columns, one for each root, of which
--- each proof shows its sum; or two proofs open other columns at one place, and have a collision of the hash function. The columns are those
--- of all proofs, so that what is lucky is the same for all, and so are the tables to which they commit (`TableIsOne` of `protocols`).
+-- a function of columns has those of so many openings at their places
+abbrev pub HasSent : ℕ → (ℕ → SentColumns) → (ℕ → List ℕ) → Type 0
+HasSent count sent column =
+    (i k : ℕ) → i < count → k < length (sent i).places → (sent i).column k ≡ column (slice_index (sent i).places k)
+
+-- there is a function of columns of elements, over so many places, that has those of the openings
+abbrev pub HaveColumns : ℕ → ℕ → ℕ → (ℕ → SentColumns) → Type 0
+HaveColumns width size count sent = (column : ℕ → List ℕ) × AreColumnsOf width size column × HasSent count sent column
+
+-- What so many proofs show that open columns of two roots. There are functions of columns that have all that they open, and each proof shows
+-- its sum of any such functions: so of the columns that a prover has committed to, whatever is opened of them. The functions are of all
+-- proofs, so that what is lucky is the same for all, and so are the tables to which they commit (`TableIsOne` of `protocols`). Or two proofs
+-- open other columns at one place, and have a collision of the hash function.
+abbrev pub RootsShowSums : {F : Type 0} → (F → ℕ) → (List ℕ → List ℕ) → ℕ → ℕ → (ℕ → ℕ → ℕ) → (ℕ → ℕ) → ℕ → ℕ → List ℕ → List ℕ → ℕ
+    → (ℕ → List F) → (ℕ → List (List ℕ)) → (ℕ → List F) → (ℕ → List ℕ) → Type 0
+RootsShowSums repr hash size width times vector n e left right count elements nodes point places =
+    (HaveColumns width (2 ^ 2 * 2 ^ levels_of n) count (λ i. sent_columns repr n 0 (elements i) (nodes i) (places i))
+    × HaveColumns width (2 ^ 2 * 2 ^ levels_of n) count (λ i. sent_columns repr n 1 (elements i) (nodes i) (places i))
+    × ((one other : ℕ → List ℕ) → AreColumnsOf width (2 ^ 2 * 2 ^ levels_of n) one → AreColumnsOf width (2 ^ 2 * 2 ^ levels_of n) other
+    → HasSent count (λ i. sent_columns repr n 0 (elements i) (nodes i) (places i)) one
+    → HasSent count (λ i. sent_columns repr n 1 (elements i) (nodes i) (places i)) other
+    → (i : ℕ) → i < count → ElementsShowSum repr width times vector n e one other (elements i) (point i) (places i)))
+    ⊎ HaveOtherColumns hash size (depth_of n) left count (λ i. sent_columns repr n 0 (elements i) (nodes i) (places i))
+    ⊎ HaveOtherColumns hash size (depth_of n) right count (λ i. sent_columns repr n 1 (elements i) (nodes i) (places i))
+
+-- any proofs that are accepted for the same roots, as many as one likes, show sums of what these hold
 abbrev pub SumsAreProved : {C F : Type 0} → (C → F → C → Type 0) → (C → F → C → Type 0) → (C → ℕ → ℕ → Bool)
     → (C → ℕ → ℕ → C → Type 0) → (C → ℕ → ℕ → C → Type 0) → (F → ℕ) → (F → ℕ) → ℕ → ℕ → (ℕ → ℕ → ℕ) → (ℕ → ℕ) → Type 0
 SumsAreProved observes gives passing checks gives_bits number repr size width times vector =
@@ -98,13 +121,8 @@ SumsAreProved observes gives passing checks gives_bits number repr size width ti
     → (n e : ℕ) (left right : List ℕ) → 2 ≤ width → depth_of n ≤ width → 2 * e + 2 ^ levels_of n ≤ 2 ^ 2 * 2 ^ levels_of n
     → (count : ℕ)
     (proof : ℕ → AcceptedProof observes gives passing checks gives_bits number repr size width times vector hash digest n left right)
-    → ((one other : ℕ → List ℕ) × AreColumnsOf width (2 ^ 2 * 2 ^ levels_of n) one × AreColumnsOf width (2 ^ 2 * 2 ^ levels_of n) other
-    × ((i : ℕ) → i < count
-    → ElementsShowSum repr width times vector n e one other (proof i).elements (proof i).verdict.point (proof i).verdict.places))
-    ⊎ HaveOtherColumns hash size (depth_of n) left count
-    (λ i. sent_columns repr n 0 (proof i).elements (proof i).nodes (proof i).verdict.places)
-    ⊎ HaveOtherColumns hash size (depth_of n) right count
-    (λ i. sent_columns repr n 1 (proof i).elements (proof i).nodes (proof i).verdict.places)
+    → RootsShowSums repr hash size width times vector n e left right count (λ i. (proof i).elements) (λ i. (proof i).nodes)
+    (λ i. (proof i).verdict.point) (λ i. (proof i).verdict.places)
 
 -- ---- of files
 
@@ -123,13 +141,8 @@ FilesShowSums {F} {H} digest repr =
     (hasher : H) → ((bytes : List ℕ) → length (digest hasher bytes) ≡ 32)
     → (n e : ℕ) (left right : List ℕ) → 2 * e + 2 ^ levels_of n ≤ 2 ^ 2 * 2 ^ levels_of n
     → (count : ℕ) (file : ℕ → AcceptedFile digest hasher repr n left right)
-    → ((one other : ℕ → List ℕ) × AreColumnsOf 128 (2 ^ 2 * 2 ^ levels_of n) one × AreColumnsOf 128 (2 ^ 2 * 2 ^ levels_of n) other
-    × ((i : ℕ) → i < count
-    → ElementsShowSum repr 128 word_times word_vector n e one other (file i).elements (file i).verdict.point (file i).verdict.places))
-    ⊎ HaveOtherColumns (digest hasher) 16 (depth_of n) left count
-    (λ i. sent_columns repr n 0 (file i).elements (file i).nodes (file i).verdict.places)
-    ⊎ HaveOtherColumns (digest hasher) 16 (depth_of n) right count
-    (λ i. sent_columns repr n 1 (file i).elements (file i).nodes (file i).verdict.places)
+    → RootsShowSums repr (digest hasher) 16 128 word_times word_vector n e left right count (λ i. (file i).elements) (λ i. (file i).nodes)
+    (λ i. (file i).verdict.point) (λ i. (file i).verdict.places)
 
 -- .. of words
 abbrev pub WordFilesShowSums : {H : Type 0} → (H → List ℕ → List ℕ) → Type 0

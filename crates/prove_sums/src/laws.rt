@@ -21,8 +21,9 @@ fn field_has_points<F: ByteLevel>()
 {}
 
 /// States what proofs show that `verify` accepts for the same roots, any number of them, in transcripts of any challenger and for every
-/// hash function whose digests have one length: they are of one function of columns for each root, and each shows its sum of the tables to
-/// which these commit; or two of them have two inputs of the hash function that differ and have one digest.
+/// hash function whose digests have one length: for each root a function of columns has all that they open, and whatever such functions
+/// are, each proof shows its sum of the tables to which these commit; or two of them have two inputs of the hash function that differ and
+/// have one digest.
 pub fn sums_are_proved<
     F: ByteLevel,
     C: FieldChallenger<F> + GrindingChallenger<Witness = F> + CanSampleUniformBits<F>,
