@@ -2,17 +2,18 @@
 use Rattle.std.proofs.Common.{◌≡◌, ◌⊎◌, inl, inr, ℕ, ◌+◌, ◌-◌, ◌*◌, ◌/◌, ◌%◌, ◌^◌, ◌<◌, ◌≤◌, false, List, [], ◌∷◌, ◌++◌, length, map, take, drop, refl, sym, ◌∙◌, ap, ap₂, subst, le_trans, arith, lit<}
 use Rattle.std.specs.Prelude.{bit_xor, nat_eq, not, slice_index}
 use Rattle.std.specs.List.{range_with_len}
-use Rattle.std.proofs.Math.Nat.{add-mul, mod-lt, mul-le-mul_right, pow-le-pow_right, two-pow-succ}
+use Rattle.std.proofs.Math.Nat.{add-mul, mod-lt, mul-le-mul_right, mul_comm, pow-le-pow_right, two-pow-succ}
 use Rattle.std.proofs.lemmas.Bool.{cases_lt}
 use Rattle.std.proofs.lemmas.Bool.Decides.{eqb_tells}
 use Rattle.std.proofs.lemmas.Grind.{same_number_lists}
 use Rattle.std.proofs.lemmas.List.{get_or-drop, get_or-take, get_or_past, length-append, length-drop, length-take-le}
 use Rattle.std.proofs.lemmas.List.FromFn.{get_or-map-range_with_len, length-map-range_with_len}
-use Rattle.std.proofs.lemmas.Nat.{div-add-mod', div-mul-add, div_below, pow-add, pow_pos, xor_comm, xor_lt}
+use Rattle.std.proofs.lemmas.Nat.{div-add-mod', div-mul-add, div_below, mul-add-lt, pow-add, pow_pos, xor_comm, xor_lt}
 use native.Mathlib.Nat.{one-mul}
 use lib.Bits.{xor_zero_r}
 use Rattle.field_base.specs.Basis.{sum_below}
 use Rattle.field_base.specs.Field.{IsField}
+use Rattle.field_base.specs.Orders.{AreCantorVectors}
 use Rattle.field_base.specs.Ring.{IsRing}
 use Rattle.field_base.proofs.BasisSums.{sum_below-same}
 use Rattle.field_base.proofs.PowerLemmas.{times-one}
@@ -28,7 +29,7 @@ use Rattle.proximity.proofs.Openings.{near_is_unique, openings_need_luck}
 use Rattle.proximity.proofs.Words.{word-fits}
 use Rattle.merkle_trees.specs.Commitments.{row_at}
 use Rattle.protocols.specs.CodeWords.{IsCodeWordOf}
-use Rattle.protocols.specs.OpenedTables.{AreLuckyPlaces, CommitsTo, HasLuckyCoordinate, OpenedRowsNeedLuck, OpenedValuesNeedLuck, TableIsOne, column_symbol}
+use Rattle.protocols.specs.OpenedTables.{CommitsTo, HasLuckyCoordinate, OpenedRowsNeedLuck, OpenedValuesNeedLuck, ShowsTable, TableIsOne, column_symbol}
 use Rattle.protocols.specs.Tables.{column_at, column_values}
 use Rattle.protocols.proofs.TableLaws.{column_values_evaluate}
 
@@ -60,11 +61,7 @@ module _ (height size : ℕ) (M : ℕ → ℕ → ℕ) where
   listed-length = length-map-range_with_len (λ t. M (t / size) (t % size)) 0 (height * size)
 
   place-lt : (i p : ℕ) → i < height → p < size → i * size + p < height * size
-  place-lt i p below inside =
-      let more : i + 1 ≤ height = omega (arith, below) in
-      let room = mul-le-mul_right size more in
-      let next : (i + 1) * size ≡ i * size + size = add-mul i 1 size ∙ ap (λ (m : ℕ). i * size + m) (one-mul size) in
-      omega (arith, room, next, inside)
+  place-lt i p below inside = subst (λ (m : ℕ). i * size + p < m) (mul_comm size height) (mul-add-lt i size p height below inside)
 
   listed-at : (i p : ℕ) → i < height → p < size → slice_index listed (i * size + p) ≡ M i p
   listed-at i p below inside =
@@ -204,21 +201,22 @@ equal-missed a b same = elim (eqb_tells a b) [
   | inr other ↦ absurd (other.1 same)
 ]
 
+-- the distance of the code at 2 ^ (r + k) places
+code-distance : (width : ℕ) (times : ℕ → ℕ → ℕ) (vector : ℕ → ℕ) → 0 < width → IsField width times → AreCantorVectors width times vector
+    → ((b : ℕ) → b < width → vector b < 2 ^ width) → (k r : ℕ) → r + k ≤ width → 2 ^ k ≤ 2 ^ r * 2 ^ k
+    → HasDistance times (2 ^ k) (2 ^ r * 2 ^ k) (point_generator width times vector k) (2 ^ r * 2 ^ k + 1 - 2 ^ k)
+code-distance width times vector wide field vectors fit k r few some =
+    code_words_have_distance width times vector wide field vectors fit k (2 ^ r * 2 ^ k) (2 ^ r * 2 ^ k + 1 - 2 ^ k)
+    (subst (λ (m : ℕ). m ≤ 2 ^ width) (pow-add 2 r k) (pow-le-pow_right (lit< tt) few)) (omega (arith, some))
+
 pub opened_rows_need_luck : OpenedRowsNeedLuck
 opened_rows_need_luck width times vector wide field vectors fit k r e column point row places few radius fits accepted =
     cases (openings_need_luck width times (2 ^ k) (2 ^ r * 2 ^ k) (2 ^ r * 2 ^ k + 1 - 2 ^ k) (point_generator width times vector k) wide field
-    distance e (length point) (column_symbol column) point (slice_index accepted.word) (omega (arith, radius)) (λ i p below inside. fits p i inside) refl
+    (code-distance width times vector wide field vectors fit k r few some) e (length point) (column_symbol column) point (slice_index accepted.word) (omega (arith, radius)) (λ i p below inside. fits p i inside) refl
     sent)
   where
     some : 2 ^ k ≤ 2 ^ r * 2 ^ k
     some = omega (arith, radius)
-
-    points : 2 ^ r * 2 ^ k ≤ 2 ^ width
-    points = subst (λ (m : ℕ). m ≤ 2 ^ width) (pow-add 2 r k) (pow-le-pow_right (lit< tt) few)
-
-    distance : HasDistance times (2 ^ k) (2 ^ r * 2 ^ k) (point_generator width times vector k) (2 ^ r * 2 ^ k + 1 - 2 ^ k)
-    distance =
-        code_words_have_distance width times vector wide field vectors fit k (2 ^ r * 2 ^ k) (2 ^ r * 2 ^ k + 1 - 2 ^ k) points (omega (arith, some))
 
     sent : IsWordOf times (2 ^ k) (2 ^ r * 2 ^ k) (point_generator width times vector k) (slice_index accepted.word)
     sent = record {
@@ -239,9 +237,7 @@ opened_rows_need_luck width times vector wide field vectors fit k r e column poi
         (slice_index accepted.word)
         ⊎ HasLuckyCoordinate width times vector k r e column point
         ⊎ (e < marked_below (misses times (length point) (column_symbol column) point (slice_index accepted.word)) (2 ^ r * 2 ^ k))
-        → ((table : List ℕ) × CommitsTo width times vector k r e (2 ^ length point) column table × (row ≡ column_values times point (2 ^ k) table))
-        ⊎ HasLuckyCoordinate width times vector k r e column point
-        ⊎ AreLuckyPlaces width times vector k r e column point row places
+        → ShowsTable width times vector k r e column point row places (λ t. row ≡ column_values times point (2 ^ k) t)
     cases (inl opened) =
         inl (
           table width times vector wide field k r e column point some opened.near,
@@ -259,13 +255,9 @@ pub opened_values_need_luck : OpenedValuesNeedLuck
 opened_values_need_luck width times vector wide field vectors fit k r e column point others row places few radius long fits accepted =
     cases (opened_rows_need_luck width times vector wide field vectors fit k r e column point row places few radius fits accepted)
   where
-    cases : ((table : List ℕ) × CommitsTo width times vector k r e (2 ^ length point) column table × (row ≡ column_values times point (2 ^ k) table))
-        ⊎ HasLuckyCoordinate width times vector k r e column point
-        ⊎ AreLuckyPlaces width times vector k r e column point row places
-        → ((table : List ℕ) × CommitsTo width times vector k r e (2 ^ length point) column table
-        × (multilinear_value times row others ≡ multilinear_value times table (point ++ others)))
-        ⊎ HasLuckyCoordinate width times vector k r e column point
-        ⊎ AreLuckyPlaces width times vector k r e column point row places
+    cases : ShowsTable width times vector k r e column point row places (λ t. row ≡ column_values times point (2 ^ k) t)
+        → ShowsTable width times vector k r e column point row places
+        (λ t. multilinear_value times row others ≡ multilinear_value times t (point ++ others))
     cases (inr luck) = inr luck
     cases (inl opened) =
         let table = opened.0 in
@@ -287,13 +279,6 @@ table_is_one width times vector wide field vectors fit k r e height column one o
   where
     some : 2 ^ k ≤ 2 ^ r * 2 ^ k
     some = omega (arith, radius)
-
-    points : 2 ^ r * 2 ^ k ≤ 2 ^ width
-    points = subst (λ (m : ℕ). m ≤ 2 ^ width) (pow-add 2 r k) (pow-le-pow_right (lit< tt) few)
-
-    distance : HasDistance times (2 ^ k) (2 ^ r * 2 ^ k) (point_generator width times vector k) (2 ^ r * 2 ^ k + 1 - 2 ^ k)
-    distance =
-        code_words_have_distance width times vector wide field vectors fit k (2 ^ r * 2 ^ k) (2 ^ r * 2 ^ k + 1 - 2 ^ k) points (omega (arith, some))
 
     near : (table : List ℕ) (c : CommitsTo width times vector k r e height column table)
         → IsNear times (2 ^ k) (2 ^ r * 2 ^ k) (point_generator width times vector k) e height (column_symbol column)
@@ -328,6 +313,6 @@ table_is_one width times vector wide field vectors fit k r e height column one o
         let place : t % 2 ^ k < 2 ^ k = mod-lt t some_k in
         let whole : t ≡ t / 2 ^ k * 2 ^ k + t % 2 ^ k = sym (div-add-mod' t (2 ^ k)) in
         ap (slice_index one) whole ∙ value one a (t / 2 ^ k) (t % 2 ^ k) row place
-        ∙ near_is_unique times (2 ^ k) (2 ^ r * 2 ^ k) (2 ^ r * 2 ^ k + 1 - 2 ^ k) (point_generator width times vector k) distance e height
-        (column_symbol column) (omega (arith, radius)) (near one a) (near other b) (t / 2 ^ k) row (t % 2 ^ k) (le_trans place some)
+        ∙ near_is_unique times (2 ^ k) (2 ^ r * 2 ^ k) (2 ^ r * 2 ^ k + 1 - 2 ^ k) (point_generator width times vector k)
+        (code-distance width times vector wide field vectors fit k r few some) e height (column_symbol column) (omega (arith, radius)) (near one a) (near other b) (t / 2 ^ k) row (t % 2 ^ k) (le_trans place some)
         ∙ sym (value other b (t / 2 ^ k) (t % 2 ^ k) row place) ∙ sym (ap (slice_index other) whole)

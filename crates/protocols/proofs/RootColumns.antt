@@ -8,7 +8,7 @@ use Rattle.field_bytes.specs.Bytes.{number_of_bytes}
 use Rattle.field_bytes.specs.Streams.{joined_bytes}
 use Rattle.field_bytes.proofs.Taking.{given_back}
 use Rattle.merkle_trees.specs.Openings.{OpeningsBind}
-use Rattle.protocols.specs.RootColumns.{AreAccepted, HaveOtherColumns, RootsHoldColumns, SentColumns, column_bytes}
+use Rattle.protocols.specs.RootColumns.{AreAccepted, HasSent, HaveOtherColumns, RootsHoldColumns, SentColumns, column_bytes}
 use Rattle.protocols.proofs.ProofBytes.{proof-first, proof-rest}
 
 -- ---- searches
@@ -134,7 +134,7 @@ module _ (bind : OpeningsBind) (hash : List ℕ → List ℕ) (digest : ℕ) (di
           })
 
   columns-held : ((column : ℕ → List ℕ) × ((p i : ℕ) → slice_index (column p) i < 2 ^ width)
-      × ((i k : ℕ) → i < count → k < length (sent i).places → (sent i).column k ≡ column (place_of i k))) ⊎ HasOther
+      × HasSent count sent column) ⊎ HasOther
   columns-held =
       join (each-or-one (λ i. (k : ℕ) → k < length (sent i).places → (sent i).column k ≡ column-of (place_of i k) (lookup (place_of i k)))
       (λ i. (k : ℕ) × (k < length (sent i).places) × HasOther) count
@@ -146,7 +146,7 @@ module _ (bind : OpeningsBind) (hash : List ℕ → List ℕ) (digest : ℕ) (di
           → (sent i).column k ≡ column-of (place_of i k) (lookup (place_of i k)))
           ⊎ ((i : ℕ) × (i < count) × ((k : ℕ) × (k < length (sent i).places) × HasOther))
           → ((column : ℕ → List ℕ) × ((p i : ℕ) → slice_index (column p) i < 2 ^ width)
-          × ((i k : ℕ) → i < count → k < length (sent i).places → (sent i).column k ≡ column (place_of i k))) ⊎ HasOther
+          × HasSent count sent column) ⊎ HasOther
       join (inl all) = inl ((λ p. column-of p (lookup p)), (λ p i. column-fits p (lookup p) i), λ i k below inside. all i below k inside)
       join (inr found) = inr found.2.2
 

@@ -48,10 +48,18 @@ pub record AreLuckyPlaces (width : ℕ) (times : ℕ → ℕ → ℕ) (vector : 
   pub missed : (i : ℕ) → i < length places
       → misses times (length point) (column_symbol column) point (slice_index word) (slice_index places i) ≡ false
 
+-- A row and places show a fact of the table to which columns commit: there is such a table, of which it holds, or a coordinate of the point
+-- is lucky, or the places are.
+abbrev pub ShowsTable : ℕ → (ℕ → ℕ → ℕ) → (ℕ → ℕ) → ℕ → ℕ → ℕ → (ℕ → List ℕ) → List ℕ → List ℕ → List ℕ → (List ℕ → Type 0) → Type 0
+ShowsTable width times vector k r e column point row places fact =
+    ((table : List ℕ) × CommitsTo width times vector k r e (2 ^ length point) column table × fact table)
+    ⊎ HasLuckyCoordinate width times vector k r e column point
+    ⊎ AreLuckyPlaces width times vector k r e column point row places
+
 -- ---- laws
 
--- Soundness, for every prover, within less than half the distance: a row that agrees with columns at places, whatever the columns are, has
--- the values of the table to which they commit, or a coordinate of the point is lucky, or the places are.
+-- Soundness, for every prover, within less than half the distance: a row that agrees with columns at places, whatever the columns are, shows
+-- that it has the values of the columns of the table to which they commit.
 abbrev pub OpenedRowsNeedLuck : Type 0
 OpenedRowsNeedLuck =
     (width : ℕ) (times : ℕ → ℕ → ℕ) (vector : ℕ → ℕ) → 0 < width → IsField width times → AreCantorVectors width times vector
@@ -59,13 +67,9 @@ OpenedRowsNeedLuck =
     → (k r e : ℕ) (column : ℕ → List ℕ) (point row places : List ℕ) → r + k ≤ width → 2 * e + 2 ^ k ≤ 2 ^ r * 2 ^ k
     → AreColumnsOf width (2 ^ r * 2 ^ k) column
     → AgreesAt width times vector k r point row places (λ i. column (slice_index places i))
-    → ((table : List ℕ) × CommitsTo width times vector k r e (2 ^ length point) column table
-    × (row ≡ column_values times point (2 ^ k) table))
-    ⊎ HasLuckyCoordinate width times vector k r e column point
-    ⊎ AreLuckyPlaces width times vector k r e column point row places
+    → ShowsTable width times vector k r e column point row places (λ table. row ≡ column_values times point (2 ^ k) table)
 
--- The same of the value at the whole point: what the row has at the other coordinates is the value of the table to which the columns
--- commit.
+-- and of the value at the whole point: what the row has at the other coordinates is the value of that table
 abbrev pub OpenedValuesNeedLuck : Type 0
 OpenedValuesNeedLuck =
     (width : ℕ) (times : ℕ → ℕ → ℕ) (vector : ℕ → ℕ) → 0 < width → IsField width times → AreCantorVectors width times vector
@@ -73,10 +77,8 @@ OpenedValuesNeedLuck =
     → (k r e : ℕ) (column : ℕ → List ℕ) (point others row places : List ℕ) → r + k ≤ width → 2 * e + 2 ^ k ≤ 2 ^ r * 2 ^ k
     → length others ≡ k → AreColumnsOf width (2 ^ r * 2 ^ k) column
     → AgreesAt width times vector k r point row places (λ i. column (slice_index places i))
-    → ((table : List ℕ) × CommitsTo width times vector k r e (2 ^ length point) column table
-    × (multilinear_value times row others ≡ multilinear_value times table (point ++ others)))
-    ⊎ HasLuckyCoordinate width times vector k r e column point
-    ⊎ AreLuckyPlaces width times vector k r e column point row places
+    → ShowsTable width times vector k r e column point row places
+    (λ table. multilinear_value times row others ≡ multilinear_value times table (point ++ others))
 
 -- and the table is the same at every point: columns commit to at most one
 abbrev pub TableIsOne : Type 0

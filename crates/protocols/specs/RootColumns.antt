@@ -23,6 +23,11 @@ pub record AreAccepted (hash : List ℕ → List ℕ) (digest size width depth h
   pub fits : (k : ℕ) → k < length sent.places → (i : ℕ) → slice_index (sent.column k) i < 2 ^ width
   pub opened : OpensRows hash depth root sent.places (column_bytes size sent) sent.nodes
 
+-- a function of columns has those of so many openings at their places
+abbrev pub HasSent : ℕ → (ℕ → SentColumns) → (ℕ → List ℕ) → Type 0
+HasSent count sent column =
+    (i k : ℕ) → i < count → k < length (sent i).places → (sent i).column k ≡ column (slice_index (sent i).places k)
+
 -- two of so many openings have other columns at one place, and a collision along paths that lead from both to the root
 pub record HaveOtherColumns (hash : List ℕ → List ℕ) (size depth : ℕ) (root : List ℕ) (count : ℕ) (sent : ℕ → SentColumns) : Type 0 where
   pub one : ℕ
@@ -48,6 +53,5 @@ RootsHoldColumns =
     → (size width depth height : ℕ) (root : List ℕ) → width ≤ 8 * size
     → (count : ℕ) (sent : ℕ → SentColumns)
     → ((i : ℕ) → i < count → AreAccepted hash digest size width depth height root (sent i))
-    → ((column : ℕ → List ℕ) × ((p i : ℕ) → slice_index (column p) i < 2 ^ width)
-    × ((i k : ℕ) → i < count → k < length (sent i).places → (sent i).column k ≡ column (slice_index (sent i).places k)))
+    → ((column : ℕ → List ℕ) × ((p i : ℕ) → slice_index (column p) i < 2 ^ width) × HasSent count sent column)
     ⊎ HaveOtherColumns hash size depth root count sent

@@ -20,14 +20,14 @@ use Rattle.merkle_trees.specs.MerkleTrees.{HaveDigestSize}
 use Rattle.sum_checks.specs.Sumcheck.{messages_of}
 use Rattle.sum_checks.specs.SumcheckClaims.{AreMessages, FalseClaimsNeedLuck, IsClaimShape, IsSaved, reduced_claim}
 use Rattle.sum_checks.specs.Terms.{HaveFactors, cube_sum, table_value, terms_value}
-use Rattle.protocols.specs.OpenedTables.{AreColumnsOf, AreLuckyPlaces, CommitsTo, HasLuckyCoordinate, OpenedValuesNeedLuck}
-use Rattle.protocols.specs.RootColumns.{AreAccepted, HaveOtherColumns, RootsHoldColumns, SentColumns, column_bytes}
+use Rattle.protocols.specs.OpenedTables.{AreColumnsOf, CommitsTo, OpenedValuesNeedLuck, ShowsTable}
+use Rattle.protocols.specs.RootColumns.{AreAccepted, HasSent, HaveOtherColumns, RootsHoldColumns, SentColumns, column_bytes}
 use Rattle.protocols.specs.Tables.{AgreesAt}
 use Rattle.protocols.proofs.ProofBytes.{length-proof, proof-cons}
 use Rattle.protocols.proofs.TableOpenings.{opens-same, row-room}
 use Rattle.prove_sums.specs.Shapes.{columns_in, columns_size, depth_of, element_count, levels_of, messages_in, nodes_in, row_in, row_size, rows_of, sum_in}
 use Rattle.prove_sums.specs.ProofFiles.{file_bytes}
-use Rattle.prove_sums.specs.Soundness.{AcceptedFile, AcceptedProof, ElementsShowSum, FilesShowSums, HasPoints, HasSent, HaveColumns, RootsShowSums, ShowsSum, SumsAreProved, SumsNeedLuck, sent_columns}
+use Rattle.prove_sums.specs.Soundness.{AcceptedFile, AcceptedProof, ElementsShowSum, FilesShowSums, HasPoints, HaveColumns, RootsShowSums, ShowsSum, SumsAreProved, SumsNeedLuck, sent_columns}
 use Rattle.prove_sums.specs.Verdicts.{OpensTable, checks_number, gives_number, interleaved, observes_number, passes_number, product_terms, samples_bits, word_times, word_vector}
 use Rattle.prove_sums.proofs.SumSteps.{messages-length, product-within, rows-length}
 
@@ -130,14 +130,10 @@ sums_need_luck false_claims opened width times vector wide field vectors fit k r
               ∙ sym (values-product width times field.ring one other (first ++ others) (whole one a.size) (b.size ∙ sym a.size))))
         ]
 
-    cases : ((table : List ℕ) × CommitsTo width times vector k r e (2 ^ length first) left table
-        × (multilinear_value times left_row others ≡ multilinear_value times table (first ++ others)))
-        ⊎ HasLuckyCoordinate width times vector k r e left first
-        ⊎ AreLuckyPlaces width times vector k r e left first left_row places
-        → ((table : List ℕ) × CommitsTo width times vector k r e (2 ^ length first) right table
-        × (multilinear_value times right_row others ≡ multilinear_value times table (first ++ others)))
-        ⊎ HasLuckyCoordinate width times vector k r e right first
-        ⊎ AreLuckyPlaces width times vector k r e right first right_row places
+    cases : ShowsTable width times vector k r e left first left_row places
+        (λ table. multilinear_value times left_row others ≡ multilinear_value times table (first ++ others))
+        → ShowsTable width times vector k r e right first right_row places
+        (λ table. multilinear_value times right_row others ≡ multilinear_value times table (first ++ others))
         → ShowsSum width times vector k r e left right sum messages first others left_row right_row places
     cases (inr (inl lucky)) other = inr (inl lucky)
     cases (inr (inr lucky)) other = inr (inr (inr (inl lucky)))

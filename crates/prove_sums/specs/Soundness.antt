@@ -10,7 +10,7 @@ use Rattle.sum_checks.specs.Sumcheck.{messages_of}
 use Rattle.sum_checks.specs.SumcheckClaims.{AreMessages, IsSaved, reduced_claim}
 use Rattle.sum_checks.specs.Terms.{cube_sum}
 use Rattle.protocols.specs.OpenedTables.{AreColumnsOf, AreLuckyPlaces, CommitsTo, HasLuckyCoordinate}
-use Rattle.protocols.specs.RootColumns.{HaveOtherColumns, SentColumns}
+use Rattle.protocols.specs.RootColumns.{HasSent, HaveOtherColumns, SentColumns}
 use Rattle.protocols.specs.Tables.{AgreesAt}
 use Rattle.prove_sums.specs.declared.tables.Table.{Table}
 use Rattle.prove_sums.specs.ProofFiles.{IsFileOf, file_bytes, number_in}
@@ -87,11 +87,6 @@ ElementsShowSum repr width times vector n e one other elements point places =
     ShowsSum width times vector (levels_of n) 2 e one other (sum_in repr elements)
     (map (map repr) (messages_of 2 n (messages_in n elements))) (map repr (take (rows_of n) point)) (map repr (drop (rows_of n) point))
     (map repr (row_in n 0 elements)) (map repr (row_in n 1 elements)) places
-
--- a function of columns has those of so many openings at their places
-abbrev pub HasSent : ℕ → (ℕ → SentColumns) → (ℕ → List ℕ) → Type 0
-HasSent count sent column =
-    (i k : ℕ) → i < count → k < length (sent i).places → (sent i).column k ≡ column (slice_index (sent i).places k)
 
 -- there is a function of columns of elements, over so many places, that has those of the openings
 abbrev pub HaveColumns : ℕ → ℕ → ℕ → (ℕ → SentColumns) → Type 0
