@@ -18,6 +18,7 @@ QUOTES = [
     ("README.md", "tags", r"\((\d+) processor minutes; `--list`"),
     ("README.md", "binary_field", r"those of each crate, (\d+) for `binary_field`"),
     ("README.md", "binary_field_c", r"builds the library: (\d+) processor minutes"),
+    ("docs/LINES.md", "binfield", r"--build`, some (\d+) processor minutes\)"),
     ("docs/TUTORIAL.md", "binary_field", r"takes some (\d+) processor minutes\):"),
     ("docs/TUTORIAL.md", "binary_field_c", r"some (\d+) processor minutes at first"),
 ]
