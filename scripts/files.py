@@ -2,6 +2,8 @@
 
 A script that makes files calls `keep` for each: it writes the file, or with the argument `--check` ends the script where the file is
 another. A generated file says in its first lines that it is one, and which command writes it: `generated` gives that sentence.
+
+A script that imports this answers --help by its own first text, and does nothing else.
 """
 
 import pathlib
@@ -31,3 +33,15 @@ def keep(path, content):
         return
     path.parent.mkdir(parents=True, exist_ok=True)
     path.write_bytes(data)
+
+
+def answer_help():
+    """Prints what the script that runs says of itself, where it is asked for that alone, and ends it. A link to a script, as ./binfield,
+    answers by itself."""
+    said = sys.modules["__main__"].__doc__
+    if sys.argv[1:] in (["--help"], ["-h"]) and said and not pathlib.Path(sys.argv[0]).is_symlink():
+        sys.stdout.write(said.strip() + "\n")
+        sys.exit()
+
+
+answer_help()

@@ -34,3 +34,14 @@ python_with_numpy() {
     say "it needs a Python with numpy (Debian: apt-get install python3-numpy)" >&2
     return 1
 }
+
+# Prints the head of a script of bash, what it says of itself.
+print_head() { sed -n '2,/^[^#]/s/^# \{0,1\}//p' "$1"; }
+
+# --help is answered by that, and nothing is done.
+case ${1-} in
+--help | -h)
+    print_head "$(dirname "${BASH_SOURCE[0]}")/$(basename "$0")"
+    exit 0
+    ;;
+esac

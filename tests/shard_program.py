@@ -5,6 +5,9 @@ import subprocess
 import sys
 
 TOP = os.path.dirname(os.path.dirname(os.path.abspath(__file__)))
+sys.path.insert(0, f"{TOP}/scripts")
+import files
+
 PROGRAM = os.path.abspath(sys.argv[1]) if len(sys.argv) > 1 else f"{TOP}/crates/shards/out/shards"
 FILE = "file"
 LARGE = 9_000_000
