@@ -4,6 +4,8 @@
 Each table with one column "Ratio" is a panel, and each of its rows a bar on a logarithmic scale, ours to the other side: left of 1 ours is
 ahead. It needs matplotlib (Debian: python3-matplotlib). With --check nothing is drawn and nothing needed: the picture has to show every row
 and every ratio of the tables.
+
+Before that it writes the picture of README.md, docs/pictures/three.svg: three of these rows in nanoseconds, for which nothing is needed.
 """
 
 import html
@@ -14,6 +16,14 @@ import sys
 TOP = pathlib.Path(__file__).resolve().parent.parent
 PAGE, PICTURE = TOP / "docs/BENCHMARKS.md", TOP / "docs/pictures/ratios.svg"
 AHEAD, BEHIND = "#2f6f9f", "#c05020"
+# The picture of README.md: the heading of a table, how its row begins, the columns of ours and of the Rust crate, and what is said of it. The
+# last table of a heading that has such a row is taken.
+THREE, OTHER = TOP / "docs/pictures/three.svg", "#a0a0a0"
+ROWS = [
+    ("Fields of the tower", ("product, throughput", "128"), 2, 3, "product in GF(2^128), the tower"),
+    ("Fields of the tower", ("inverse", "128"), 2, 3, "inverse in GF(2^128), the tower"),
+    ("Poly64 and Ghash128", ("product, throughput", "Ghash128"), 2, 5, "product in the field of GHASH"),
+]
 
 
 def cells(line):
@@ -43,10 +53,41 @@ def shown():
             yield from (label, ratio)
 
 
+def times(heading, begins, ours, other):
+    """The times of a row of docs/BENCHMARKS.md, ours and the other."""
+    section = re.search(rf"^## {re.escape(heading)}$(.*?)(?=^## |\Z)", PAGE.read_text(encoding="utf-8"), re.MULTILINE | re.DOTALL)[1]
+    row = [it for it in map(cells, section.splitlines()) if tuple(it[: len(begins)]) == begins][-1]
+    return float(row[ours]), float(row[other])
+
+
+def three():
+    """The picture of three rows, as a text."""
+    most, left, wide = max(max(times(*row[:4])) for row in ROWS), 240, 340
+    bar = lambda x, y, width, colour: f'<rect x="{x}" y="{y}" width="{width:.1f}" height="14" fill="{colour}"/>'
+    text = lambda x, y, said, more="": f'<text x="{x:.0f}" y="{y}"{more}>{html.escape(said)}</text>'
+    lines = [
+        '<svg xmlns="http://www.w3.org/2000/svg" width="660" height="186" viewBox="0 0 660 186" font-family="sans-serif" font-size="13">',
+        '<rect width="660" height="186" fill="#ffffff"/>',
+        text(12, 20, "Nanoseconds an element, over slices of 1,024"),
+    ]
+    for at, (heading, begins, ours, other, said) in enumerate(ROWS):
+        top = 34 + 42 * at
+        lines.append(text(left - 10, top + 20, said, ' text-anchor="end"'))
+        for down, value, colour in zip((0, 16), times(heading, begins, ours, other), (AHEAD, OTHER)):
+            lines += [bar(left, top + down, wide * value / most, colour), text(left + wide * value / most + 6, top + down + 12, f"{value:.1f}")]
+    lines += [
+        bar(12, 162, 14, AHEAD), text(32, 174, "Tiforwg, proved"), bar(150, 162, 14, OTHER),
+        text(170, 174, "p3-binary-field 0.8.0 (Plonky3), by the carryless multiply instruction"), "</svg>", "",
+    ]
+    return "\n".join(lines)
+
+
 def check():
-    """Whether the picture shows all of it."""
+    """Whether the pictures show all of it."""
     texts = {html.unescape(it).strip() for it in re.findall(r"<text[^>]*>([^<]*)</text>", PICTURE.read_text(encoding="utf-8"))}
     lacking = [it for it in shown() if it not in texts]
+    if THREE.read_text(encoding="utf-8") != three():
+        lacking.append(f"what {THREE.name} shows")
     print(f"plot: {len(texts)} texts in {PICTURE.name}, {len(lacking)} of the tables are lacking: {', '.join(lacking[:5]) or 'none'}")
     return 1 if lacking else 0
 
@@ -76,6 +117,7 @@ def main():
     """Draws the picture, or compares it."""
     if sys.argv[1:] == ["--check"]:
         return check()
+    THREE.write_text(three(), encoding="utf-8")
     import matplotlib
 
     matplotlib.use("svg")

@@ -1,5 +1,6 @@
 #!/usr/bin/env python3
-"""Writes what proofs cost by the table of the gate in docs/GATE.md: the table of costs above it, and the minutes that other pages quote.
+"""Writes what proofs cost by the table of the gate in docs/GATE.md: the table of costs above it, that of changes in CONTRIBUTING.md, and the
+minutes that other pages quote.
 
 make_costs.py [--check]: the table of the gate is written by `scripts/gate-cost --page docs/GATE.md`, which then runs this. scripts/vendor and
 scripts/build-library read the same table when they are called, so that one thing has one figure everywhere.
@@ -10,15 +11,20 @@ import sys
 import crates
 import files
 
-PAGE = "docs/GATE.md"
+PAGE, CHANGES = "docs/GATE.md", "CONTRIBUTING.md"
 BLOCK = re.compile(r"(<!-- costs -->\n).*?(<!-- end -->)", re.DOTALL)
+# Crates whose change a contributor may ask about, from the top down.
+CHANGED = ("prove_sums", "tags", "reed_solomon", "word_tower", "field_base")
 # Where pages quote the table: whose figure it is, and the text with the number.
 QUOTES = [
-    ("README.md", "gate", r"edit from nothing, in (\d+) processor minutes"),
-    ("README.md", "tags", r"\((\d+) processor minutes; `--list`"),
-    ("README.md", "binary_field", r"those of each crate, (\d+) for `binary_field`"),
-    ("README.md", "binary_field_c", r"builds the library: (\d+) processor minutes"),
+    ("README.md", "gate", r"from nothing in (\d+) processor\nminutes; behind"),
+    ("README.md", "field_base", r"proves them in (\d+) processor minutes \("),
+    ("README.md", "tags", r"\((\d+) with `tags`"),
+    ("README.md", "binary_field", r", (\d+) with `binary_field`"),
+    ("README.md", "binary_field_c", r"proves and builds it in (\d+) processor minutes"),
+    ("CONTRIBUTING.md", "gate", r"The gate takes (\d+) processor minutes"),
     ("docs/LINES.md", "binfield", r"--build`, some (\d+) processor minutes\)"),
+    ("docs/TUTORIAL.md", "field_base", r"proves it: (\d+) processor minutes for `field_base`"),
     ("docs/TUTORIAL.md", "binary_field", r"takes some (\d+) processor minutes\):"),
     ("docs/TUTORIAL.md", "binary_field_c", r"some (\d+) processor minutes at first"),
 ]
@@ -46,6 +52,19 @@ def table():
     return "\n".join(["| From nothing | processor minutes |", "|---|---:|", *(f"| {text} | {minutes} |" for text, minutes in rows), ""])
 
 
+def table_of_changes():
+    """The table of what a change of a crate costs in the gate: that crate and all above it, with tests and edits."""
+    gate, rows = crates.gate(), []
+    for name in CHANGED:
+        above = [it for it in crates.dependencies() if name in crates.chain([it])]
+        minutes = round(sum(sum(gate.get(it, ())) for it in above) / 60)
+        others = f"that and the {len(above) - 1} above it" if len(above) > 1 else "that alone"
+        rows.append(f"| a body or a contract of `{name}` | {others} | {minutes} |")
+    alone = sorted(sum(seconds) for seconds in gate.values())
+    first = f"| a comment of a crate | that alone, from nothing | {alone[0] / 60:.1f} to {alone[-1] / 60:.0f} |"
+    return "\n".join(["| Change | Crates that are proved again | processor minutes |", "|---|---|---:|", first, *rows, ""])
+
+
 def put(text, pattern, number):
     """A text with another number at the one place of the pattern."""
     found = re.search(pattern, text)
@@ -56,7 +75,8 @@ def put(text, pattern, number):
 
 def main():
     pages = {page: (files.TOP / page).read_text(encoding="utf-8") for page in [PAGE, *(page for page, _, _ in QUOTES)]}
-    pages[PAGE] = BLOCK.sub(lambda found: found[1] + table() + found[2], pages[PAGE])
+    for page, rows in ((PAGE, table()), (CHANGES, table_of_changes())):
+        pages[page] = BLOCK.sub(lambda found, rows=rows: found[1] + rows + found[2], pages[page])
     for page, name, pattern in QUOTES:
         pages[page] = put(pages[page], pattern, minutes_of(name))
     for page, text in pages.items():
