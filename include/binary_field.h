@@ -108,20 +108,20 @@ static inline const char *bf_status_text(uint32_t status)
 /* The version of the library, 65536 times the major number, 256 times the minor one, and the patch. */
 uint32_t bf_version(void);
 
-/* The processor whose form of the functions is called: "x86-64-v2", "x86-64-v3" or "aarch64", and never NULL. The
- * form is chosen once, before main, as the best that runs on the processor at hand. The environment variable
+/* The processor whose variant of the functions is called: "x86-64-v2", "x86-64-v3" or "aarch64", and never NULL. The
+ * variant is chosen once, before main, as the best that runs on the processor. The environment variable
  * BINARY_FIELD_PROCESSOR=x86-64-v2 lowers that choice, and never raises it. */
 const char *bf_processor(void);
 
 /* ------------------------------------------------------------------------------------------------------------------ */
 /* gf2: GF(2). An element is a uint8_t, below 2. */
 
-/* sums: the sum of the elements at each place. BF_LENGTH unless left, right and sums have one length.
+/* sums: the sum of the elements at each index. BF_LENGTH unless left, right and sums have one length.
  * BF_NOT_AN_ELEMENT unless each word that is read is below 2. */
 uint32_t bf_gf2_add(const uint8_t *left, size_t left_length, const uint8_t *right, size_t right_length,
     uint8_t *sums, size_t sums_length) BF_CHECKED;
 
-/* products: the product of the elements at each place. BF_LENGTH unless left, right and products have one length.
+/* products: the product of the elements at each index. BF_LENGTH unless left, right and products have one length.
  * BF_NOT_AN_ELEMENT unless each word that is read is below 2. */
 uint32_t bf_gf2_multiply(const uint8_t *left, size_t left_length, const uint8_t *right, size_t right_length,
     uint8_t *products, size_t products_length) BF_CHECKED;
@@ -131,7 +131,7 @@ uint32_t bf_gf2_multiply(const uint8_t *left, size_t left_length, const uint8_t 
 uint32_t bf_gf2_multiply_by(const uint8_t *values, size_t values_length, uint8_t scalar,
     uint8_t *products, size_t products_length) BF_CHECKED;
 
-/* Adds to each element of sums the scalar times the value at its place. BF_LENGTH unless sums and values have one
+/* Adds to each element of sums the scalar times the value at its index. BF_LENGTH unless sums and values have one
  * length. BF_NOT_AN_ELEMENT unless each word that is read is below 2. */
 uint32_t bf_gf2_add_scaled(uint8_t *sums, size_t sums_length, uint8_t scalar,
     const uint8_t *values, size_t values_length) BF_CHECKED;
@@ -163,7 +163,7 @@ uint32_t bf_gf2_power(const uint8_t *values, size_t values_length, uint64_t expo
 /* product: the product of all elements, 1 of none. BF_NOT_AN_ELEMENT unless each word that is read is below 2. */
 uint32_t bf_gf2_product(const uint8_t *values, size_t values_length, uint8_t *product) BF_CHECKED BF_NONNULL(3);
 
-/* sum: the sum of the products at each place, 0 of none. BF_LENGTH unless left and right have one length.
+/* sum: the sum of the products at each index, 0 of none. BF_LENGTH unless left and right have one length.
  * BF_NOT_AN_ELEMENT unless each word that is read is below 2. */
 uint32_t bf_gf2_dot_product(const uint8_t *left, size_t left_length, const uint8_t *right, size_t right_length,
     uint8_t *sum) BF_CHECKED BF_NONNULL(5);
@@ -174,11 +174,11 @@ uint32_t bf_gf2_dot_product(const uint8_t *left, size_t left_length, const uint8
 uint32_t bf_gf2_evaluate(const uint8_t *coefficients, size_t coefficients_length,
     const uint8_t *points, size_t points_length, uint8_t *values, size_t values_length) BF_CHECKED;
 
-/* Adds to each element of sums the value at its place. BF_LENGTH unless sums and values have one length.
+/* Adds to each element of sums the value at its index. BF_LENGTH unless sums and values have one length.
  * BF_NOT_AN_ELEMENT unless each word that is read is below 2. */
 uint32_t bf_gf2_add_in_place(uint8_t *sums, size_t sums_length, const uint8_t *values, size_t values_length) BF_CHECKED;
 
-/* Multiplies each element of products by the value at its place. BF_LENGTH unless products and values have one
+/* Multiplies each element of products by the value at its index. BF_LENGTH unless products and values have one
  * length. BF_NOT_AN_ELEMENT unless each word that is read is below 2. */
 uint32_t bf_gf2_multiply_in_place(uint8_t *products, size_t products_length,
     const uint8_t *values, size_t values_length) BF_CHECKED;
@@ -205,12 +205,12 @@ uint32_t bf_gf2_generator(uint8_t *generator) BF_CHECKED BF_NONNULL(1);
 /* ------------------------------------------------------------------------------------------------------------------ */
 /* t2: GF(2^2), a level of the tower. An element is a uint8_t, below 4. */
 
-/* sums: the sum of the elements at each place. BF_LENGTH unless left, right and sums have one length.
+/* sums: the sum of the elements at each index. BF_LENGTH unless left, right and sums have one length.
  * BF_NOT_AN_ELEMENT unless each word that is read is below 4. */
 uint32_t bf_t2_add(const uint8_t *left, size_t left_length, const uint8_t *right, size_t right_length,
     uint8_t *sums, size_t sums_length) BF_CHECKED;
 
-/* products: the product of the elements at each place. BF_LENGTH unless left, right and products have one length.
+/* products: the product of the elements at each index. BF_LENGTH unless left, right and products have one length.
  * BF_NOT_AN_ELEMENT unless each word that is read is below 4. */
 uint32_t bf_t2_multiply(const uint8_t *left, size_t left_length, const uint8_t *right, size_t right_length,
     uint8_t *products, size_t products_length) BF_CHECKED;
@@ -220,7 +220,7 @@ uint32_t bf_t2_multiply(const uint8_t *left, size_t left_length, const uint8_t *
 uint32_t bf_t2_multiply_by(const uint8_t *values, size_t values_length, uint8_t scalar,
     uint8_t *products, size_t products_length) BF_CHECKED;
 
-/* Adds to each element of sums the scalar times the value at its place. BF_LENGTH unless sums and values have one
+/* Adds to each element of sums the scalar times the value at its index. BF_LENGTH unless sums and values have one
  * length. BF_NOT_AN_ELEMENT unless each word that is read is below 4. */
 uint32_t bf_t2_add_scaled(uint8_t *sums, size_t sums_length, uint8_t scalar,
     const uint8_t *values, size_t values_length) BF_CHECKED;
@@ -251,7 +251,7 @@ uint32_t bf_t2_power(const uint8_t *values, size_t values_length, uint64_t expon
 /* product: the product of all elements, 1 of none. BF_NOT_AN_ELEMENT unless each word that is read is below 4. */
 uint32_t bf_t2_product(const uint8_t *values, size_t values_length, uint8_t *product) BF_CHECKED BF_NONNULL(3);
 
-/* sum: the sum of the products at each place, 0 of none. BF_LENGTH unless left and right have one length.
+/* sum: the sum of the products at each index, 0 of none. BF_LENGTH unless left and right have one length.
  * BF_NOT_AN_ELEMENT unless each word that is read is below 4. */
 uint32_t bf_t2_dot_product(const uint8_t *left, size_t left_length, const uint8_t *right, size_t right_length,
     uint8_t *sum) BF_CHECKED BF_NONNULL(5);
@@ -262,11 +262,11 @@ uint32_t bf_t2_dot_product(const uint8_t *left, size_t left_length, const uint8_
 uint32_t bf_t2_evaluate(const uint8_t *coefficients, size_t coefficients_length,
     const uint8_t *points, size_t points_length, uint8_t *values, size_t values_length) BF_CHECKED;
 
-/* Adds to each element of sums the value at its place. BF_LENGTH unless sums and values have one length.
+/* Adds to each element of sums the value at its index. BF_LENGTH unless sums and values have one length.
  * BF_NOT_AN_ELEMENT unless each word that is read is below 4. */
 uint32_t bf_t2_add_in_place(uint8_t *sums, size_t sums_length, const uint8_t *values, size_t values_length) BF_CHECKED;
 
-/* Multiplies each element of products by the value at its place. BF_LENGTH unless products and values have one
+/* Multiplies each element of products by the value at its index. BF_LENGTH unless products and values have one
  * length. BF_NOT_AN_ELEMENT unless each word that is read is below 4. */
 uint32_t bf_t2_multiply_in_place(uint8_t *products, size_t products_length,
     const uint8_t *values, size_t values_length) BF_CHECKED;
@@ -293,12 +293,12 @@ uint32_t bf_t2_generator(uint8_t *generator) BF_CHECKED BF_NONNULL(1);
 /* ------------------------------------------------------------------------------------------------------------------ */
 /* t4: GF(2^4), a level of the tower. An element is a uint8_t, below 16. */
 
-/* sums: the sum of the elements at each place. BF_LENGTH unless left, right and sums have one length.
+/* sums: the sum of the elements at each index. BF_LENGTH unless left, right and sums have one length.
  * BF_NOT_AN_ELEMENT unless each word that is read is below 16. */
 uint32_t bf_t4_add(const uint8_t *left, size_t left_length, const uint8_t *right, size_t right_length,
     uint8_t *sums, size_t sums_length) BF_CHECKED;
 
-/* products: the product of the elements at each place. BF_LENGTH unless left, right and products have one length.
+/* products: the product of the elements at each index. BF_LENGTH unless left, right and products have one length.
  * BF_NOT_AN_ELEMENT unless each word that is read is below 16. */
 uint32_t bf_t4_multiply(const uint8_t *left, size_t left_length, const uint8_t *right, size_t right_length,
     uint8_t *products, size_t products_length) BF_CHECKED;
@@ -308,7 +308,7 @@ uint32_t bf_t4_multiply(const uint8_t *left, size_t left_length, const uint8_t *
 uint32_t bf_t4_multiply_by(const uint8_t *values, size_t values_length, uint8_t scalar,
     uint8_t *products, size_t products_length) BF_CHECKED;
 
-/* Adds to each element of sums the scalar times the value at its place. BF_LENGTH unless sums and values have one
+/* Adds to each element of sums the scalar times the value at its index. BF_LENGTH unless sums and values have one
  * length. BF_NOT_AN_ELEMENT unless each word that is read is below 16. */
 uint32_t bf_t4_add_scaled(uint8_t *sums, size_t sums_length, uint8_t scalar,
     const uint8_t *values, size_t values_length) BF_CHECKED;
@@ -339,7 +339,7 @@ uint32_t bf_t4_power(const uint8_t *values, size_t values_length, uint64_t expon
 /* product: the product of all elements, 1 of none. BF_NOT_AN_ELEMENT unless each word that is read is below 16. */
 uint32_t bf_t4_product(const uint8_t *values, size_t values_length, uint8_t *product) BF_CHECKED BF_NONNULL(3);
 
-/* sum: the sum of the products at each place, 0 of none. BF_LENGTH unless left and right have one length.
+/* sum: the sum of the products at each index, 0 of none. BF_LENGTH unless left and right have one length.
  * BF_NOT_AN_ELEMENT unless each word that is read is below 16. */
 uint32_t bf_t4_dot_product(const uint8_t *left, size_t left_length, const uint8_t *right, size_t right_length,
     uint8_t *sum) BF_CHECKED BF_NONNULL(5);
@@ -350,11 +350,11 @@ uint32_t bf_t4_dot_product(const uint8_t *left, size_t left_length, const uint8_
 uint32_t bf_t4_evaluate(const uint8_t *coefficients, size_t coefficients_length,
     const uint8_t *points, size_t points_length, uint8_t *values, size_t values_length) BF_CHECKED;
 
-/* Adds to each element of sums the value at its place. BF_LENGTH unless sums and values have one length.
+/* Adds to each element of sums the value at its index. BF_LENGTH unless sums and values have one length.
  * BF_NOT_AN_ELEMENT unless each word that is read is below 16. */
 uint32_t bf_t4_add_in_place(uint8_t *sums, size_t sums_length, const uint8_t *values, size_t values_length) BF_CHECKED;
 
-/* Multiplies each element of products by the value at its place. BF_LENGTH unless products and values have one
+/* Multiplies each element of products by the value at its index. BF_LENGTH unless products and values have one
  * length. BF_NOT_AN_ELEMENT unless each word that is read is below 16. */
 uint32_t bf_t4_multiply_in_place(uint8_t *products, size_t products_length,
     const uint8_t *values, size_t values_length) BF_CHECKED;
@@ -381,11 +381,11 @@ uint32_t bf_t4_generator(uint8_t *generator) BF_CHECKED BF_NONNULL(1);
 /* ------------------------------------------------------------------------------------------------------------------ */
 /* t8: GF(2^8), a level of the tower. An element is a uint8_t. */
 
-/* sums: the sum of the elements at each place. BF_LENGTH unless left, right and sums have one length. */
+/* sums: the sum of the elements at each index. BF_LENGTH unless left, right and sums have one length. */
 uint32_t bf_t8_add(const uint8_t *left, size_t left_length, const uint8_t *right, size_t right_length,
     uint8_t *sums, size_t sums_length) BF_CHECKED;
 
-/* products: the product of the elements at each place. BF_LENGTH unless left, right and products have one length. */
+/* products: the product of the elements at each index. BF_LENGTH unless left, right and products have one length. */
 uint32_t bf_t8_multiply(const uint8_t *left, size_t left_length, const uint8_t *right, size_t right_length,
     uint8_t *products, size_t products_length) BF_CHECKED;
 
@@ -393,7 +393,7 @@ uint32_t bf_t8_multiply(const uint8_t *left, size_t left_length, const uint8_t *
 uint32_t bf_t8_multiply_by(const uint8_t *values, size_t values_length, uint8_t scalar,
     uint8_t *products, size_t products_length) BF_CHECKED;
 
-/* Adds to each element of sums the scalar times the value at its place. BF_LENGTH unless sums and values have one
+/* Adds to each element of sums the scalar times the value at its index. BF_LENGTH unless sums and values have one
  * length. */
 uint32_t bf_t8_add_scaled(uint8_t *sums, size_t sums_length, uint8_t scalar,
     const uint8_t *values, size_t values_length) BF_CHECKED;
@@ -421,7 +421,7 @@ uint32_t bf_t8_power(const uint8_t *values, size_t values_length, uint64_t expon
 /* product: the product of all elements, 1 of none. */
 uint32_t bf_t8_product(const uint8_t *values, size_t values_length, uint8_t *product) BF_CHECKED BF_NONNULL(3);
 
-/* sum: the sum of the products at each place, 0 of none. BF_LENGTH unless left and right have one length. */
+/* sum: the sum of the products at each index, 0 of none. BF_LENGTH unless left and right have one length. */
 uint32_t bf_t8_dot_product(const uint8_t *left, size_t left_length, const uint8_t *right, size_t right_length,
     uint8_t *sum) BF_CHECKED BF_NONNULL(5);
 
@@ -430,10 +430,10 @@ uint32_t bf_t8_dot_product(const uint8_t *left, size_t left_length, const uint8_
 uint32_t bf_t8_evaluate(const uint8_t *coefficients, size_t coefficients_length,
     const uint8_t *points, size_t points_length, uint8_t *values, size_t values_length) BF_CHECKED;
 
-/* Adds to each element of sums the value at its place. BF_LENGTH unless sums and values have one length. */
+/* Adds to each element of sums the value at its index. BF_LENGTH unless sums and values have one length. */
 uint32_t bf_t8_add_in_place(uint8_t *sums, size_t sums_length, const uint8_t *values, size_t values_length) BF_CHECKED;
 
-/* Multiplies each element of products by the value at its place. BF_LENGTH unless products and values have one
+/* Multiplies each element of products by the value at its index. BF_LENGTH unless products and values have one
  * length. */
 uint32_t bf_t8_multiply_in_place(uint8_t *products, size_t products_length,
     const uint8_t *values, size_t values_length) BF_CHECKED;
@@ -459,11 +459,11 @@ uint32_t bf_t8_generator(uint8_t *generator) BF_CHECKED BF_NONNULL(1);
 /* ------------------------------------------------------------------------------------------------------------------ */
 /* t16: GF(2^16), a level of the tower. An element is a uint16_t. */
 
-/* sums: the sum of the elements at each place. BF_LENGTH unless left, right and sums have one length. */
+/* sums: the sum of the elements at each index. BF_LENGTH unless left, right and sums have one length. */
 uint32_t bf_t16_add(const uint16_t *left, size_t left_length, const uint16_t *right, size_t right_length,
     uint16_t *sums, size_t sums_length) BF_CHECKED;
 
-/* products: the product of the elements at each place. BF_LENGTH unless left, right and products have one length. */
+/* products: the product of the elements at each index. BF_LENGTH unless left, right and products have one length. */
 uint32_t bf_t16_multiply(const uint16_t *left, size_t left_length, const uint16_t *right, size_t right_length,
     uint16_t *products, size_t products_length) BF_CHECKED;
 
@@ -471,7 +471,7 @@ uint32_t bf_t16_multiply(const uint16_t *left, size_t left_length, const uint16_
 uint32_t bf_t16_multiply_by(const uint16_t *values, size_t values_length, uint16_t scalar,
     uint16_t *products, size_t products_length) BF_CHECKED;
 
-/* Adds to each element of sums the scalar times the value at its place. BF_LENGTH unless sums and values have one
+/* Adds to each element of sums the scalar times the value at its index. BF_LENGTH unless sums and values have one
  * length. */
 uint32_t bf_t16_add_scaled(uint16_t *sums, size_t sums_length, uint16_t scalar,
     const uint16_t *values, size_t values_length) BF_CHECKED;
@@ -501,7 +501,7 @@ uint32_t bf_t16_power(const uint16_t *values, size_t values_length, uint64_t exp
 /* product: the product of all elements, 1 of none. */
 uint32_t bf_t16_product(const uint16_t *values, size_t values_length, uint16_t *product) BF_CHECKED BF_NONNULL(3);
 
-/* sum: the sum of the products at each place, 0 of none. BF_LENGTH unless left and right have one length. */
+/* sum: the sum of the products at each index, 0 of none. BF_LENGTH unless left and right have one length. */
 uint32_t bf_t16_dot_product(const uint16_t *left, size_t left_length, const uint16_t *right, size_t right_length,
     uint16_t *sum) BF_CHECKED BF_NONNULL(5);
 
@@ -510,11 +510,11 @@ uint32_t bf_t16_dot_product(const uint16_t *left, size_t left_length, const uint
 uint32_t bf_t16_evaluate(const uint16_t *coefficients, size_t coefficients_length,
     const uint16_t *points, size_t points_length, uint16_t *values, size_t values_length) BF_CHECKED;
 
-/* Adds to each element of sums the value at its place. BF_LENGTH unless sums and values have one length. */
+/* Adds to each element of sums the value at its index. BF_LENGTH unless sums and values have one length. */
 uint32_t bf_t16_add_in_place(uint16_t *sums, size_t sums_length,
     const uint16_t *values, size_t values_length) BF_CHECKED;
 
-/* Multiplies each element of products by the value at its place. BF_LENGTH unless products and values have one
+/* Multiplies each element of products by the value at its index. BF_LENGTH unless products and values have one
  * length. */
 uint32_t bf_t16_multiply_in_place(uint16_t *products, size_t products_length,
     const uint16_t *values, size_t values_length) BF_CHECKED;
@@ -540,11 +540,11 @@ uint32_t bf_t16_generator(uint16_t *generator) BF_CHECKED BF_NONNULL(1);
 /* ------------------------------------------------------------------------------------------------------------------ */
 /* t32: GF(2^32), a level of the tower. An element is a uint32_t. */
 
-/* sums: the sum of the elements at each place. BF_LENGTH unless left, right and sums have one length. */
+/* sums: the sum of the elements at each index. BF_LENGTH unless left, right and sums have one length. */
 uint32_t bf_t32_add(const uint32_t *left, size_t left_length, const uint32_t *right, size_t right_length,
     uint32_t *sums, size_t sums_length) BF_CHECKED;
 
-/* products: the product of the elements at each place. BF_LENGTH unless left, right and products have one length. */
+/* products: the product of the elements at each index. BF_LENGTH unless left, right and products have one length. */
 uint32_t bf_t32_multiply(const uint32_t *left, size_t left_length, const uint32_t *right, size_t right_length,
     uint32_t *products, size_t products_length) BF_CHECKED;
 
@@ -552,7 +552,7 @@ uint32_t bf_t32_multiply(const uint32_t *left, size_t left_length, const uint32_
 uint32_t bf_t32_multiply_by(const uint32_t *values, size_t values_length, uint32_t scalar,
     uint32_t *products, size_t products_length) BF_CHECKED;
 
-/* Adds to each element of sums the scalar times the value at its place. BF_LENGTH unless sums and values have one
+/* Adds to each element of sums the scalar times the value at its index. BF_LENGTH unless sums and values have one
  * length. */
 uint32_t bf_t32_add_scaled(uint32_t *sums, size_t sums_length, uint32_t scalar,
     const uint32_t *values, size_t values_length) BF_CHECKED;
@@ -582,7 +582,7 @@ uint32_t bf_t32_power(const uint32_t *values, size_t values_length, uint64_t exp
 /* product: the product of all elements, 1 of none. */
 uint32_t bf_t32_product(const uint32_t *values, size_t values_length, uint32_t *product) BF_CHECKED BF_NONNULL(3);
 
-/* sum: the sum of the products at each place, 0 of none. BF_LENGTH unless left and right have one length. */
+/* sum: the sum of the products at each index, 0 of none. BF_LENGTH unless left and right have one length. */
 uint32_t bf_t32_dot_product(const uint32_t *left, size_t left_length, const uint32_t *right, size_t right_length,
     uint32_t *sum) BF_CHECKED BF_NONNULL(5);
 
@@ -591,11 +591,11 @@ uint32_t bf_t32_dot_product(const uint32_t *left, size_t left_length, const uint
 uint32_t bf_t32_evaluate(const uint32_t *coefficients, size_t coefficients_length,
     const uint32_t *points, size_t points_length, uint32_t *values, size_t values_length) BF_CHECKED;
 
-/* Adds to each element of sums the value at its place. BF_LENGTH unless sums and values have one length. */
+/* Adds to each element of sums the value at its index. BF_LENGTH unless sums and values have one length. */
 uint32_t bf_t32_add_in_place(uint32_t *sums, size_t sums_length,
     const uint32_t *values, size_t values_length) BF_CHECKED;
 
-/* Multiplies each element of products by the value at its place. BF_LENGTH unless products and values have one
+/* Multiplies each element of products by the value at its index. BF_LENGTH unless products and values have one
  * length. */
 uint32_t bf_t32_multiply_in_place(uint32_t *products, size_t products_length,
     const uint32_t *values, size_t values_length) BF_CHECKED;
@@ -621,11 +621,11 @@ uint32_t bf_t32_generator(uint32_t *generator) BF_CHECKED BF_NONNULL(1);
 /* ------------------------------------------------------------------------------------------------------------------ */
 /* t64: GF(2^64), a level of the tower. An element is a uint64_t. */
 
-/* sums: the sum of the elements at each place. BF_LENGTH unless left, right and sums have one length. */
+/* sums: the sum of the elements at each index. BF_LENGTH unless left, right and sums have one length. */
 uint32_t bf_t64_add(const uint64_t *left, size_t left_length, const uint64_t *right, size_t right_length,
     uint64_t *sums, size_t sums_length) BF_CHECKED;
 
-/* products: the product of the elements at each place. BF_LENGTH unless left, right and products have one length. */
+/* products: the product of the elements at each index. BF_LENGTH unless left, right and products have one length. */
 uint32_t bf_t64_multiply(const uint64_t *left, size_t left_length, const uint64_t *right, size_t right_length,
     uint64_t *products, size_t products_length) BF_CHECKED;
 
@@ -633,7 +633,7 @@ uint32_t bf_t64_multiply(const uint64_t *left, size_t left_length, const uint64_
 uint32_t bf_t64_multiply_by(const uint64_t *values, size_t values_length, uint64_t scalar,
     uint64_t *products, size_t products_length) BF_CHECKED;
 
-/* Adds to each element of sums the scalar times the value at its place. BF_LENGTH unless sums and values have one
+/* Adds to each element of sums the scalar times the value at its index. BF_LENGTH unless sums and values have one
  * length. */
 uint32_t bf_t64_add_scaled(uint64_t *sums, size_t sums_length, uint64_t scalar,
     const uint64_t *values, size_t values_length) BF_CHECKED;
@@ -663,7 +663,7 @@ uint32_t bf_t64_power(const uint64_t *values, size_t values_length, uint64_t exp
 /* product: the product of all elements, 1 of none. */
 uint32_t bf_t64_product(const uint64_t *values, size_t values_length, uint64_t *product) BF_CHECKED BF_NONNULL(3);
 
-/* sum: the sum of the products at each place, 0 of none. BF_LENGTH unless left and right have one length. */
+/* sum: the sum of the products at each index, 0 of none. BF_LENGTH unless left and right have one length. */
 uint32_t bf_t64_dot_product(const uint64_t *left, size_t left_length, const uint64_t *right, size_t right_length,
     uint64_t *sum) BF_CHECKED BF_NONNULL(5);
 
@@ -672,11 +672,11 @@ uint32_t bf_t64_dot_product(const uint64_t *left, size_t left_length, const uint
 uint32_t bf_t64_evaluate(const uint64_t *coefficients, size_t coefficients_length,
     const uint64_t *points, size_t points_length, uint64_t *values, size_t values_length) BF_CHECKED;
 
-/* Adds to each element of sums the value at its place. BF_LENGTH unless sums and values have one length. */
+/* Adds to each element of sums the value at its index. BF_LENGTH unless sums and values have one length. */
 uint32_t bf_t64_add_in_place(uint64_t *sums, size_t sums_length,
     const uint64_t *values, size_t values_length) BF_CHECKED;
 
-/* Multiplies each element of products by the value at its place. BF_LENGTH unless products and values have one
+/* Multiplies each element of products by the value at its index. BF_LENGTH unless products and values have one
  * length. */
 uint32_t bf_t64_multiply_in_place(uint64_t *products, size_t products_length,
     const uint64_t *values, size_t values_length) BF_CHECKED;
@@ -702,11 +702,11 @@ uint32_t bf_t64_generator(uint64_t *generator) BF_CHECKED BF_NONNULL(1);
 /* ------------------------------------------------------------------------------------------------------------------ */
 /* t128: GF(2^128), a level of the tower. An element is a bf_u128. */
 
-/* sums: the sum of the elements at each place. BF_LENGTH unless left, right and sums have one length. */
+/* sums: the sum of the elements at each index. BF_LENGTH unless left, right and sums have one length. */
 uint32_t bf_t128_add(const bf_u128 *left, size_t left_length, const bf_u128 *right, size_t right_length,
     bf_u128 *sums, size_t sums_length) BF_CHECKED;
 
-/* products: the product of the elements at each place. BF_LENGTH unless left, right and products have one length. */
+/* products: the product of the elements at each index. BF_LENGTH unless left, right and products have one length. */
 uint32_t bf_t128_multiply(const bf_u128 *left, size_t left_length, const bf_u128 *right, size_t right_length,
     bf_u128 *products, size_t products_length) BF_CHECKED;
 
@@ -714,7 +714,7 @@ uint32_t bf_t128_multiply(const bf_u128 *left, size_t left_length, const bf_u128
 uint32_t bf_t128_multiply_by(const bf_u128 *values, size_t values_length, const bf_u128 *scalar,
     bf_u128 *products, size_t products_length) BF_CHECKED BF_NONNULL(3);
 
-/* Adds to each element of sums the scalar times the value at its place. BF_LENGTH unless sums and values have one
+/* Adds to each element of sums the scalar times the value at its index. BF_LENGTH unless sums and values have one
  * length. */
 uint32_t bf_t128_add_scaled(bf_u128 *sums, size_t sums_length, const bf_u128 *scalar,
     const bf_u128 *values, size_t values_length) BF_CHECKED BF_NONNULL(3);
@@ -744,7 +744,7 @@ uint32_t bf_t128_power(const bf_u128 *values, size_t values_length, uint64_t exp
 /* product: the product of all elements, 1 of none. */
 uint32_t bf_t128_product(const bf_u128 *values, size_t values_length, bf_u128 *product) BF_CHECKED BF_NONNULL(3);
 
-/* sum: the sum of the products at each place, 0 of none. BF_LENGTH unless left and right have one length. */
+/* sum: the sum of the products at each index, 0 of none. BF_LENGTH unless left and right have one length. */
 uint32_t bf_t128_dot_product(const bf_u128 *left, size_t left_length, const bf_u128 *right, size_t right_length,
     bf_u128 *sum) BF_CHECKED BF_NONNULL(5);
 
@@ -753,11 +753,11 @@ uint32_t bf_t128_dot_product(const bf_u128 *left, size_t left_length, const bf_u
 uint32_t bf_t128_evaluate(const bf_u128 *coefficients, size_t coefficients_length,
     const bf_u128 *points, size_t points_length, bf_u128 *values, size_t values_length) BF_CHECKED;
 
-/* Adds to each element of sums the value at its place. BF_LENGTH unless sums and values have one length. */
+/* Adds to each element of sums the value at its index. BF_LENGTH unless sums and values have one length. */
 uint32_t bf_t128_add_in_place(bf_u128 *sums, size_t sums_length,
     const bf_u128 *values, size_t values_length) BF_CHECKED;
 
-/* Multiplies each element of products by the value at its place. BF_LENGTH unless products and values have one
+/* Multiplies each element of products by the value at its index. BF_LENGTH unless products and values have one
  * length. */
 uint32_t bf_t128_multiply_in_place(bf_u128 *products, size_t products_length,
     const bf_u128 *values, size_t values_length) BF_CHECKED;
@@ -784,11 +784,11 @@ uint32_t bf_t128_generator(bf_u128 *generator) BF_CHECKED BF_NONNULL(1);
 /* ------------------------------------------------------------------------------------------------------------------ */
 /* r8: GF(2)[x] modulo x^8 + x^4 + x^3 + x + 1, the bytes of AES (FIPS 197). An element is a uint8_t. */
 
-/* sums: the sum of the elements at each place. BF_LENGTH unless left, right and sums have one length. */
+/* sums: the sum of the elements at each index. BF_LENGTH unless left, right and sums have one length. */
 uint32_t bf_r8_add(const uint8_t *left, size_t left_length, const uint8_t *right, size_t right_length,
     uint8_t *sums, size_t sums_length) BF_CHECKED;
 
-/* products: the product of the elements at each place. BF_LENGTH unless left, right and products have one length. */
+/* products: the product of the elements at each index. BF_LENGTH unless left, right and products have one length. */
 uint32_t bf_r8_multiply(const uint8_t *left, size_t left_length, const uint8_t *right, size_t right_length,
     uint8_t *products, size_t products_length) BF_CHECKED;
 
@@ -796,7 +796,7 @@ uint32_t bf_r8_multiply(const uint8_t *left, size_t left_length, const uint8_t *
 uint32_t bf_r8_multiply_by(const uint8_t *values, size_t values_length, uint8_t scalar,
     uint8_t *products, size_t products_length) BF_CHECKED;
 
-/* Adds to each element of sums the scalar times the value at its place. BF_LENGTH unless sums and values have one
+/* Adds to each element of sums the scalar times the value at its index. BF_LENGTH unless sums and values have one
  * length. */
 uint32_t bf_r8_add_scaled(uint8_t *sums, size_t sums_length, uint8_t scalar,
     const uint8_t *values, size_t values_length) BF_CHECKED;
@@ -824,7 +824,7 @@ uint32_t bf_r8_power(const uint8_t *values, size_t values_length, uint64_t expon
 /* product: the product of all elements, 1 of none. */
 uint32_t bf_r8_product(const uint8_t *values, size_t values_length, uint8_t *product) BF_CHECKED BF_NONNULL(3);
 
-/* sum: the sum of the products at each place, 0 of none. BF_LENGTH unless left and right have one length. */
+/* sum: the sum of the products at each index, 0 of none. BF_LENGTH unless left and right have one length. */
 uint32_t bf_r8_dot_product(const uint8_t *left, size_t left_length, const uint8_t *right, size_t right_length,
     uint8_t *sum) BF_CHECKED BF_NONNULL(5);
 
@@ -833,10 +833,10 @@ uint32_t bf_r8_dot_product(const uint8_t *left, size_t left_length, const uint8_
 uint32_t bf_r8_evaluate(const uint8_t *coefficients, size_t coefficients_length,
     const uint8_t *points, size_t points_length, uint8_t *values, size_t values_length) BF_CHECKED;
 
-/* Adds to each element of sums the value at its place. BF_LENGTH unless sums and values have one length. */
+/* Adds to each element of sums the value at its index. BF_LENGTH unless sums and values have one length. */
 uint32_t bf_r8_add_in_place(uint8_t *sums, size_t sums_length, const uint8_t *values, size_t values_length) BF_CHECKED;
 
-/* Multiplies each element of products by the value at its place. BF_LENGTH unless products and values have one
+/* Multiplies each element of products by the value at its index. BF_LENGTH unless products and values have one
  * length. */
 uint32_t bf_r8_multiply_in_place(uint8_t *products, size_t products_length,
     const uint8_t *values, size_t values_length) BF_CHECKED;
@@ -862,11 +862,11 @@ uint32_t bf_r8_generator(uint8_t *generator) BF_CHECKED BF_NONNULL(1);
 /* ------------------------------------------------------------------------------------------------------------------ */
 /* p64: GF(2)[x] modulo x^64 + x^4 + x^3 + x + 1. An element is a uint64_t. */
 
-/* sums: the sum of the elements at each place. BF_LENGTH unless left, right and sums have one length. */
+/* sums: the sum of the elements at each index. BF_LENGTH unless left, right and sums have one length. */
 uint32_t bf_p64_add(const uint64_t *left, size_t left_length, const uint64_t *right, size_t right_length,
     uint64_t *sums, size_t sums_length) BF_CHECKED;
 
-/* products: the product of the elements at each place. BF_LENGTH unless left, right and products have one length. */
+/* products: the product of the elements at each index. BF_LENGTH unless left, right and products have one length. */
 uint32_t bf_p64_multiply(const uint64_t *left, size_t left_length, const uint64_t *right, size_t right_length,
     uint64_t *products, size_t products_length) BF_CHECKED;
 
@@ -874,7 +874,7 @@ uint32_t bf_p64_multiply(const uint64_t *left, size_t left_length, const uint64_
 uint32_t bf_p64_multiply_by(const uint64_t *values, size_t values_length, uint64_t scalar,
     uint64_t *products, size_t products_length) BF_CHECKED;
 
-/* Adds to each element of sums the scalar times the value at its place. BF_LENGTH unless sums and values have one
+/* Adds to each element of sums the scalar times the value at its index. BF_LENGTH unless sums and values have one
  * length. */
 uint32_t bf_p64_add_scaled(uint64_t *sums, size_t sums_length, uint64_t scalar,
     const uint64_t *values, size_t values_length) BF_CHECKED;
@@ -904,7 +904,7 @@ uint32_t bf_p64_power(const uint64_t *values, size_t values_length, uint64_t exp
 /* product: the product of all elements, 1 of none. */
 uint32_t bf_p64_product(const uint64_t *values, size_t values_length, uint64_t *product) BF_CHECKED BF_NONNULL(3);
 
-/* sum: the sum of the products at each place, 0 of none. BF_LENGTH unless left and right have one length. */
+/* sum: the sum of the products at each index, 0 of none. BF_LENGTH unless left and right have one length. */
 uint32_t bf_p64_dot_product(const uint64_t *left, size_t left_length, const uint64_t *right, size_t right_length,
     uint64_t *sum) BF_CHECKED BF_NONNULL(5);
 
@@ -913,11 +913,11 @@ uint32_t bf_p64_dot_product(const uint64_t *left, size_t left_length, const uint
 uint32_t bf_p64_evaluate(const uint64_t *coefficients, size_t coefficients_length,
     const uint64_t *points, size_t points_length, uint64_t *values, size_t values_length) BF_CHECKED;
 
-/* Adds to each element of sums the value at its place. BF_LENGTH unless sums and values have one length. */
+/* Adds to each element of sums the value at its index. BF_LENGTH unless sums and values have one length. */
 uint32_t bf_p64_add_in_place(uint64_t *sums, size_t sums_length,
     const uint64_t *values, size_t values_length) BF_CHECKED;
 
-/* Multiplies each element of products by the value at its place. BF_LENGTH unless products and values have one
+/* Multiplies each element of products by the value at its index. BF_LENGTH unless products and values have one
  * length. */
 uint32_t bf_p64_multiply_in_place(uint64_t *products, size_t products_length,
     const uint64_t *values, size_t values_length) BF_CHECKED;
@@ -944,11 +944,11 @@ uint32_t bf_p64_generator(uint64_t *generator) BF_CHECKED BF_NONNULL(1);
 /* g128: GF(2)[x] modulo x^128 + x^7 + x^2 + x + 1, the field of GHASH (NIST SP 800-38D), bit i for x^i. An element
  * is a bf_u128. */
 
-/* sums: the sum of the elements at each place. BF_LENGTH unless left, right and sums have one length. */
+/* sums: the sum of the elements at each index. BF_LENGTH unless left, right and sums have one length. */
 uint32_t bf_g128_add(const bf_u128 *left, size_t left_length, const bf_u128 *right, size_t right_length,
     bf_u128 *sums, size_t sums_length) BF_CHECKED;
 
-/* products: the product of the elements at each place. BF_LENGTH unless left, right and products have one length. */
+/* products: the product of the elements at each index. BF_LENGTH unless left, right and products have one length. */
 uint32_t bf_g128_multiply(const bf_u128 *left, size_t left_length, const bf_u128 *right, size_t right_length,
     bf_u128 *products, size_t products_length) BF_CHECKED;
 
@@ -956,7 +956,7 @@ uint32_t bf_g128_multiply(const bf_u128 *left, size_t left_length, const bf_u128
 uint32_t bf_g128_multiply_by(const bf_u128 *values, size_t values_length, const bf_u128 *scalar,
     bf_u128 *products, size_t products_length) BF_CHECKED BF_NONNULL(3);
 
-/* Adds to each element of sums the scalar times the value at its place. BF_LENGTH unless sums and values have one
+/* Adds to each element of sums the scalar times the value at its index. BF_LENGTH unless sums and values have one
  * length. */
 uint32_t bf_g128_add_scaled(bf_u128 *sums, size_t sums_length, const bf_u128 *scalar,
     const bf_u128 *values, size_t values_length) BF_CHECKED BF_NONNULL(3);
@@ -986,7 +986,7 @@ uint32_t bf_g128_power(const bf_u128 *values, size_t values_length, uint64_t exp
 /* product: the product of all elements, 1 of none. */
 uint32_t bf_g128_product(const bf_u128 *values, size_t values_length, bf_u128 *product) BF_CHECKED BF_NONNULL(3);
 
-/* sum: the sum of the products at each place, 0 of none. BF_LENGTH unless left and right have one length. */
+/* sum: the sum of the products at each index, 0 of none. BF_LENGTH unless left and right have one length. */
 uint32_t bf_g128_dot_product(const bf_u128 *left, size_t left_length, const bf_u128 *right, size_t right_length,
     bf_u128 *sum) BF_CHECKED BF_NONNULL(5);
 
@@ -995,11 +995,11 @@ uint32_t bf_g128_dot_product(const bf_u128 *left, size_t left_length, const bf_u
 uint32_t bf_g128_evaluate(const bf_u128 *coefficients, size_t coefficients_length,
     const bf_u128 *points, size_t points_length, bf_u128 *values, size_t values_length) BF_CHECKED;
 
-/* Adds to each element of sums the value at its place. BF_LENGTH unless sums and values have one length. */
+/* Adds to each element of sums the value at its index. BF_LENGTH unless sums and values have one length. */
 uint32_t bf_g128_add_in_place(bf_u128 *sums, size_t sums_length,
     const bf_u128 *values, size_t values_length) BF_CHECKED;
 
-/* Multiplies each element of products by the value at its place. BF_LENGTH unless products and values have one
+/* Multiplies each element of products by the value at its index. BF_LENGTH unless products and values have one
  * length. */
 uint32_t bf_g128_multiply_in_place(bf_u128 *products, size_t products_length,
     const bf_u128 *values, size_t values_length) BF_CHECKED;
@@ -1026,11 +1026,11 @@ uint32_t bf_g128_generator(bf_u128 *generator) BF_CHECKED BF_NONNULL(1);
 /* ------------------------------------------------------------------------------------------------------------------ */
 /* p192: GF(2^64)[y] modulo y^3 + y + 1 over p64, the coefficient of 1 first. An element is a bf_u192. */
 
-/* sums: the sum of the elements at each place. BF_LENGTH unless left, right and sums have one length. */
+/* sums: the sum of the elements at each index. BF_LENGTH unless left, right and sums have one length. */
 uint32_t bf_p192_add(const bf_u192 *left, size_t left_length, const bf_u192 *right, size_t right_length,
     bf_u192 *sums, size_t sums_length) BF_CHECKED;
 
-/* products: the product of the elements at each place. BF_LENGTH unless left, right and products have one length. */
+/* products: the product of the elements at each index. BF_LENGTH unless left, right and products have one length. */
 uint32_t bf_p192_multiply(const bf_u192 *left, size_t left_length, const bf_u192 *right, size_t right_length,
     bf_u192 *products, size_t products_length) BF_CHECKED;
 
@@ -1038,7 +1038,7 @@ uint32_t bf_p192_multiply(const bf_u192 *left, size_t left_length, const bf_u192
 uint32_t bf_p192_multiply_by(const bf_u192 *values, size_t values_length, const bf_u192 *scalar,
     bf_u192 *products, size_t products_length) BF_CHECKED BF_NONNULL(3);
 
-/* Adds to each element of sums the scalar times the value at its place. BF_LENGTH unless sums and values have one
+/* Adds to each element of sums the scalar times the value at its index. BF_LENGTH unless sums and values have one
  * length. */
 uint32_t bf_p192_add_scaled(bf_u192 *sums, size_t sums_length, const bf_u192 *scalar,
     const bf_u192 *values, size_t values_length) BF_CHECKED BF_NONNULL(3);
@@ -1068,7 +1068,7 @@ uint32_t bf_p192_power(const bf_u192 *values, size_t values_length, uint64_t exp
 /* product: the product of all elements, 1 of none. */
 uint32_t bf_p192_product(const bf_u192 *values, size_t values_length, bf_u192 *product) BF_CHECKED BF_NONNULL(3);
 
-/* sum: the sum of the products at each place, 0 of none. BF_LENGTH unless left and right have one length. */
+/* sum: the sum of the products at each index, 0 of none. BF_LENGTH unless left and right have one length. */
 uint32_t bf_p192_dot_product(const bf_u192 *left, size_t left_length, const bf_u192 *right, size_t right_length,
     bf_u192 *sum) BF_CHECKED BF_NONNULL(5);
 
@@ -1077,11 +1077,11 @@ uint32_t bf_p192_dot_product(const bf_u192 *left, size_t left_length, const bf_u
 uint32_t bf_p192_evaluate(const bf_u192 *coefficients, size_t coefficients_length,
     const bf_u192 *points, size_t points_length, bf_u192 *values, size_t values_length) BF_CHECKED;
 
-/* Adds to each element of sums the value at its place. BF_LENGTH unless sums and values have one length. */
+/* Adds to each element of sums the value at its index. BF_LENGTH unless sums and values have one length. */
 uint32_t bf_p192_add_in_place(bf_u192 *sums, size_t sums_length,
     const bf_u192 *values, size_t values_length) BF_CHECKED;
 
-/* Multiplies each element of products by the value at its place. BF_LENGTH unless products and values have one
+/* Multiplies each element of products by the value at its index. BF_LENGTH unless products and values have one
  * length. */
 uint32_t bf_p192_multiply_in_place(bf_u192 *products, size_t products_length,
     const bf_u192 *values, size_t values_length) BF_CHECKED;
@@ -1639,13 +1639,13 @@ uint32_t bf_g128_linear_map(const bf_u128 *values, size_t values_length, const b
  * and s_(j+1)(x) = s_j(x)^2 + s_j(x). The basis of subspace polynomials is the products of the s_j: coefficient k is
  * that of the product of the s_j over the set bits j of k. Point p is the shift, and Cantor vector b for each set
  * bit b of p; vector 0 is 1, and of v^2 + v each other vector v makes the one before. In the low stages the factor
- * of stage j at place p is shifts[j], and basis[t] for each set bit t of p >> (j + 1). */
+ * of stage j at index p is shifts[j], and basis[t] for each set bit t of p >> (j + 1). */
 
-/* low += scalar * high, and then high += low, at each place. BF_LENGTH unless low and high have one length. */
+/* low += scalar * high, and then high += low, at each index. BF_LENGTH unless low and high have one length. */
 uint32_t bf_g128_butterfly_forward(bf_u128 *low, size_t low_length, bf_u128 *high, size_t high_length,
     const bf_u128 *scalar) BF_CHECKED BF_NONNULL(5);
 
-/* high += low, and then low += scalar * high, at each place. BF_LENGTH unless low and high have one length. */
+/* high += low, and then low += scalar * high, at each index. BF_LENGTH unless low and high have one length. */
 uint32_t bf_g128_butterfly_inverse(bf_u128 *low, size_t low_length, bf_u128 *high, size_t high_length,
     const bf_u128 *scalar) BF_CHECKED BF_NONNULL(5);
 
@@ -1841,7 +1841,7 @@ uint32_t bf_rs_verify_prepared(size_t data, size_t parity, const uint8_t *tables
 uint32_t bf_rs_shard_factors(size_t data, size_t parity, const uint8_t *present, size_t present_length, size_t shard,
     uint8_t *factors, size_t factors_length) BF_CHECKED;
 
-/* Adds to each byte of sums the product of the byte of shard at its place by the factor, modulo x^8 + x^4 + x^3 +
+/* Adds to each byte of sums the product of the byte of shard at its index by the factor, modulo x^8 + x^4 + x^3 +
  * x^2 + 1. BF_LENGTH unless shard and sums have one length. */
 uint32_t bf_rs_add_multiple(uint8_t factor, const uint8_t *shard, size_t shard_length,
     uint8_t *sums, size_t sums_length) BF_CHECKED;

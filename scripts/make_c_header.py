@@ -18,6 +18,12 @@ COLUMNS = 120
 POINTERS = {"in": "const ", "inout": "", "out": "", "result": "", "space": ""}
 ARRAYS = ("in", "inout", "out", "space")
 
+# Texts come from the table that doc comments of the proved crate come from too, in words of its sources; the header has the usual ones.
+USUAL = [
+    ("at each place", "at each index"), ("at its place", "at its index"), ("at place ", "at index "), ("processor at hand", "processor"),
+    ("whose form of the functions", "whose variant of the functions"), ("The form is chosen", "The variant is chosen"),
+]
+
 # The lengths of shards of an erasure code by transforms.
 ERASURE_LENGTHS = "shards has data, and parity_shards parity, times one number of words, which is not 0, and space at least what bf_erasure_space gives"
 
@@ -97,6 +103,8 @@ def statuses_of(name, parameters, bits):
 
 def comment(text):
     """A comment of C, its lines filled."""
+    for own, usual in USUAL:
+        text = text.replace(own, usual)
     return "/* " + "\n * ".join(textwrap.wrap(text, COLUMNS - 6, break_long_words=False)) + " */\n"
 
 
