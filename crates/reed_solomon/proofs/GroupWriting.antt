@@ -93,32 +93,6 @@ apart_places size a b different =
     below : b ≤ a → b < a
     below up = omega (arith, up, different)
 
--- a block of a row that matches, and one that does not
-pub block_matches : (entries shards starts lanes : List ℕ) (begin columns : ℕ) → ((n : ℕ) → n < columns → get_or shards (begin + n) 0 ≡ row_sum entries shards starts 0 n)
-    → ((lane : ℕ) → lane < 32 → get_or lanes lane 0 ≡ row_sum entries shards starts 0 (columns + lane))
-    → ((lane : ℕ) → lane < 32 → get_or shards (begin + columns + lane) 0 ≡ get_or lanes lane 0)
-    → (n : ℕ) → n < columns + 32 → get_or shards (begin + n) 0 ≡ row_sum entries shards starts 0 n
-block_matches entries shards starts lanes begin columns before sums here n below =
-    elim (cases_lt n columns) [
-      | inl early ↦ before n early
-      | inr late ↦ last late
-    ]
-  where
-    last : columns ≤ n → get_or shards (begin + n) 0 ≡ row_sum entries shards starts 0 n
-    last late =
-        let back : columns + (n - columns) ≡ n = omega (arith, late) in
-        let place : begin + n ≡ begin + columns + (n - columns) = omega (arith, late) in
-        let inside : n - columns < 32 = omega (arith, late, below) in
-        ap (λ (p : ℕ). get_or shards p 0) place ∙ here (n - columns) inside ∙ sums (n - columns) inside ∙ ap (row_sum entries shards starts 0) back
-
-pub block_of_row : (entries shards starts lanes : List ℕ) (begin columns size : ℕ) → columns + 32 ≤ size
-    → ((n : ℕ) → n < size → get_or shards (begin + n) 0 ≡ row_sum entries shards starts 0 n)
-    → ((lane : ℕ) → lane < 32 → get_or lanes lane 0 ≡ row_sum entries shards starts 0 (columns + lane))
-    → (lane : ℕ) → lane < 32 → get_or shards (begin + columns + lane) 0 ≡ get_or lanes lane 0
-block_of_row entries shards starts lanes begin columns size fits all sums lane inside =
-    let place : begin + columns + lane ≡ begin + (columns + lane) = omega arith in
-    ap (λ (p : ℕ). get_or shards p 0) place ∙ all (columns + lane) (omega (arith, fits, inside)) ∙ sym (sums lane inside)
-
 -- ---- groups of shards
 
 -- rows behind the rows that are written

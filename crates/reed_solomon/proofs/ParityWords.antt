@@ -4,7 +4,7 @@ use Rattle.std.specs.Prelude.{if◌then◌else◌, bit_xor}
 use Rattle.std.proofs.lemmas.Bool.{cases_lt}
 use Rattle.std.proofs.lemmas.List.{get_or-append-add, get_or_append_left, get_or-take, length-take-le}
 use Rattle.std.proofs.lemmas.Nat.{mul-add-lt}
-use Rattle.std.proofs.Math.Nat.{mul_comm}
+use Rattle.std.proofs.Math.Nat.{mul-le-mul_right, mul_comm}
 use Rattle.field_base.specs.Basis.{product_below}
 use Rattle.field_base.specs.Powers.{power}
 use Rattle.field_base.specs.Codewords.{IsCodeword}
@@ -15,7 +15,7 @@ use Rattle.reed_solomon.specs.ErasureField.{erasure_product}
 use Rattle.reed_solomon.specs.Parity.{MatchesParity, parity_factor, parity_symbol}
 use Rattle.reed_solomon.specs.Samples.{symbol_at}
 use Rattle.reed_solomon.specs.Shards.{AreCodewords, IsEncoded, shard_byte}
-use Rattle.reed_solomon.specs.Tables.{HasRow, row_sum}
+use Rattle.reed_solomon.specs.Tables.{AreRows, HasRow, row_sum}
 use Rattle.reed_solomon.proofs.ByteTables.{erasure_field}
 use Rattle.reed_solomon.proofs.GroupWriting.{row_factors, row_symbol}
 
@@ -62,23 +62,50 @@ parity_row k first count row places points entries within places_are points_are 
     point : k + first + row ≡ k + (first + row)
     point = omega arith
 
--- what row 0 of the tables gives is the symbol of its shard
-pub parity_sum : (k size count t : ℕ) (entries shards starts : List ℕ) → count ≡ k → k ≤ length starts
-    → ((j : ℕ) → j < k → get_or starts j 0 ≡ (0 + j) * size) → HasRow (parity_factor count (t + 0)) entries 0 count
-    → ((i : ℕ) → get_or shards i 0 < 256) → (column : ℕ)
-    → row_sum entries shards (take k starts) 0 column ≡ parity_symbol k size shards t column
-parity_sum k size count t entries shards starts counted long begun set bytes column =
-    row_symbol k size (λ i. i) entries shards (take k starts) 0 column (k + t) (length-take-le k starts long)
-    (λ j below. get_or-take k starts j 0 below ∙ begun j below ∙ ap (λ (n : ℕ). n * size) (same j))
-    (subst (λ (n : ℕ). HasRow (parity_factor n t) entries 0 n) counted
-    (subst (λ (n : ℕ). HasRow (parity_factor count n) entries 0 count) none set))
-    bytes
-  where
-    same : (j : ℕ) → 0 + j ≡ j
-    same j = omega arith
+-- shards of parity in whose tables the rows are equal to what these give have their symbols, behind those before them, and the other way round
+module _ (k m size done count : ℕ) (entries shards starts : List ℕ) (long : k ≤ length starts)
+    (begun : (j : ℕ) → j < k → get_or starts j 0 ≡ (0 + j) * size)
+    (set : (row : ℕ) → row < count → HasRow (parity_factor k (done + row)) entries row k) (bytes : (i : ℕ) → get_or shards i 0 < 256) where
+  abbrev of_tables : ℕ → ℕ → ℕ
+  of_tables = row_sum entries shards (take k starts)
 
-    none : t + 0 ≡ t
-    none = omega arith
+  parity_sum : (row column : ℕ) → row < count → of_tables row column ≡ parity_symbol k size shards (done + row) column
+  parity_sum row column within =
+      row_symbol k size (λ i. i) entries shards (take k starts) row column (k + (done + row)) (length-take-le k starts long)
+      (λ j below. get_or-take k starts j 0 below ∙ begun j below ∙ ap (λ (n : ℕ). n * size) (same j)) (set row within) bytes
+    where
+      same : (j : ℕ) → 0 + j ≡ j
+      same j = omega arith
+
+  place : (row column : ℕ) → (k + done) * size + row * size + column ≡ (k + (done + row)) * size + column
+  place row column = omega arith
+
+  pub parity_more : (next : ℕ) → next ≡ done + count → AreRows count size ((k + done) * size) size of_tables shards → MatchesParity k done size shards
+      → MatchesParity k next size shards
+  parity_more next next_is equal before t column below inside =
+      elim (cases_lt t done) [
+        | inl early ↦ before t column early inside
+        | inr late ↦ last late
+      ]
+    where
+      last : done ≤ t → shard_byte size shards (k + t) column ≡ parity_symbol k size shards t column
+      last late =
+          let back : done + (t - done) ≡ t = omega (arith, late) in
+          let within : t - done < count = omega (arith, late, below, next_is) in
+          subst (λ (n : ℕ). shard_byte size shards (k + n) column ≡ parity_symbol k size shards n column) back
+          (ap (λ (p : ℕ). get_or shards p 0) (sym (place (t - done) column)) ∙ equal (t - done) column within inside
+          ∙ parity_sum (t - done) column within)
+
+  pub parity_equal : done + count ≤ m → MatchesParity k m size shards → AreRows count size ((k + done) * size) size of_tables shards
+  parity_equal fits all row column within inside =
+      ap (λ (p : ℕ). get_or shards p 0) (place row column) ∙ all (done + row) column (omega (arith, fits, within)) inside
+      ∙ sym (parity_sum row column within)
+
+-- they lie within all shards
+pub parity_inside : (k m size done count : ℕ) → done + count ≤ m → (k + done) * size + count * size ≤ (k + m) * size
+parity_inside k m size done count fits =
+    let more : k + done + count ≤ k + m = omega (arith, fits) in
+    omega (arith, mul-le-mul_right size more)
 
 -- ---- the codewords of the data
 

@@ -4,8 +4,8 @@ use Rattle.std.proofs.Math.Nat.{mul-le-mul_left}
 use Rattle.std.proofs.lemmas.Bool.{cases_lt}
 use Rattle.std.proofs.lemmas.List.{get_or-append-add, get_or-drop, get_or-take, get_or_append_left, length-append, length-take-le}
 use Rattle.reed_solomon.specs.Parity.{HaveParityTables, parity_factor, parity_symbol, tables_length}
-use Rattle.reed_solomon.specs.Tables.{AreWritten, HasRow, IsEntry, row_sum}
-use Rattle.reed_solomon.proofs.GroupWriting.{row_symbol, rows_joined}
+use Rattle.reed_solomon.specs.Tables.{AreWritten, HasRow, IsEntry}
+use Rattle.reed_solomon.proofs.GroupWriting.{rows_joined}
 
 -- how many of m rows come before group `group` of four
 abbrev pub rows_before : ℕ → ℕ → ℕ
@@ -116,22 +116,6 @@ tables_room k m group tables long within =
     let fits = mul-le-mul_left (128 * k) one_more in
     omega (arith, fits, long)
 
--- and so do those of the group of a row
-pub row_room : (k m t : ℕ) (tables : List ℕ) → length tables ≡ tables_length k m → t < m → 128 * k * (t / 4) + 128 * k ≤ length tables
-row_room k m t tables long within = tables_room k m (t / 4) tables long (omega (arith, within))
-
--- a row of a group is the first one of the tables from there on
-pub row_first : (factor : ℕ → ℕ) (tables : List ℕ) (start row k : ℕ) → HasRow factor (drop start tables) row k
-    → HasRow factor (drop (start + 32 * row) tables) 0 k
-row_first factor tables start row k set j n within inside =
-    subst (IsEntry (factor j) n)
-    (get_or-drop start tables (128 * j + 32 * row + n) 0 ∙ ap (λ (p : ℕ). get_or tables p 0) place
-    ∙ sym (get_or-drop (start + 32 * row) tables (128 * j + 32 * 0 + n) 0))
-    (set j n within inside)
-  where
-    place : start + (128 * j + 32 * row + n) ≡ start + 32 * row + (128 * j + 32 * 0 + n)
-    place = omega arith
-
 -- ---- what the tables are used for
 
 module _ (k m : ℕ) (tables : List ℕ) (all : HaveParityTables k m tables) where
@@ -144,19 +128,6 @@ module _ (k m : ℕ) (tables : List ℕ) (all : HaveParityTables k m tables) whe
       subst (λ (g : ℕ). HasRow (parity_factor k (4 * group + row)) (drop (128 * k * g) tables) row k) of_group
       (subst (λ (r : ℕ). HasRow (parity_factor k (4 * group + row)) (drop (128 * k * ((4 * group + row) / 4)) tables) r k) row_is
       (all.rows (4 * group + row) inside))
-
-  -- what the tables of a row give is the symbol of its shard
-  pub prepared_sum : (size t : ℕ) (shards starts : List ℕ) → t < m → k ≤ length starts → ((j : ℕ) → j < k → get_or starts j 0 ≡ (0 + j) * size)
-      → ((i : ℕ) → get_or shards i 0 < 256) → (column : ℕ)
-      → row_sum (drop (128 * k * (t / 4) + 32 * (t % 4)) tables) shards (take k starts) 0 column ≡ parity_symbol k size shards t column
-  prepared_sum size t shards starts below long begun bytes column =
-      row_symbol k size (λ i. i) (drop (128 * k * (t / 4) + 32 * (t % 4)) tables) shards (take k starts) 0 column (k + t) (length-take-le k starts long)
-      (λ j less. get_or-take k starts j 0 less ∙ begun j less ∙ ap (λ (n : ℕ). n * size) (same j))
-      (row_first (parity_factor k t) tables (128 * k * (t / 4)) (t % 4) k (all.rows t below))
-      bytes
-    where
-      same : (j : ℕ) → 0 + j ≡ j
-      same j = omega arith
 
 -- a group of rows more
 pub groups_joined : (k m size group count : ℕ) (shards old mid now : List ℕ) → group < (m + 3) / 4

@@ -1,10 +1,12 @@
 -- Strips of columns: rows that are written apart from the shards, and then put where they belong.
 use Rattle.std.proofs.Common.{◌≡◌, ◌≢◌, ◌⊎◌, inl, inr, ℕ, ◌+◌, ◌-◌, ◌*◌, ◌<◌, ◌≤◌, ◌++◌, List, length, get_or, take, drop, refl, sym, ◌∙◌, ap, subst, arith}
-use Rattle.std.proofs.lemmas.List.{get_or-append-add, get_or_append_left, get_or-drop, get_or-take, length-append, length-drop, length-take-le}
-use Rattle.reed_solomon.specs.Tables.{AreApart, AreWritten, nibble_sum, row_sum}
+use Rattle.std.proofs.lemmas.Bool.{cases_lt}
+use Rattle.std.proofs.lemmas.List.{ext_get_or, get_or-append-add, get_or_append_left, get_or-drop, get_or-take, length-append, length-drop, length-take-le}
+use Rattle.reed_solomon.specs.Tables.{AreApart, AreRows, AreWritten, nibble_sum, row_sum}
 use Rattle.reed_solomon.proofs.GroupWriting.{apart_places}
 use Rattle.reed_solomon.proofs.RowWriting.{columns_written, row_written, still_read, written_by}
 use Rattle.field_base.proofs.BasisSums.{sum_below-same}
+use Rattle.reed_solomon.proofs.Samples.{below_next}
 
 -- ---- a part of a list that is put in the place of as many entries
 
@@ -121,3 +123,67 @@ strip_written entries starts strip spots target rows columns width size old mid 
     (columns + c) (omega (arith, fits, inside))))
     refl fits
     (λ row other less within. apart_places size (target row) (target other) (distinct row other less within))
+
+-- ---- rows that are compared with a strip
+
+-- rows of a slice, and where the row of the same number begins in a strip
+module _ (count size begin width : ℕ) (shards strip : List ℕ) where
+  abbrev of_strip : ℕ → ℕ → ℕ
+  of_strip row c = get_or strip (1024 * row + c) 0
+
+  -- a row that is equal, behind those before it
+  pub rows_more : (row first from gap cut : ℕ) → first ≡ begin + row * size → from ≡ 1024 * row → gap ≡ width → cut ≡ width
+      → take gap (drop first shards) ≡ take cut (drop from strip) → AreRows row size begin width of_strip shards
+      → AreRows (row + 1) size begin width of_strip shards
+  rows_more row first from gap cut first_is from_is gap_is cut_is same before =
+      λ other c less inside.
+      below_next (λ n. get_or shards (begin + n * size + c) 0 ≡ of_strip n c) row other less (λ early. before other c early inside)
+      (ap (λ (n : ℕ). get_or shards (n + c) 0) (sym first_is) ∙ sym (part_at first gap width c shards gap_is inside)
+      ∙ ap (λ (l : List ℕ). get_or l c 0) same ∙ part_at from cut width c strip cut_is inside ∙ ap (λ (n : ℕ). get_or strip (n + c) 0) from_is)
+
+  -- and it is equal where all are those of the strip
+  pub row_equal : (row first from gap cut : ℕ) → first ≡ begin + row * size → from ≡ 1024 * row → gap ≡ width → cut ≡ width
+      → first + width ≤ length shards → from + width ≤ length strip → row < count → AreRows count size begin width of_strip shards
+      → take gap (drop first shards) ≡ take cut (drop from strip)
+  row_equal row first from gap cut first_is from_is gap_is cut_is room inside_strip within all =
+      ext_get_or 0 (take gap (drop first shards)) (take cut (drop from strip)) (long ∙ sym (part_length from cut width strip cut_is inside_strip))
+      (λ c below.
+      let inside : c < width = omega (arith, below, long) in
+      part_at first gap width c shards gap_is inside ∙ ap (λ (n : ℕ). get_or shards (n + c) 0) first_is ∙ all row c within inside
+      ∙ ap (λ (n : ℕ). get_or strip (n + c) 0) (sym from_is) ∙ sym (part_at from cut width c strip cut_is inside))
+    where
+      long : length (take gap (drop first shards)) ≡ width
+      long = part_length first gap width shards gap_is room
+
+-- a strip of rows is what the tables give in its columns
+module _ (entries starts strip spots : List ℕ) (count size begin columns width : ℕ) (shards : List ℕ)
+    (sums : (row c : ℕ) → row < count → c < width → get_or strip (get_or spots row 0 + c) 0 ≡ row_sum entries (drop columns shards) starts row c)
+    (spots_are : (row : ℕ) → row < count → get_or spots row 0 ≡ 1024 * row) where
+  strip_sum : (row c : ℕ) → row < count → c < width → get_or strip (1024 * row + c) 0 ≡ row_sum entries shards starts row (columns + c)
+  strip_sum row c within inside =
+      ap (λ (p : ℕ). get_or strip (p + c) 0) (sym (spots_are row within)) ∙ sums row c within inside ∙ row_sum-drop entries shards starts row columns c
+
+  -- columns more
+  pub columns_more : AreRows count size (begin + columns) width (λ row c. get_or strip (1024 * row + c) 0) shards
+      → AreRows count size begin columns (row_sum entries shards starts) shards
+      → AreRows count size begin (columns + width) (row_sum entries shards starts) shards
+  columns_more equal before row c within inside =
+      elim (cases_lt c columns) [
+        | inl early ↦ before row c within early
+        | inr late ↦ last late
+      ]
+    where
+      last : columns ≤ c → get_or shards (begin + row * size + c) 0 ≡ row_sum entries shards starts row c
+      last late =
+          let back : columns + (c - columns) ≡ c = omega (arith, late) in
+          let place : begin + row * size + c ≡ begin + columns + row * size + (c - columns) = omega (arith, late) in
+          let below : c - columns < width = omega (arith, late, inside) in
+          ap (λ (p : ℕ). get_or shards p 0) place ∙ equal row (c - columns) within below ∙ strip_sum row (c - columns) within below
+          ∙ ap (row_sum entries shards starts row) back
+
+  -- rows that are what the tables give are equal to the strip
+  pub strip_equal : columns + width ≤ size → AreRows count size begin size (row_sum entries shards starts) shards
+      → AreRows count size (begin + columns) width (λ row c. get_or strip (1024 * row + c) 0) shards
+  strip_equal fits all row c within inside =
+      let place : begin + columns + row * size + c ≡ begin + row * size + (columns + c) = omega arith in
+      ap (λ (p : ℕ). get_or shards p 0) place ∙ all row (columns + c) within (omega (arith, fits, inside)) ∙ sym (strip_sum row c within inside)

@@ -34,6 +34,11 @@ pub record AreWritten (value : ℕ → ℕ → ℕ) (place : ℕ → ℕ) (rows 
   pub written : (row column : ℕ) → row < rows → column < width → slice_index now (place row + column) ≡ value row column
   pub others : (i : ℕ) → ((row : ℕ) → row < rows → (i < place row) ⊎ (place row + width ≤ i)) → slice_index now i ≡ slice_index old i
 
+-- `count` rows of `width` bytes, which begin `size` bytes apart from `begin` on, have their values
+abbrev pub AreRows : ℕ → ℕ → ℕ → ℕ → (ℕ → ℕ → ℕ) → List ℕ → Type 0
+AreRows count size begin width value bytes =
+    (row column : ℕ) → row < count → column < width → slice_index bytes (begin + row * size + column) ≡ value row column
+
 -- rows of `width` bytes that begin at two places do not meet
 abbrev pub AreApart : ℕ → ℕ → ℕ → Type 0
 AreApart width a b = (a + width ≤ b) ⊎ (b + width ≤ a)

@@ -1,5 +1,5 @@
 // Rows of shards, 32 columns at a time. A shard is known by the place where its bytes begin.
-ghost use Rattle.std.specs.Prelude.{◌≡◌, ◌+◌, ◌*◌, ◌<◌, ◌≤◌, ◌↔◌, ℕ, true, false, [], length, min, slice_index, slice_index_or, IsTrue};
+ghost use Rattle.std.specs.Prelude.{◌≡◌, ◌+◌, ◌*◌, ◌<◌, ◌≤◌, ℕ, true, false, [], length, min, slice_index, slice_index_or};
 ghost use Rattle.reed_solomon.specs.Tables.{AreApart, AreWritten, FitRows, row_sum, row_sum_of};
 
 use crate::lanes::nibble_sums;
@@ -257,51 +257,4 @@ pub(crate) fn write_group(sources: &Sources<'_>, out: &mut [u8], rows: &[usize])
         1 => write_rows::<1>(sources, out, rows),
         _ => {}
     }
-}
-
-// Whether the bytes from `begin` on are what row 0 of the tables gives.
-pub(crate) fn matches_row(
-    shards: &[u8],
-    size: usize,
-    starts: &[usize],
-    entries: &[u8],
-    begin: usize,
-) -> bool
-    requires few { length starts.now ≤ 256 }
-    requires tables { 128 * length starts.now ≤ length entries.now + 96 }
-    requires inside { (j : ℕ) → j < length starts.now → slice_index starts.now j + size ≤ length shards.now }
-    requires room { begin + size ≤ length shards.now }
-    ensures { IsTrue result ↔ ((column : ℕ) → column < size
-        → slice_index shards.now (begin + column) ≡ row_sum entries.now shards.now starts.now 0 column) }
-{
-    let count = starts.len();
-    let whole = size / 32 * 32;
-    for block in 0..size / 32 {
-        let zeros = zero_block::<1>();
-        let sums = block_sums::<1>(shards, starts, entries, 0, count, 32 * block, zeros);
-        if !has_lanes(shards, begin + 32 * block, sums[0]) {
-            return false;
-        }
-    }
-    for column in whole..size {
-        if shards[begin + column] != column_sum(shards, starts, entries, 0, count, 0, column, 0) {
-            return false;
-        }
-    }
-    true
-}
-
-// Whether the 32 bytes from `begin` on are these.
-#[inline]
-fn has_lanes(bytes: &[u8], begin: usize, lanes: u8x32) -> bool
-    requires { begin + 32 ≤ length bytes.now }
-    ensures { IsTrue result ↔ ((lane : ℕ) → lane < 32 → slice_index bytes.now (begin + lane) ≡ slice_index lanes lane) }
-{
-    let wanted = lanes.to_array();
-    for lane in 0..32 {
-        if bytes[begin + lane] != wanted[lane] {
-            return false;
-        }
-    }
-    true
 }

@@ -1,9 +1,9 @@
 // Shards that are computed from a sample of others, up to four at once. Shards of one size stand one after the other in a slice.
-ghost use Rattle.std.specs.Prelude.{◌≡◌, ◌≢◌, ◌+◌, ◌*◌, ◌^◌, ◌<◌, ◌≤◌, ℕ, length, min, slice_index};
+ghost use Rattle.std.specs.Prelude.{◌≡◌, ◌≢◌, ◌+◌, ◌*◌, ◌^◌, ◌<◌, ◌≤◌, ◌↔◌, ℕ, length, min, slice_index, IsTrue};
 ghost use Rattle.field_base.specs.Interpolation.{lagrange};
 ghost use Rattle.reed_solomon.specs.ErasureField.{erasure_product};
 ghost use Rattle.reed_solomon.specs.Samples.{symbol_at};
-ghost use Rattle.reed_solomon.specs.Tables.{AreApart, AreWritten, HasRow, row_sum};
+ghost use Rattle.reed_solomon.specs.Tables.{AreApart, AreRows, AreWritten, HasRow, row_sum};
 
 use crate::blocks::{Sources, write_group};
 use crate::sample::Sample;
@@ -117,6 +117,68 @@ fn restore_group(shards: &mut [u8], size: usize, starts: &[usize], entries: &[u8
         put_strip(shards, size, targets, column, width, &strip);
         column += width;
     }
+}
+
+// Whether up to four rows of `size` bytes, which stand behind one another from `begin` on, are what the tables give of the shards that begin
+// at `starts`: each strip of columns is written apart from the shards, and compared.
+pub(crate) fn matches_group(
+    shards: &[u8],
+    size: usize,
+    starts: &[usize],
+    entries: &[u8],
+    begin: usize,
+    count: usize,
+) -> bool
+    requires few { length starts.now ≤ 256 }
+    requires tables { 128 * length starts.now ≤ length entries.now }
+    requires some { 0 < count }
+    requires rows { count ≤ 4 }
+    requires inside { (j : ℕ) → j < length starts.now → slice_index starts.now j + size ≤ length shards.now }
+    requires room { begin + count * size ≤ length shards.now }
+    ensures { IsTrue result ↔ AreRows count size begin size (row_sum entries.now shards.now starts.now) shards.now }
+{
+    let rows = starts_from(0, 4, 1024);
+    let mut strip = [0; 4096];
+    let mut column = 0;
+    while column < size {
+        let width = strip_width(size - column);
+        let sources = Sources {
+            shards: &shards[column..],
+            size: width,
+            starts,
+            entries,
+        };
+        write_group(&sources, &mut strip, &rows[..count]);
+        if !has_strip(shards, size, begin + column, width, &strip, count) {
+            return false;
+        }
+        column += width;
+    }
+    true
+}
+
+// Whether rows of `width` bytes, which begin `size` bytes apart from `begin` on, are up to four rows of a strip, 1,024 bytes apart.
+fn has_strip(
+    shards: &[u8],
+    size: usize,
+    begin: usize,
+    width: usize,
+    strip: &[u8; 4096],
+    count: usize,
+) -> bool
+    requires rows { count ≤ 4 }
+    requires narrow { width ≤ 1024 }
+    requires room { (row : ℕ) → row < count → begin + row * size + width ≤ length shards.now }
+    ensures { IsTrue result ↔ AreRows count size begin width (λ row column. slice_index strip.now (1024 * row + column)) shards.now }
+{
+    for row in 0..count {
+        let first = begin + row * size;
+        let from = 1024 * row;
+        if shards[first..first + width] != strip[from..from + width] {
+            return false;
+        }
+    }
+    true
 }
 
 // How many of so many columns a strip has.

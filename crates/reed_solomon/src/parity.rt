@@ -4,8 +4,8 @@ ghost use Rattle.reed_solomon.specs.Parity.{parity_factor, parity_symbol};
 ghost use Rattle.reed_solomon.specs.Shards.{AreCodewords, IsEncoded};
 ghost use Rattle.reed_solomon.specs.Tables.{AreWritten, HasRow};
 
-use crate::blocks::{Sources, matches_row, write_group};
-use crate::groups::{bytes_fit, group_size, set_rows, starts_from};
+use crate::blocks::{Sources, write_group};
+use crate::groups::{bytes_fit, group_size, matches_group, set_rows, starts_from};
 use crate::sample::{Sample, places_from};
 use crate::tables::RowTables;
 
@@ -94,11 +94,15 @@ pub(crate) fn matches_parity(shards: &[u8], size: usize, k: usize, m: usize) -> 
     let sample = Sample::of_first(k);
     let starts = starts_from(0, k, size);
     let mut tables = RowTables::empty();
-    for t in 0..m {
-        set_parity_rows(&mut tables.entries, &sample, t, 1);
-        if !matches_row(shards, size, &starts[..k], &tables.entries, (k + t) * size) {
+    let mut done = 0;
+    while done < m {
+        let count = group_size(m - done);
+        set_parity_rows(&mut tables.entries, &sample, done, count);
+        let begin = (k + done) * size;
+        if !matches_group(shards, size, &starts[..k], &tables.entries, begin, count) {
             return false;
         }
+        done += count;
     }
     true
 }

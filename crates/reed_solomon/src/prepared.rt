@@ -5,10 +5,9 @@ ghost use Rattle.reed_solomon.specs.Shards.{AreCodewords, IsEncoded};
 ghost use Rattle.reed_solomon.specs.Sizes.{HasShardSize, ShardSizeError};
 
 use crate::ReedSolomon;
-use crate::blocks::matches_row;
 use crate::codec::shard_size;
 use crate::error::ReedSolomonError;
-use crate::groups::{bytes_fit, group_size, starts_from};
+use crate::groups::{bytes_fit, group_size, matches_group, starts_from};
 use crate::parity::{set_parity_rows, write_parity_group};
 use crate::sample::Sample;
 use crate::tables::RowTables;
@@ -162,7 +161,7 @@ fn write_prepared(shards: &[u8], size: usize, k: usize, tables: &[u8], parity: &
 }
 
 // Whether m shards of parity are those of the k shards of data before them, by their tables.
-#[tactic(auto, using(crate::proofs::PreparedTables::row_room))]
+#[tactic(auto, using(crate::proofs::PreparedTables::tables_room))]
 fn matches_prepared(shards: &[u8], size: usize, k: usize, tables: &[u8], m: usize) -> bool
     requires some { 0 < k }
     requires points { k + m ≤ 256 }
@@ -172,9 +171,12 @@ fn matches_prepared(shards: &[u8], size: usize, k: usize, tables: &[u8], m: usiz
 {
     bytes_fit(shards);
     let starts = starts_from(0, k, size);
-    for t in 0..m {
-        let row = 128 * k * (t / 4) + 32 * (t % 4);
-        if !matches_row(shards, size, &starts[..k], &tables[row..], (k + t) * size) {
+    for group in 0..(m + 3) / 4 {
+        let done = 4 * group;
+        let count = group_size(m - done);
+        let entries = &tables[128 * k * group..];
+        let begin = (k + done) * size;
+        if !matches_group(shards, size, &starts[..k], entries, begin, count) {
             return false;
         }
     }

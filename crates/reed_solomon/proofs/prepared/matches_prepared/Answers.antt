@@ -1,47 +1,66 @@
-use Rattle.std.proofs.Common.{◌≡◌, ◌+◌, ◌-◌, ◌*◌, ◌/◌, ◌%◌, ℕ, List, length, take, drop, refl, sym, ◌∙◌, ap, arith}
-use Rattle.std.proofs.lemmas.List.{take_rest}
+use Rattle.std.proofs.Common.{◌≡◌, ◌+◌, ◌-◌, ◌*◌, ◌/◌, ◌<◌, ◌≤◌, ℕ, List, length, min, take, drop, refl, sym, ◌∙◌, ap, subst, arith}
 use Rattle.std.proofs.lemmas.Bool.{false≢true}
-use Rattle.reed_solomon.specs.Parity.{parity_symbol}
-use Rattle.reed_solomon.specs.Shards.{shard_byte}
-use Rattle.reed_solomon.specs.Tables.{row_sum}
-use Rattle.reed_solomon.proofs.ParityWords.{matching_parity}
-use Rattle.reed_solomon.proofs.PreparedTables.{prepared_sum}
-use Rattle.reed_solomon.proofs.Samples.{below_next}
+use Rattle.std.proofs.lemmas.List.{take_rest}
+use Rattle.reed_solomon.specs.Parity.{HaveParityTables, MatchesParity, parity_factor}
+use Rattle.reed_solomon.specs.Tables.{HasRow}
+use Rattle.reed_solomon.proofs.ParityWords.{matching_parity, parity_equal, parity_inside, parity_more}
+use Rattle.reed_solomon.proofs.PreparedTables.{rows_before, tables_of}
 use Rattle.reed_solomon.proofs.prepared.matches_prepared.Goals as goal
 
--- the tables of a row, from where it begins
-row_tables : (k t : ℕ) (tables shards starts : List ℕ) (column : ℕ)
-    → row_sum (take (length tables - (128 * k * (t / 4) + 32 * (t % 4))) (drop (128 * k * (t / 4) + 32 * (t % 4)) tables)) shards starts 0 column
-    ≡ row_sum (drop (128 * k * (t / 4) + 32 * (t % 4)) tables) shards starts 0 column
-row_tables k t tables shards starts column =
-    ap (λ (l : List ℕ). row_sum l shards starts 0 column) (take_rest tables (128 * k * (t / 4) + 32 * (t % 4)))
+-- the tables of a group, from where they begin
+group_tables : (k m group count : ℕ) (tables : List ℕ) → HaveParityTables k m tables → count ≡ min (m - 4 * group) 4
+    → (row : ℕ) → row < count
+    → HasRow (parity_factor k (4 * group + row)) (take (length tables - 128 * k * group) (drop (128 * k * group) tables)) row k
+group_tables k m group count tables all count_is row within =
+    subst (λ (l : List ℕ). HasRow (parity_factor k (4 * group + row)) l row k) (sym (take_rest tables (128 * k * group)))
+    (tables_of k m tables all group row (omega (arith, within, count_is)) (omega (arith, within, count_is)))
 
-pub loop-t-preserved : goal.loop-t-preserved
-loop-t-preserved c = λ all t column below inside.
-    below_next (λ n. shard_byte c.args.size c.args.shards.now (c.args.k + n) column ≡ parity_symbol c.args.k c.args.size c.args.shards.now n column)
-    c.loop-t.t t below (λ was. c.loop-t.invariant all t column was inside)
-    (c.matches_row.ensures.0 c.if-not-matches_row.false column inside
-    ∙ row_tables c.args.k c.loop-t.t c.args.tables.now c.args.shards.now (take c.args.k c.starts_from-starts.result) column
-    ∙ prepared_sum c.args.k c.args.m c.args.tables.now all c.args.size c.loop-t.t c.args.shards.now c.starts_from-starts.result c.loop-t-test.true
-    (omega (arith, c.requires.points, c.starts_from-starts.ensures.long)) c.starts_from-starts.ensures.starts c.bytes_fit.ensures column)
+-- the shards of a group lie among those of parity
+group_within : (m group count : ℕ) → group < (m + 3) / 4 → count ≡ min (m - 4 * group) 4
+    → (4 * group + count ≤ m) × (rows_before m (group + 1) ≡ rows_before m group + count) × (rows_before m group ≡ 4 * group)
+group_within m group count inside count_is =
+    (omega (arith, inside, count_is), omega (arith, inside, count_is), omega (arith, inside))
 
-pub returns-then-not-matches_row : goal.returns-then-not-matches_row
-returns-then-not-matches_row c = λ all. (
-  (λ wrong. absurd (false≢true wrong)),
-  λ words. absurd (false≢true (sym c.if-not-matches_row.true
-      ∙ c.matches_row.ensures.1 (λ column inside.
-      (matching_parity c.args.k c.args.m c.args.size c.args.shards.now c.requires.points c.bytes_fit.ensures).1 words c.loop-t.t column
-      c.loop-t-test.true inside
-      ∙ sym (row_tables c.args.k c.loop-t.t c.args.tables.now c.args.shards.now (take c.args.k c.starts_from-starts.result) column
-      ∙ prepared_sum c.args.k c.args.m c.args.tables.now all c.args.size c.loop-t.t c.args.shards.now c.starts_from-starts.result
-      c.loop-t-test.true (omega (arith, c.requires.points, c.starts_from-starts.ensures.long)) c.starts_from-starts.ensures.starts
-      c.bytes_fit.ensures column)))),
-)
+pub matches_group-requires-clause-room : goal.matches_group-requires-clause-room
+matches_group-requires-clause-room c =
+    let fits = (group_within c.args.m c.loop-group.group c.group_size-count.result c.loop-group-test.true c.group_size-count.ensures).0 in
+    omega (arith, c.requires.whole, parity_inside c.args.k c.args.m c.args.size (4 * c.loop-group.group) c.group_size-count.result fits)
+
+pub loop-group-preserved : goal.loop-group-preserved
+loop-group-preserved c = λ all.
+    let k = c.args.k in
+    let m = c.args.m in
+    let group = c.loop-group.group in
+    let count = c.group_size-count.result in
+    let tables = c.args.tables.now in
+    let within = group_within m group count c.loop-group-test.true c.group_size-count.ensures in
+    parity_more k m c.args.size (4 * group) count (take (length tables - 128 * k * group) (drop (128 * k * group) tables)) c.args.shards.now
+    c.starts_from-starts.result (omega (arith, c.requires.points, c.starts_from-starts.ensures.long)) c.starts_from-starts.ensures.starts
+    (group_tables k m group count tables all c.group_size-count.ensures) c.bytes_fit.ensures (rows_before m (group + 1))
+    (within.1 ∙ ap (λ (n : ℕ). n + count) within.2) (c.matches_group.ensures.0 c.if-not-matches_group.false)
+    (subst (λ (n : ℕ). MatchesParity k n c.args.size c.args.shards.now) within.2 (c.loop-group.invariant all))
+
+pub returns-then-not-matches_group : goal.returns-then-not-matches_group
+returns-then-not-matches_group c = λ all.
+    let k = c.args.k in
+    let m = c.args.m in
+    let group = c.loop-group.group in
+    let count = c.group_size-count.result in
+    let tables = c.args.tables.now in (
+      (λ wrong. absurd (false≢true wrong)),
+      λ words. absurd (false≢true (sym c.if-not-matches_group.true
+          ∙ c.matches_group.ensures.1 (parity_equal k m c.args.size (4 * group) count
+          (take (length tables - 128 * k * group) (drop (128 * k * group) tables)) c.args.shards.now c.starts_from-starts.result
+          (omega (arith, c.requires.points, c.starts_from-starts.ensures.long)) c.starts_from-starts.ensures.starts
+          (group_tables k m group count tables all c.group_size-count.ensures) c.bytes_fit.ensures
+          (group_within m group count c.loop-group-test.true c.group_size-count.ensures).0
+          ((matching_parity k m c.args.size c.args.shards.now c.requires.points c.bytes_fit.ensures).1 words)))),
+    )
 
 pub returns : goal.returns
 returns c = λ all. (
   (λ right.
       (matching_parity c.args.k c.args.m c.args.size c.args.shards.now c.requires.points c.bytes_fit.ensures).0
-      (λ t column below inside. c.loop-t.invariant all t column (omega (arith, below, c.loop-t-test.false)) inside)),
+      (λ t column below inside. c.loop-group.invariant all t column (omega (arith, below, c.loop-group-test.false)) inside)),
   λ words. refl,
 )
