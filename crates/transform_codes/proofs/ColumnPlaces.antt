@@ -1,10 +1,49 @@
 -- Places of strips among the words of shards, and rows that are put there one after the other.
-use Rattle.std.proofs.Common.{◌≡◌, ◌≢◌, ◌⊎◌, inl, inr, ℕ, ◌+◌, ◌-◌, ◌*◌, ◌<◌, ◌≤◌, Bool, List, length, get_or, set, ◌∙◌, ap, subst, arith, below_more, mul-le-mul_right}
+use Rattle.std.proofs.Common.{◌≡◌, ◌≢◌, ◌⊎◌, inl, inr, ℕ, ◌+◌, ◌-◌, ◌*◌, ◌<◌, ◌≤◌, ◌++◌, Bool, List, length, get_or, set, take, drop, sym, ◌∙◌, ap, subst, arith, below_more, mul-le-mul_right}
 use Rattle.std.proofs.lemmas.Bool.{cases_lt}
-use Rattle.std.proofs.lemmas.List.{get_or-set_other, get_or-set_same}
+use Rattle.std.proofs.lemmas.List.{get_or-append-add, get_or_append_left, get_or-drop, get_or-set_other, get_or-set_same, get_or-take, length-drop, length-take-le}
+use borrow.Rule.Slice.PartMut.{put_mid}
 use Rattle.field_base.specs.Tower.{tower_mul}
 use Rattle.transform_codes.specs.Columns.{ArePutWords, ArePutProducts, AreRowProducts, AreScattered, HoldStrip, IsOutside}
 use lib.Arith.{digits_lt}
+
+-- words that are copied into a part of a list, with those before it and behind it as they were
+pub part_copied : (W : Type 0) (zero : W) (place from count gap cut : ℕ) (old source part : List W) → gap ≡ count → cut ≡ count
+    → place + count ≤ length old → from + count ≤ length source → part ≡ take cut (drop from source)
+    → ArePutWords zero place count (λ c. get_or source (from + c) zero) old (put_mid place gap old part)
+part_copied W zero place from count gap cut old source part gap_is cut_is room enough part_is =
+    record {
+      written = λ c below.
+          ap (λ (n : ℕ). get_or whole (n + c) zero) (sym before) ∙ get_or-append-add (take place old) (part ++ drop gap (drop place old)) c zero
+          ∙ get_or_append_left part (drop gap (drop place old)) zero c (omega (arith, below, long)) ∙ ap (λ (l : List W). get_or l c zero) part_is
+          ∙ get_or-take cut (drop from source) c zero (omega (arith, below, cut_is)) ∙ get_or-drop from source c zero;
+      kept = λ p side.
+          elim side [
+            | inl low ↦ get_or_append_left (take place old) (part ++ drop gap (drop place old)) zero p (omega (arith, low, before))
+                ∙ get_or-take place old p zero low
+            | inr high ↦ behind p high
+          ];
+    }
+  where
+    whole : List W
+    whole = put_mid place gap old part
+
+    before : length (take place old) ≡ place
+    before = length-take-le place old (omega (arith, room))
+
+    long : length part ≡ count
+    long =
+        let rest = length-drop from source in
+        ap (λ (l : List W). length l) part_is ∙ length-take-le cut (drop from source) (omega (arith, rest, enough, cut_is)) ∙ cut_is
+
+    behind : (p : ℕ) → place + count ≤ p → get_or whole p zero ≡ get_or old p zero
+    behind p high =
+        let far : p ≡ length (take place old) + (length part + (p - place - count)) = omega (arith, high, before, long) in
+        let back : place + (gap + (p - place - count)) ≡ p = omega (arith, high, gap_is) in
+        ap (λ (n : ℕ). get_or whole n zero) far
+        ∙ get_or-append-add (take place old) (part ++ drop gap (drop place old)) (length part + (p - place - count)) zero
+        ∙ get_or-append-add part (drop gap (drop place old)) (p - place - count) zero ∙ get_or-drop gap (drop place old) (p - place - count) zero
+        ∙ get_or-drop place old (gap + (p - place - count)) zero ∙ ap (λ (n : ℕ). get_or old n zero) back
 
 -- a strip of a shard ends within the shards
 pub strip_within : (size count i start width : ℕ) → i < count → start + width ≤ size → i * size + start + width ≤ count * size

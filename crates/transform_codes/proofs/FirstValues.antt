@@ -1,5 +1,5 @@
 -- Values at the first 2 ^ n points: as many coefficients have them, once those of the upper halves are added to the lower ones.
-use Rattle.std.proofs.Common.{◌≡◌, ℕ, zero, suc, ◌+◌, ◌-◌, ◌*◌, ◌/◌, ◌^◌, ◌<◌, ◌≤◌, List, ◌++◌, length, get_or, map, lit<, refl, sym, ◌∙◌, ap, ap₂, subst, arith}
+use Rattle.std.proofs.Common.{◌≡◌, ℕ, zero, suc, ◌+◌, ◌-◌, ◌*◌, ◌/◌, ◌^◌, ◌<◌, ◌≤◌, List, ◌++◌, length, get_or, map, lit<, sym, ◌∙◌, ap, ap₂, subst, arith}
 use Rattle.std.specs.Prelude.{bit_xor, slice_index}
 use Rattle.std.proofs.Math.Nat.{mul-le-mul, pow-le-pow_right, two-pow-succ}
 use Rattle.std.proofs.lemmas.List.{get_or_append_left}

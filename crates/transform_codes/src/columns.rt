@@ -18,9 +18,7 @@ pub(crate) fn copy_words<R: Stored>(
     ensures long { length target.new ≡ length target.old }
     ensures put { ArePutWords R.ZERO place count (λ c. slice_index_or source.now (from + c) R.ZERO) target.old target.new }
 {
-    for c in 0..count {
-        target[place + c] = source[from + c];
-    }
+    target[place..place + count].copy_from_slice(&source[from..from + count]);
 }
 
 // Sets `count` words to 0, from place `place` on.
