@@ -132,17 +132,17 @@ pub(crate) fn power_of<R: Stored, W: Holds<R>, K: FieldKernel<R>>(word: W, expon
     value
 }
 
-/// Whether every word is an element. Where an element has as many bits as a word, nothing is left of the loop.
+/// Whether every word is an element. All words are looked at, so that the loop becomes one over vectors; where an element has as many bits as
+/// a word, nothing is left of it.
 #[inline]
 pub fn are_elements<R: Stored, W: Holds<R>, K: FieldKernel<R>>(words: &[W]) -> bool
     ensures { IsTrue result ↔ AreElements (field_of W.number K.width K.product K.generator) words.now }
 {
+    let mut all = true;
     for word in words {
-        if !fields::is_element::<R, W, K>(*word) {
-            return false;
-        }
+        all = fields::is_element::<R, W, K>(*word) && all;
     }
-    true
+    all
 }
 
 /// Whether every word of both slices is an element.
