@@ -26,11 +26,11 @@
  * was looked at.
  *
  * Sections, in this order: gf2, t2, t4, t8, t16, t32, t64, t128, r8, p64, g128, p192, matrices over each field, changes
- * of basis and linear maps, transforms, tags, codes over bytes, codes by transforms. Each field has functions
- * bf_FIELD_NAME of these names: add, multiply, multiply_by, add_scaled, square, inverse, batch_inverse, square_root,
- * power, product, dot_product, evaluate, add_in_place, multiply_in_place, multiply_by_in_place, square_in_place,
- * inverse_in_place, square_root_in_place, power_in_place, generator, matrix_multiply, matrix_row_reduce, matrix_rank,
- * matrix_determinant, matrix_inverse, matrix_solve.
+ * of basis and linear maps, packed matrices over GF(2), transforms, tags, codes over bytes, codes by transforms. Each
+ * field has functions bf_FIELD_NAME of these names: add, multiply, multiply_by, add_scaled, square, inverse,
+ * batch_inverse, square_root, power, product, dot_product, evaluate, add_in_place, multiply_in_place,
+ * multiply_by_in_place, square_in_place, inverse_in_place, square_root_in_place, power_in_place, generator,
+ * matrix_multiply, matrix_row_reduce, matrix_rank, matrix_determinant, matrix_inverse, matrix_solve.
  */
 #ifndef BINARY_FIELD_H
 #define BINARY_FIELD_H
@@ -1633,6 +1633,34 @@ uint32_t bf_r8_linear_map(const uint8_t *values, size_t values_length, const uin
  * values and mapped have one length, and there are 128 images. */
 uint32_t bf_g128_linear_map(const bf_u128 *values, size_t values_length, const bf_u128 *images, size_t images_length,
     bf_u128 *mapped, size_t mapped_length) BF_CHECKED;
+
+/* ------------------------------------------------------------------------------------------------------------------ */
+/* Matrices over GF(2) whose rows are packed in words of 64 bits, row after row: a row of so many columns takes
+ * ceil(columns / 64) words, and column j of it is bit j % 64 of its word j / 64. The bits behind the columns are 0:
+ * a word where they are not is no element. */
+
+/* product: the product over GF(2) of left, of rows rows of inner bits, and right, of inner rows of columns bits.
+ * BF_LENGTH unless left has rows * ceil(inner / 64) words, right inner * ceil(columns / 64), and product rows *
+ * ceil(columns / 64). */
+uint32_t bf_bit_matrix_multiply(const uint64_t *left, size_t left_length, const uint64_t *right, size_t right_length,
+    uint64_t *product, size_t product_length, size_t rows, size_t inner, size_t columns) BF_CHECKED;
+
+/* transposed: the transpose of a matrix over GF(2) of rows rows of columns bits, which has columns rows of rows
+ * bits. BF_LENGTH unless matrix has rows * ceil(columns / 64) words, and transposed columns * ceil(rows / 64). */
+uint32_t bf_bit_matrix_transpose(const uint64_t *matrix, size_t matrix_length,
+    uint64_t *transposed, size_t transposed_length, size_t rows, size_t columns) BF_CHECKED;
+
+/* Brings a matrix over GF(2) of rows rows of columns bits to reduced row echelon form; rank is its rank, the first
+ * rank of the rows places of pivots become the columns of its leading entries, and the others stay. BF_LENGTH unless
+ * matrix has rows * ceil(columns / 64) words, and pivots rows places. */
+uint32_t bf_bit_matrix_row_reduce(uint64_t *matrix, size_t matrix_length, size_t rows, size_t columns,
+    size_t *pivots, size_t pivots_length, size_t *rank) BF_CHECKED BF_NONNULL(7);
+
+/* rank: the rank of a matrix over GF(2) of rows rows of columns bits, in as much space and rows places, which may be
+ * written whatever the status. BF_LENGTH unless matrix and space have rows * ceil(columns / 64) words, and places
+ * has rows places. */
+uint32_t bf_bit_matrix_rank(const uint64_t *matrix, size_t matrix_length, size_t rows, size_t columns,
+    uint64_t *space, size_t space_length, size_t *places, size_t places_length, size_t *rank) BF_CHECKED BF_NONNULL(9);
 
 /* ------------------------------------------------------------------------------------------------------------------ */
 /* Stages of additive transforms over g128, and the whole transform over g128 and levels of the tower. s_0(x) = x,

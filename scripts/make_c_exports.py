@@ -62,6 +62,12 @@ MAY_TAKE_TURNS, OPERANDS = "slices::write_each", {"Power": "exponent"}
 OTHER_CALLS = {row.split()[0]: row.split(maxsplit=3)[1:] for row in """\
 r8_linear_map           linear      map_bytes          MapsLinearly itself 8 images.now values.now mapped.old mapped.new result
 g128_linear_map         linear      map_wide           MapsLinearly wide_number 128 images.now values.now mapped.old mapped.new result
+bit_matrix_multiply     bit_matrices  bit_matrices::multiply    MultipliesBits rows inner columns left.now right.now product.old product.new result
+bit_matrix_transpose    bit_matrices  bit_matrices::transpose   TransposesBits rows columns matrix.now transposed.old transposed.new result
+bit_matrix_row_reduce   bit_matrices  bit_matrices::row_reduce  ReducesBitRows rows columns matrix.old pivots.old rank.old matrix.new pivots.new \
+rank.new result
+bit_matrix_rank         bit_matrices  bit_matrices::rank        TakesBitRank rows columns matrix.now (length space.old) (length places.old) \
+rank.old rank.new result
 g128_butterfly_forward  transforms  butterfly_forward  ButterfliesForward (wide_number scalar.now) low.old high.old low.new high.new result
 g128_butterfly_inverse  transforms  butterfly_inverse  ButterfliesInverse (wide_number scalar.now) low.old high.old low.new high.new result
 g128_low_stages         transforms  low_stages         RunsLowStages shifts.now basis.now first_run values.old values.new result
@@ -130,6 +136,7 @@ matrix_solve        SolvesEquations {} rows columns matrix.now right.now (length
 
 # What each file of such functions has.
 ABOUT = {
+    "bit_matrices": "Calls over matrices over GF(2), whose rows are packed in words of 64 bits.",
     "changes": "Calls over slices of elements of a level of the tower, and of their images in a field of polynomials.",
     "erasure": "Calls of erasure codes by transforms, over words of 16 bits: shards of data, and those of parity, stand one after the other.",
     "linear": "Calls that map words linearly.",
@@ -149,6 +156,7 @@ HOMES = {
     "tags.specs.Gcm": ["ghash"],
     "tags.specs.Pieces": ["hash_with_lengths"],
     "tags.specs.Polyval": ["polyval"],
+    "c_calls.specs.BitMatrices": ["MultipliesBits", "ReducesBitRows", "TakesBitRank", "TransposesBits"],
     "c_calls.specs.Bytes": [
         "AddsOneMultiple", "AddsOneShard", "BeginsHash", "ChangesMessage", "Compares", "Encodes", "EncodesPrepared", "EndsHash", "Hashes",
         "Prepares", "Reconstructs", "TellsFactors", "TellsTablesLength", "Verifies", "VerifiesPrepared",

@@ -61,6 +61,10 @@ LENGTHS = {
     "matrix_determinant": "matrix and space have size * size elements",
     "matrix_inverse": "matrix and inverse have size * size elements, space 2 * size * size, and places size places",
     "matrix_solve": "matrix has rows * columns elements, right rows, solution columns, space rows * (columns + 1), and places rows places",
+    "bit_matrix_multiply": "left has rows * ceil(inner / 64) words, right inner * ceil(columns / 64), and product rows * ceil(columns / 64)",
+    "bit_matrix_transpose": "matrix has rows * ceil(columns / 64) words, and transposed columns * ceil(rows / 64)",
+    "bit_matrix_row_reduce": "matrix has rows * ceil(columns / 64) words, and pivots rows places",
+    "bit_matrix_rank": "matrix and space have rows * ceil(columns / 64) words, and places has rows places",
     "erasure_space": "",
     "erasure_encode": ERASURE_LENGTHS,
     "erasure_verify": ERASURE_LENGTHS,
@@ -244,6 +248,11 @@ Reed-Solomon codes over bytes modulo x^8 + x^4 + x^3 + x^2 + 1: shard i has the 
 determine.
 """
 
+PACKED = """\
+Matrices over GF(2) whose rows are packed in words of 64 bits, row after row: a row of so many columns takes ceil(columns / 64) words, and
+column j of it is bit j % 64 of its word j / 64. The bits behind the columns are 0: a word where they are not is no element.
+"""
+
 TRANSFORMS = """\
 Stages of additive transforms over g128, and the whole transform over g128 and levels of the tower. s_0(x) = x, and s_(j+1)(x) = s_j(x)^2
 + s_j(x). The basis of subspace polynomials is the products of the s_j: coefficient k is that of the product of the s_j over the set bits
@@ -357,6 +366,7 @@ CASES    default: return "unknown status";
 # The subjects of the functions of no field, in their order: a subject, its heading, and patterns of names, in whose order functions stand.
 SUBJECTS = [
     ("changes of basis and linear maps", "Changes of basis, and linear maps over GF(2).", [r"_to_", r"_linear_map$"]),
+    ("packed matrices over GF(2)", PACKED, [r"^bit_matrix_"]),
     ("transforms", TRANSFORMS, [r"_butterfly_|_low_stages$", r"_transform$"]),
     ("tags", TAGS, [r"ghash|polyval", r"^tags_"]),
     # What others call comes first.

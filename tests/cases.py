@@ -186,6 +186,44 @@ def invertible(field, draw, size):
     return [it for i in reversed(range(size)) for it in product[i * size : (i + 1) * size]]
 
 
+def packed(matrix, rows, columns):
+    """The words of 64 bits of a matrix over GF(2), row after row."""
+    words = []
+    for i in range(rows):
+        row = sum(bit << j for j, bit in enumerate(matrix[i * columns : (i + 1) * columns]))
+        words += [row >> (64 * at) & (1 << 64) - 1 for at in range(-(-columns // 64))]
+    return words
+
+
+def bit_matrix_cases(draw):
+    """Matrices over GF(2) whose rows are packed, of every shape: rows that end in a word and at its end, and bits behind them."""
+    field = FIELDS["gf2"]
+    bits = lambda count: [draw.getrandbits(1) for _ in range(count)]
+    for rows, inner, columns in ((3, 70, 130), (0, 0, 0), (0, 65, 3), (2, 0, 65), (2, 3, 0), (1, 1, 1), (5, 64, 64), (9, 128, 63), (70, 20, 600)):
+        left, right = bits(rows * inner), bits(inner * columns)
+        product = field.matrix_product(left, right, rows, inner, columns)
+        made = packed(left, rows, inner), packed(right, inner, columns), packed(product, rows, columns)
+        yield case("bit_matrix_multiply", *made, rows, inner, columns)
+        for at, width in enumerate((inner, columns)):
+            if made[at] and width % 64:
+                behind = [*made[at][:-1], made[at][-1] | 1 << 63]
+                yield refused(case("bit_matrix_multiply", *made[:at], behind, *made[at + 1:], rows, inner, columns), "BF_NOT_AN_ELEMENT")
+    for rows, columns, most in ((3, 130, 3), (0, 0, 0), (0, 70, 0), (3, 0, 0), (1, 1, 1), (1, 1, 0), (64, 64, 60), (70, 65, 40), (5, 200, 3), (130, 7, 5)):
+        matrix = field.matrix_product(bits(rows * most), bits(most * columns), rows, most, columns)
+        words, turned = packed(matrix, rows, columns), [matrix[i * columns + j] for j in range(columns) for i in range(rows)]
+        form, pivots = field.echelon(matrix, rows, columns)
+        rank, transposed = len(pivots), packed(turned, columns, rows)
+        form = packed(form, rows, columns)
+        yield case("bit_matrix_transpose", words, transposed, rows, columns)
+        yield case("bit_matrix_row_reduce", (words, form), rows, columns, pivots + [UNWRITTEN] * (rows - rank), [rank])
+        yield case("bit_matrix_rank", words, rows, columns, len(words), rows, [rank])
+        if words and columns % 64:
+            behind = [*words[:-1], words[-1] | 1 << columns % 64]
+            yield refused(case("bit_matrix_transpose", behind, transposed, rows, columns), "BF_NOT_AN_ELEMENT")
+            yield refused(case("bit_matrix_row_reduce", (behind, behind), rows, columns, [0] * rows, [0]), "BF_NOT_AN_ELEMENT")
+            yield refused(case("bit_matrix_rank", behind, rows, columns, len(words), rows, [0]), "BF_NOT_AN_ELEMENT")
+
+
 def basis_cases(draw):
     """Changes of basis and linear maps."""
     for polynomials, tower in ((it.name, it.partner.name) for it in definitions.fields.FIELDS if it.modulus):
@@ -491,6 +529,7 @@ EMPTY = {
     "matrix_multiply": lambda rows, inner, columns: rows * inner == inner * columns == rows * columns == 0,
     "matrix_row_reduce": lambda rows, columns: rows == 0,
     "matrix_rank": lambda rows, columns: rows == 0,
+    "matrix_transpose": lambda rows, columns: rows * columns == 0,
     "matrix_determinant": lambda size: size == 0,
     "matrix_inverse": lambda size: size == 0,
     "matrix_solve": lambda rows, columns: rows == columns == 0,
@@ -539,7 +578,7 @@ def all_cases():
     for field in FIELDS.values():
         cases += field_cases(field, draw)
         cases += matrix_cases(field, draw)
-    for them in (basis_cases, stage_cases, tag_cases, code_cases, erasure_cases, long_cases):
+    for them in (basis_cases, bit_matrix_cases, stage_cases, tag_cases, code_cases, erasure_cases, long_cases):
         cases += them(draw)
     worked = [case(name, *values) for name, *values in published.rows()]
     cases += [*status_cases(cases), *worked]

@@ -2791,6 +2791,56 @@ unsafe extern "C" {
         mapped: *mut [u64; 2],
         mapped_length: usize,
     ) -> u32;
+    /// product: the product over GF(2) of left, of rows rows of inner bits, and right, of inner rows of columns bits.
+    /// BF_LENGTH unless left has rows * ceil(inner / 64) words, right inner * ceil(columns / 64), and product rows *
+    /// ceil(columns / 64).
+    pub fn bf_bit_matrix_multiply(
+        left: *const u64,
+        left_length: usize,
+        right: *const u64,
+        right_length: usize,
+        product: *mut u64,
+        product_length: usize,
+        rows: usize,
+        inner: usize,
+        columns: usize,
+    ) -> u32;
+    /// transposed: the transpose of a matrix over GF(2) of rows rows of columns bits, which has columns rows of rows
+    /// bits. BF_LENGTH unless matrix has rows * ceil(columns / 64) words, and transposed columns * ceil(rows / 64).
+    pub fn bf_bit_matrix_transpose(
+        matrix: *const u64,
+        matrix_length: usize,
+        transposed: *mut u64,
+        transposed_length: usize,
+        rows: usize,
+        columns: usize,
+    ) -> u32;
+    /// Brings a matrix over GF(2) of rows rows of columns bits to reduced row echelon form; rank is its rank, the
+    /// first rank of the rows places of pivots become the columns of its leading entries, and the others stay.
+    /// BF_LENGTH unless matrix has rows * ceil(columns / 64) words, and pivots rows places.
+    pub fn bf_bit_matrix_row_reduce(
+        matrix: *mut u64,
+        matrix_length: usize,
+        rows: usize,
+        columns: usize,
+        pivots: *mut usize,
+        pivots_length: usize,
+        rank: *mut usize,
+    ) -> u32;
+    /// rank: the rank of a matrix over GF(2) of rows rows of columns bits, in as much space and rows places, which
+    /// may be written whatever the status. BF_LENGTH unless matrix and space have rows * ceil(columns / 64) words,
+    /// and places has rows places.
+    pub fn bf_bit_matrix_rank(
+        matrix: *const u64,
+        matrix_length: usize,
+        rows: usize,
+        columns: usize,
+        space: *mut u64,
+        space_length: usize,
+        places: *mut usize,
+        places_length: usize,
+        rank: *mut usize,
+    ) -> u32;
     /// low += scalar * high, and then high += low, at each place. BF_LENGTH unless low and high have one length.
     pub fn bf_g128_butterfly_forward(
         low: *mut [u64; 2],

@@ -3,6 +3,7 @@
 //! returns a status, and no call has a condition that its caller could break.
 #![tactic(auto)]
 
+mod bit_matrices;
 mod changes;
 mod erasure;
 mod g128;

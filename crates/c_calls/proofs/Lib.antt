@@ -5,3 +5,4 @@ mod ErasureCounts
 mod ErasureRestored
 mod FactorsTold
 pub mod LowNumbers
+mod PackedRows

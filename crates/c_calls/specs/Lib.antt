@@ -1,3 +1,4 @@
+pub mod BitMatrices
 pub mod Bytes
 pub mod Calls
 pub mod Erasure

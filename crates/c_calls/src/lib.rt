@@ -1,9 +1,10 @@
 //! The calls of other languages: on slices of words over any field, over words of 128 bits in the field of GHASH, the values of transforms
-//! and linear maps, messages and shards, and in the module `matrices` on matrices of words. A call compares the lengths, refuses words that
-//! are no elements, and returns a status. On every status but `OK` what it would have written is as before; what it works in is lost. None
-//! takes memory.
+//! and linear maps, messages and shards, and in the modules `matrices` and `bit_matrices` on matrices of words and of packed bits. A call
+//! compares the lengths, refuses words that are no elements, and returns a status. On every status but `OK` what it would have written is
+//! as before; what it works in is lost. None takes memory.
 #![tactic(auto)]
 
+pub mod bit_matrices;
 mod erasure;
 pub mod in_place;
 mod linear;
