@@ -26,9 +26,9 @@
  * was looked at.
  *
  * Sections, in this order: gf2, t2, t4, t8, t16, t32, t64, t128, r8, p64, g128, p192, matrices over each field, changes
- * of basis and linear maps, packed matrices over GF(2), transforms, tags, codes over bytes, codes by transforms. Each
- * field has functions bf_FIELD_NAME of these names: add, multiply, multiply_by, add_scaled, square, inverse,
- * batch_inverse, square_root, power, product, dot_product, evaluate, add_in_place, multiply_in_place,
+ * of basis and linear maps, packed matrices over GF(2), transforms, tags, codes over bytes, codes by transforms, lines
+ * of text. Each field has functions bf_FIELD_NAME of these names: add, multiply, multiply_by, add_scaled, square,
+ * inverse, batch_inverse, square_root, power, product, dot_product, evaluate, add_in_place, multiply_in_place,
  * multiply_by_in_place, square_in_place, inverse_in_place, square_root_in_place, power_in_place, generator,
  * matrix_multiply, matrix_row_reduce, matrix_rank, matrix_determinant, matrix_inverse, matrix_solve.
  */
@@ -1956,6 +1956,18 @@ uint32_t bf_erasure_verify(size_t data, size_t parity, const uint16_t *shards, s
 uint32_t bf_erasure_reconstruct(size_t data, size_t parity, uint16_t *shards, size_t shards_length,
     uint16_t *parity_shards, size_t parity_shards_length, const uint8_t *present, size_t present_length,
     uint16_t *space, size_t space_length) BF_CHECKED;
+
+/* ------------------------------------------------------------------------------------------------------------------ */
+/* Lines of text: a field by its name above, an operation (add, mul, square, inv or sqrt) and its operands, with
+ * spaces between. An operand has two hexadecimal digits for each byte of an element, the highest byte first; of p192
+ * the three coefficients stand so, that of 1 first. An answer has the same form in lower case, or is none for the
+ * inverse of 0, or else error and the number of what is wrong with the line. */
+
+/* Writes to the front of answer what the program binfield answers to the line, as 41 to t8 mul 10 10, without a line
+ * feed; written is how many bytes that is, at most 48, and the bytes of answer behind them stay. BF_LENGTH unless
+ * answer has at least as many bytes as are written, for which 48 are enough. */
+uint32_t bf_answer(const uint8_t *line, size_t line_length, uint8_t *answer, size_t answer_length,
+    uint64_t *written) BF_CHECKED BF_NONNULL(5);
 
 #ifdef __cplusplus
 }

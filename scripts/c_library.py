@@ -173,6 +173,9 @@ OTHER_FUNCTIONS = [
     ("erasure_verify", [("count", "data"), ("count", "parity"), ("in", "shards", "u16"), ("in", "parity_shards", "u16"), ("space", "space", "u16"),
                         ("result", "whole", "u8")],
      "1 where the shards of parity are those of the data, else 0"),
+    ("answer", [("in", "line", "u8"), ("out", "answer", "u8"), ("result", "written", "u64")],
+     "writes to the front of answer what the program binfield answers to the line, as 41 to t8 mul 10 10, without a line feed; written is how "
+     "many bytes that is, at most 48, and the bytes of answer behind them stay"),
     ("erasure_reconstruct", [("count", "data"), ("count", "parity"), ("inout", "shards", "u16"), ("inout", "parity_shards", "u16"),
                              ("in", "present", "u8"), ("space", "space", "u16")],
      "writes the missing shards: shard i, of the data and then of the parity, is missing where present[i] is 0"),

@@ -91,6 +91,7 @@ tag_gcm_ghash_final  messages  gcm_hash_end  EndsHash HoldsGhash ((associated_le
 tag_gcm_ghash           messages    gcm_ghash          Hashes ((length associated.now < 2 ^ 61) × (length ciphertext.now < 2 ^ 61)) key.now \
 (ghash key.now (gcm_blocks associated.now ciphertext.now)) hash.old hash.new result
 tags_are_equal          messages    tags_are_equal     Compares left.now right.now equal.new result
+answer                  lines       answer_line        AnswersLine line.now answer.old written.old answer.new written.new result
 rs_encode               shards      encode             Encodes «data» parity shards.old shards.new result
 rs_verify               shards      verify             Verifies «data» parity shards.now whole.old whole.new result
 rs_tables_length        shards      tables_length      TellsTablesLength «data» parity length.old length.new result
@@ -140,6 +141,7 @@ ABOUT = {
     "changes": "Calls over slices of elements of a level of the tower, and of their images in a field of polynomials.",
     "erasure": "Calls of erasure codes by transforms, over words of 16 bits: shards of data, and those of parity, stand one after the other.",
     "linear": "Calls that map words linearly.",
+    "lines": "Calls over lines of text.",
     "transforms": "Calls that transform values in the field of GHASH, and in levels of the tower.",
     "messages": "Calls over messages.",
     "shards": "Calls over shards, which stand one after the other and have one size: those of data, and then those of parity.",
@@ -163,6 +165,7 @@ HOMES = {
     ],
     "c_calls.specs.Erasure": ["EncodesErasure", "ReconstructsErasure", "TellsSpace", "VerifiesErasure"],
     "c_calls.specs.Linear": ["MapsLinearly"],
+    "c_calls.specs.Lines": ["AnswersLine"],
     "c_calls.specs.Transforms": [
         "ButterfliesForward", "ButterfliesInverse", "InvertsLevelTransform", "InvertsTransform", "RunsLowStages", "Transforms", "TransformsLevel",
     ],

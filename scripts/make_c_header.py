@@ -65,6 +65,7 @@ LENGTHS = {
     "bit_matrix_transpose": "matrix has rows * ceil(columns / 64) words, and transposed columns * ceil(rows / 64)",
     "bit_matrix_row_reduce": "matrix has rows * ceil(columns / 64) words, and pivots rows places",
     "bit_matrix_rank": "matrix and space have rows * ceil(columns / 64) words, and places has rows places",
+    "answer": "answer has at least as many bytes as are written, for which 48 are enough",
     "erasure_space": "",
     "erasure_encode": ERASURE_LENGTHS,
     "erasure_verify": ERASURE_LENGTHS,
@@ -114,8 +115,8 @@ def comment(text):
 
 @functools.cache
 def own_names():
-    """A pattern of the names of functions as the tables have them."""
-    return re.compile(rf"(?<!\w)({'|'.join(name for name, _, _ in c_library.functions())})(?!\w)")
+    """A pattern of the names of functions as the tables have them, but for one that is a plain word."""
+    return re.compile(rf"(?<!\w)({'|'.join(name for name, _, _ in c_library.functions() if '_' in name)})(?!\w)")
 
 
 def told(name, parameters, bits, text):
@@ -278,6 +279,12 @@ bit b of p, as above. Shards of data stand one after the other, and so do those 
 space, with as many columns at once as pays; what that has before does not matter, and behind the call nothing is said of it.
 """
 
+LINES = """\
+Lines of text: a field by its name above, an operation (add, mul, square, inv or sqrt) and its operands, with spaces between. An operand has
+two hexadecimal digits for each byte of an element, the highest byte first; of p192 the three coefficients stand so, that of 1 first. An
+answer has the same form in lower case, or is none for the inverse of 0, or else error and the number of what is wrong with the line.
+"""
+
 # How many bytes the tables of a code take, as a constant.
 TABLES_LENGTH = """\
 /* How many bytes the tables of a code take, as bf_rs_tables_length gives it, for an array of that length. */
@@ -374,6 +381,7 @@ SUBJECTS = [
         rf"^rs_{it}" for it in ("tables_length$", "prepare$", "add_shard$", "encode", "verify", "shard_factors$", "add_multiple$", "reconstruct")
     ]),
     ("codes by transforms", ERASURE, [r"^erasure_"]),
+    ("lines of text", LINES, ["^answer$"]),
 ]
 
 # The paragraphs of the head's comment behind the first two.

@@ -407,6 +407,27 @@ def erasure_cases(draw):
     yield case("erasure_space", 32768, 32768, [40 << 16])
 
 
+def line_cases(draw):
+    """Lines of text: every operation of every field, those that are worked out, and lines with something wrong; each with as much room as its
+    answer takes, with more, and with less."""
+    lines = [line for line, _ in definitions.worked_lines.rows()]
+    assert all(definitions.line_answer(line) == answer for line, answer in definitions.worked_lines.rows())
+    for field in FIELDS.values():
+        digits = 2 * -(-field.bits // 8)
+        for name, (count, _) in definitions.OPERATIONS.items():
+            for values in ([0] * count, drawn(field, draw, count), [(1 << field.bits) - 1, 1][:count]):
+                operands = [f"{it:0{digits}x}" for it in values]
+                lines.append(" ".join([field.name, name, *operands]).encode())
+            lines.append(" ".join([field.name, name, *operands, draw.choice(operands).upper()][: draw.randrange(2, 5)]).encode())
+            lines.append(" ".join([field.name, name, *operands])[:-1].encode() + draw.choice((b"", b"g", b"\n", b"\xff", b"\xc3\xa9")))
+    for line in lines:
+        answer = list(definitions.line_answer(line).encode())
+        for room in sorted({len(answer), 48, 64}):
+            yield case("answer", line, answer + [UNWRITTEN & 255] * (room - len(answer)), [len(answer)])
+        for room in {0, 1, len(answer) - 1}:
+            yield refused(case("answer", line, [0] * room, [0]), "BF_LENGTH")
+
+
 def refused(it, status):
     """The case with another status: everything is as before."""
     arguments = [
@@ -444,7 +465,7 @@ def whole_case(it, n):
 
 
 # Arrays whose length says nothing to those of the others.
-FREE = {"coefficients", "message", "blocks", "associated", "ciphertext"}
+FREE = {"coefficients", "message", "blocks", "associated", "ciphertext", "line"}
 
 
 def length_cases(it):
@@ -578,7 +599,7 @@ def all_cases():
     for field in FIELDS.values():
         cases += field_cases(field, draw)
         cases += matrix_cases(field, draw)
-    for them in (basis_cases, bit_matrix_cases, stage_cases, tag_cases, code_cases, erasure_cases, long_cases):
+    for them in (basis_cases, bit_matrix_cases, stage_cases, tag_cases, code_cases, erasure_cases, long_cases, line_cases):
         cases += them(draw)
     worked = [case(name, *values) for name, *values in published.rows()]
     cases += [*status_cases(cases), *worked]

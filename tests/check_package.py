@@ -425,6 +425,14 @@ class Bytes(unittest.TestCase):
             self.assertRaises(ValueError, bf.Ghash(key).gcm_digest, 0, wrong)
         self.assertTrue(bf.tags_are_equal(b"tag", b"tag"))
         self.assertFalse(bf.tags_are_equal(b"tag", b"tags"))
+
+    def test_lines(self):
+        for line, answer in definitions.worked_lines.rows():
+            self.assertEqual(bf.answer(line), answer)
+        self.assertEqual([bf.answer(it) for it in ("t8 mul 10 10", "t8 inv 00", "t9", bytearray(b"r8 mul 57 83"))], ["41", "none", "error 1", "c1"])
+        for wrong in (None, 5, ["t8 mul 10 10"]):
+            with self.assertRaises(TypeError):
+                bf.answer(wrong)
         self.assertRaises(ValueError, bf.ghash, b"short", b"")
         self.assertRaises(TypeError, bf.ghash, "text", b"")
 

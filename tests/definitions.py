@@ -16,6 +16,7 @@ import fields
 import make_shards
 import polynomials
 import tower
+import worked_lines
 
 # Products of small elements come again and again in one of a large level.
 tower.multiply = functools.lru_cache(1 << 16)(tower.multiply)
@@ -428,3 +429,50 @@ def transform_parity(data, parity, words):
 def transform_space(data, parity):
     """How many words of space a call takes."""
     return 40 * coefficient_count(coefficient_count(data) + parity)
+
+
+# ---- lines of text
+
+
+def coefficients_turned(field, number):
+    """An element of p192 with its coefficients in the other order, as a line has them; every other element as it is."""
+    parts = [number >> 64 * place & (1 << 64) - 1 for place in range(3)]
+    return parts[0] << 128 | parts[1] << 64 | parts[2] if field.bits == 192 else number
+
+
+def inverse_or_none(field, a):
+    """The inverse of an element, None for 0."""
+    return field.inverse(a) if a else None
+
+
+# The operations of lines: how many operands each has, and what it gives.
+OPERATIONS = {
+    "add": (2, lambda field, a, b: a ^ b),
+    "mul": (2, lambda field, a, b: field.multiply(a, b)),
+    "square": (1, lambda field, a: field.square(a)),
+    "inv": (1, inverse_or_none),
+    "sqrt": (1, lambda field, a: field.square_root(a)),
+}
+
+
+def line_answer(line):
+    """What the program binfield answers to the bytes of a line; of several errors the first of these."""
+    try:
+        words = [it for it in line.decode("utf-8").split(" ") if it]
+    except UnicodeDecodeError:
+        return "error 6"
+    if not words or words[0] not in FIELDS:
+        return "error 1"
+    if len(words) < 2 or words[1] not in OPERATIONS:
+        return "error 2"
+    field, (count, compute), operands = FIELDS[words[0]], OPERATIONS[words[1]], words[2:]
+    if len(operands) != count:
+        return "error 3"
+    digits = 2 * -(-field.bits // 8)
+    if any(len(it) != digits or set(it) - set("0123456789abcdefABCDEF") for it in operands):
+        return "error 4"
+    numbers = [coefficients_turned(field, int(it, 16)) for it in operands]
+    if any(it >> field.bits for it in numbers):
+        return "error 5"
+    result = compute(field, *numbers)
+    return "none" if result is None else f"{coefficients_turned(field, result):0{digits}x}"

@@ -19,6 +19,7 @@ from ._bytes import (
     Polyval,
     ReedSolomon,
     TransformCode,
+    answer,
     gcm_ghash,
     ghash,
     polyval,
@@ -57,7 +58,7 @@ from ._workers import get_workers, set_workers
 
 __all__ = [
     "BinaryField128", "BinaryField16", "BinaryField2", "BinaryField32", "BinaryField4", "BinaryField64", "BinaryField8", "FieldArray",
-    "Gf2", "Ghash", "Ghash128", "Poly", "Poly192", "Poly64", "Polyval", "ReedSolomon", "Rijndael8b", "TransformCode", "butterfly_forward",
+    "Gf2", "Ghash", "Ghash128", "Poly", "Poly192", "Poly64", "Polyval", "ReedSolomon", "Rijndael8b", "TransformCode", "answer", "butterfly_forward",
     "butterfly_inverse", "egcd", "from_powers", "gcd", "gcm_ghash", "get_workers", "ghash", "hardware", "inverse_transform",
     "irreducible_poly", "lagrange_poly", "linear_map", "low_stages", "polyval", "processor", "set_workers", "tags_are_equal", "to_powers",
     "transform", "transform_points",

@@ -174,6 +174,18 @@ def tags_are_equal(left: Any, right: Any) -> bool:
     return bool(result[0])
 
 
+def answer(line: str | bytes) -> str:
+    """What the program binfield answers to a line, `field operation operands`: the result in hexadecimal, `none` for the inverse of 0, or
+    `error` and the number of what is wrong with the line.
+
+    >>> bf.answer("t8 mul 10 10")
+    '41'
+    """
+    result, written = np.zeros(48, np.uint8), np.zeros(1, np.uint64)
+    call("answer", _bytes(line.encode() if isinstance(line, str) else line), result, written)
+    return result[: int(written[0])].tobytes().decode("ascii")
+
+
 class _Code:
     """How many shards of data and of parity a code has, and shards as the rows of an array of bytes."""
 

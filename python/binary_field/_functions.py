@@ -384,5 +384,6 @@ FUNCTIONS: dict[str, list[tuple[str, str, str]]] = {
     "erasure_space": [("number", "data", "u64"), ("number", "parity", "u64"), ("result", "length", "u64")],
     "erasure_encode": [("number", "data", "u64"), ("number", "parity", "u64"), ("in", "shards", "u16"), ("out", "parity_shards", "u16"), ("space", "space", "u16")],
     "erasure_verify": [("number", "data", "u64"), ("number", "parity", "u64"), ("in", "shards", "u16"), ("in", "parity_shards", "u16"), ("space", "space", "u16"), ("result", "whole", "u8")],
+    "answer": [("in", "line", "u8"), ("out", "answer", "u8"), ("result", "written", "u64")],
     "erasure_reconstruct": [("number", "data", "u64"), ("number", "parity", "u64"), ("inout", "shards", "u16"), ("inout", "parity_shards", "u16"), ("in", "present", "u8"), ("space", "space", "u16")],
 }

@@ -3219,4 +3219,14 @@ unsafe extern "C" {
         space: *mut u16,
         space_length: usize,
     ) -> u32;
+    /// Writes to the front of answer what the program binfield answers to the line, as 41 to t8 mul 10 10, without a
+    /// line feed; written is how many bytes that is, at most 48, and the bytes of answer behind them stay. BF_LENGTH
+    /// unless answer has at least as many bytes as are written, for which 48 are enough.
+    pub fn bf_answer(
+        line: *const u8,
+        line_length: usize,
+        answer: *mut u8,
+        answer_length: usize,
+        written: *mut u64,
+    ) -> u32;
 }

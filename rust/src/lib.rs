@@ -78,4 +78,4 @@ pub use packed::{Packed, PackedGhash128, PackedRijndael8b, PackedValue};
 pub use processor::processor;
 pub use ring::{Powers, PrimeCharacteristicRing};
 pub use space::{Algebra, BasedVectorSpace, ExtensionField, HasFrobenius, HasSubfield, TowerLevel};
-pub use text::ParseError;
+pub use text::{Answer, ParseError, answer};

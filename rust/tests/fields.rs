@@ -437,6 +437,20 @@ fn shards_apart(code: ReedSolomon, whole: &[u8; 12]) {
 }
 
 #[test]
+fn lines_of_text() {
+    let rows = [
+        ("t8 mul 10 10", "41"),
+        ("r8 mul 57 83", "c1"),
+        ("t8 inv 00", "none"),
+        ("", "error 1"),
+    ];
+    for (line, wanted) in rows {
+        assert_eq!(answer(line).as_str(), wanted);
+    }
+    assert_eq!(answer([0xff]).to_string(), "error 6");
+}
+
+#[test]
 fn tags_and_codes() {
     let key: [u8; 16] = core::array::from_fn(|i| {
         (0x66e9_4bd4_ef8a_2c3b_884c_fa59_ca34_2b2e_u128 >> (120 - 8 * i)) as u8

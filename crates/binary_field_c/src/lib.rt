@@ -9,6 +9,7 @@ mod erasure;
 mod g128;
 mod gf2;
 mod linear;
+mod lines;
 mod messages;
 mod p192;
 mod p64;

@@ -5,6 +5,7 @@ pub mod Erasure
 pub mod Fields
 pub mod Fits
 pub mod Linear
+pub mod Lines
 pub mod Low
 pub mod LowLemmas
 pub mod Matrices

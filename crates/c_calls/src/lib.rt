@@ -1,13 +1,14 @@
 //! The calls of other languages: on slices of words over any field, over words of 128 bits in the field of GHASH, the values of transforms
-//! and linear maps, messages and shards, and in the modules `matrices` and `bit_matrices` on matrices of words and of packed bits. A call
-//! compares the lengths, refuses words that are no elements, and returns a status. On every status but `OK` what it would have written is
-//! as before; what it works in is lost. None takes memory.
+//! and linear maps, messages, shards and lines of text, and in the modules `matrices` and `bit_matrices` on matrices of words and of packed
+//! bits. A call compares the lengths, refuses words that are no elements, and returns a status. On every status but `OK` what it would have
+//! written is as before; what it works in is lost. None takes memory.
 #![tactic(auto)]
 
 pub mod bit_matrices;
 mod erasure;
 pub mod in_place;
 mod linear;
+mod lines;
 mod many;
 pub mod matrices;
 mod messages;
@@ -24,6 +25,7 @@ mod words;
 
 pub use crate::erasure::{erasure_encode, erasure_reconstruct, erasure_space, erasure_verify};
 pub use crate::linear::{map_bytes, map_wide};
+pub use crate::lines::answer_line;
 pub use crate::many::{
     add_scaled, batch_invert, dot_product, evaluate, invert, invert_in_place, multiply,
     multiply_by, multiply_by_in_place, multiply_in_place,
