@@ -1,0 +1,52 @@
+// Laws of fields of binary polynomials modulo any irreducible one, as contracts of functions that compute nothing.
+ghost use Rattle.any_field.specs.Barrett.{BarrettByWords, BarrettIsRemainder};
+ghost use Rattle.any_field.specs.Irreducible.{BenOrIsExact, FieldNeedsIrreducible, IrreducibleByDegrees, IrreducibleGivesField};
+ghost use Rattle.any_field.specs.Isomorphic.{FieldsOfOneSizeAreIsomorphic};
+ghost use Rattle.any_field.specs.Rabin.{CoprimeBySteps, InversesGiveField, RabinIsExact};
+ghost use Rattle.any_field.specs.Values.{RootsGiveIsomorphisms, ValuesAreLinear};
+
+/// States that a ring of 2^n elements whose nonzero elements have inverses is a field: n squarings return every element.
+pub fn inverses_give_field()
+    ensures { InversesGiveField }
+{}
+
+/// States that the polynomials modulo an irreducible one are a field, and modulo no other; and that a polynomial is irreducible exactly
+/// where it is no product of two of degree 1 or more.
+pub fn irreducible_gives_field()
+    ensures field { IrreducibleGivesField }
+    ensures only { FieldNeedsIrreducible }
+    ensures by_degrees { IrreducibleByDegrees }
+{}
+
+/// States that a polynomial passes Ben-Or's test exactly where it is irreducible.
+pub fn ben_or_is_exact()
+    ensures { BenOrIsExact }
+{}
+
+/// States that a polynomial passes Rabin's test exactly where it is irreducible.
+pub fn rabin_is_exact()
+    ensures { RabinIsExact }
+{}
+
+/// States how the steps of Euclid's algorithm tell whether two polynomials have a common factor.
+pub fn coprime_by_steps()
+    ensures { CoprimeBySteps }
+{}
+
+/// States that Barrett's reduction, two products by a quotient that is computed once for a modulus, gives the remainder.
+pub fn barrett_is_remainder()
+    ensures polynomials { BarrettIsRemainder }
+    ensures words { BarrettByWords }
+{}
+
+/// States that a root of an irreducible polynomial in a ring of as many elements gives an isomorphism, which is a linear map.
+pub fn roots_give_isomorphisms()
+    ensures isomorphisms { RootsGiveIsomorphisms }
+    ensures linear { ValuesAreLinear }
+{}
+
+/// States that a field of 2^n elements has a root of each irreducible polynomial of degree n, and so is isomorphic to the polynomials
+/// modulo it.
+pub fn finite_fields_are_isomorphic()
+    ensures { FieldsOfOneSizeAreIsomorphic }
+{}
