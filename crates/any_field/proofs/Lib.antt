@@ -6,3 +6,10 @@ pub mod Barrett
 pub mod Rabin
 pub mod RootValues
 pub mod Isomorphic
+pub mod WordRemainders
+pub mod RatioSteps
+pub mod EuclidSteps
+pub mod RabinSteps
+pub mod ContextFields
+pub mod HornerSteps
+pub mod EuclidInverses

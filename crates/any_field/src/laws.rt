@@ -1,5 +1,6 @@
 // Laws of fields of binary polynomials modulo any irreducible one, as contracts of functions that compute nothing.
 ghost use Rattle.any_field.specs.Barrett.{BarrettByWords, BarrettIsRemainder};
+ghost use Rattle.any_field.specs.Contexts.{PublishedAreIrreducible};
 ghost use Rattle.any_field.specs.Irreducible.{BenOrIsExact, FieldNeedsIrreducible, IrreducibleByDegrees, IrreducibleGivesField};
 ghost use Rattle.any_field.specs.Isomorphic.{FieldsOfOneSizeAreIsomorphic};
 ghost use Rattle.any_field.specs.Rabin.{CoprimeBySteps, InversesGiveField, RabinIsExact};
@@ -49,4 +50,9 @@ pub fn roots_give_isomorphisms()
 /// modulo it.
 pub fn finite_fields_are_isomorphic()
     ensures { FieldsOfOneSizeAreIsomorphic }
+{}
+
+/// States that the moduli of the three fixed fields are irreducible, since these are fields.
+pub fn published_are_irreducible()
+    ensures { PublishedAreIrreducible }
 {}

@@ -1,0 +1,33 @@
+-- What products modulo a polynomial of degree 1 to 128 take: its degree, its other terms, and those of its ratio. A polynomial is a number.
+use Rattle.std.specs.Prelude.{◌≡◌, ◌≢◌, ℕ, ◌+◌, ◌^◌, ◌<◌, ◌≤◌, bit_xor}
+use Rattle.field_base.specs.Carryless.{carryless}
+use Rattle.field_base.specs.Remainder.{mul_mod, aes_modulus, poly64_modulus, ghash_modulus}
+use Rattle.any_field.specs.Irreducible.{IsIrreducible}
+
+-- x^degree and terms of lower degree, the tail
+abbrev pub with_top : ℕ → ℕ → ℕ
+with_top degree tail = 2 ^ degree + tail
+
+-- the product of the field modulo x^degree + tail
+abbrev pub field_product : ℕ → ℕ → ℕ → ℕ → ℕ
+field_product degree tail = mul_mod degree (with_top degree tail)
+
+-- x^degree + tail is an irreducible polynomial of degree 1 to 128
+abbrev pub IsFieldModulus : ℕ → ℕ → Type 0
+IsFieldModulus degree tail = (0 < degree) × (degree ≤ 128) × (tail < 2 ^ degree) × IsIrreducible (with_top degree tail)
+
+-- the quotient of x^(2 degree) by x^degree + tail is x^degree + ratio
+pub record IsContext (degree tail ratio : ℕ) : Type 0 where
+  pub wide : 0 < degree
+  pub narrow : degree ≤ 128
+  pub tail_below : tail < 2 ^ degree
+  pub ratio_below : ratio < 2 ^ degree
+  pub rest_below : bit_xor (carryless (with_top degree ratio) (with_top degree tail)) (2 ^ (degree + degree)) < 2 ^ degree
+
+-- no two polynomials other than 1 have the product: what `IsIrreducible` says, as a fact that has but one proof
+abbrev pub HasNoFactors : ℕ → Type 0
+HasNoFactors modulus = (g h : ℕ) → carryless g h ≡ modulus → g ≢ 1 → h ≢ 1 → ⊥
+
+-- the moduli of the three fixed fields
+abbrev pub PublishedAreIrreducible : Type 0
+PublishedAreIrreducible = IsIrreducible aes_modulus × IsIrreducible poly64_modulus × IsIrreducible ghash_modulus
