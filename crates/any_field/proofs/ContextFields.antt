@@ -1,5 +1,5 @@
 -- The type of fields whose modulus is chosen at run time.
-use Rattle.std.proofs.Common.{◌≡◌, ◌≢◌, inl, inr, ℕ, ◌^◌, ◌<◌, sym, ◌∙◌, ap, ap₂, subst}
+use Rattle.std.proofs.Common.{◌≡◌, ◌≢◌, inl, inr, ℕ, ◌-◌, ◌^◌, ◌<◌, sym, ◌∙◌, ap, ap₂, subst}
 use Rattle.std.proofs.lemmas.Bool.{cases_eq}
 use Rattle.std.proofs.lemmas.Bool.Decides.{Decides-eqb}
 use Rattle.std.proofs.lemmas.Nat.{pow_pos}
@@ -7,6 +7,9 @@ use Rattle.std.specs.Prelude.{◌↔◌, ◌%◌, IsTrue, nat_eq}
 use native.Mathlib.Nat.{mod-eq_of_lt, mod-lt}
 use Rattle.field_base.specs.Field.{IsField, IsInverseOrZero}
 use Rattle.field_base.specs.Remainder.{mul_mod}
+use Rattle.field_base.specs.Powers.{repeated_square}
+use Rattle.field_base.proofs.FieldLemmas.{squarings-square}
+use Rattle.field_base.proofs.PowerLemmas.{repeated_square-lt}
 use Rattle.field_base.proofs.RingLemmas.{mod-times, times-mod}
 use Rattle.any_field.specs.Irreducible.{IsIrreducible}
 use Rattle.any_field.proofs.IrreducibleFields.{irreducible_gives_field}
@@ -61,3 +64,17 @@ quotient-found w t r x y low_x low_y inverse q context x_is y_is some inverts q_
           ∙ ap (λ (z : ℕ). z % 2 ^ w) x_is ∙ mod-eq_of_lt (mod-lt x (pow_pos w)),
       (λ e. some (y_is ∙ e)),
     )
+
+-- one squaring fewer than the degree gives the root
+pub root-found : (w t r x low found : ℕ) → IsContext w t r → HasNoFactors (with_top w t) → low ≡ x % 2 ^ w
+    → found ≡ repeated_square 1 (field_product w t) (w - 1) low
+    → record { root : field_product w t found found ≡ x % 2 ^ w; fits : found < 2 ^ w }
+root-found w t r x low found context none low_is found_is =
+    let field = field-at w t r context none in
+    let low_fits : low < 2 ^ w = subst (λ (z : ℕ). z < 2 ^ w) (sym low_is) (mod-lt x (pow_pos w)) in
+    record {
+      root =
+          ap₂ (field_product w t) found_is found_is ∙ squarings-square w (field_product w t) field context.wide low low_fits ∙ low_is;
+      fits =
+          subst (λ (z : ℕ). z < 2 ^ w) (sym found_is) (repeated_square-lt w 1 (field_product w t) field.ring (w - 1) low);
+    }

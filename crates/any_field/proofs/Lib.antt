@@ -13,3 +13,5 @@ pub mod RabinSteps
 pub mod ContextFields
 pub mod HornerSteps
 pub mod EuclidInverses
+pub mod TraceBits
+pub mod PowerSteps
