@@ -15,3 +15,5 @@ pub mod HornerSteps
 pub mod EuclidInverses
 pub mod TraceBits
 pub mod PowerSteps
+pub mod DotSteps
+pub mod InverseSlices

@@ -5,6 +5,7 @@ ghost use Rattle.any_field.specs.Contexts.{HasNoFactors, IsContext, IsFieldModul
 
 mod inverses;
 mod powers;
+mod slices;
 mod values;
 
 use crate::irreducible::is_irreducible;

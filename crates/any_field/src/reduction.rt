@@ -29,8 +29,8 @@ fn high_bits(low: u128, high: u128, width: u32) -> u128
     (low >> 1 >> (width - 1)) ^ (high << (128 - width))
 }
 
-// The remainder modulo x^width + tail.
-fn reduce(width: u32, tail: u128, ratio: u128, low: u128, high: u128) -> u128
+/// The remainder modulo x^width + tail of a double word.
+pub(crate) fn reduce(width: u32, tail: u128, ratio: u128, low: u128, high: u128) -> u128
     requires context { IsContext width tail ratio }
     requires fits { high * 2 ^ 128 + low < 2 ^ (width + width) }
     ensures { result ≡ rem width (with_top width tail) (high * 2 ^ 128 + low) }
