@@ -17,3 +17,5 @@ pub mod TraceBits
 pub mod PowerSteps
 pub mod DotSteps
 pub mod InverseSlices
+pub mod OrderFactors
+pub mod PrimeTable

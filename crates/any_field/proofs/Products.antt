@@ -191,7 +191,7 @@ module _ (width : ℕ) (times : ℕ → ℕ → ℕ) (wide : 0 < width) (ring : 
         (down-in order (times a found.0) (times-nonzero found.0 (within found.0 below.1) below.0) (of_element (times a found.0) (ring.below a found.0))))
         (sym (length-images (times a) (down order)))).0
 
-    power-order : power 1 times a order ≡ 1
+    pub power-order : power 1 times a order ≡ 1
     power-order =
         let all = product times (down order) in
         let all_fits : all < 2 ^ width = product-lt (down order) in

@@ -17,7 +17,7 @@ use Rattle.any_field.specs.Barrett.{IsRatio, quotient_by_tail}
 use Rattle.any_field.proofs.Barrett.{barrett_by_words}
 use Rattle.any_field.specs.Contexts.{IsContext, with_top}
 
-power-split : (w : ℕ) → w ≤ 128 → 2 ^ 128 ≡ 2 ^ w * 2 ^ (128 - w)
+pub power-split : (w : ℕ) → w ≤ 128 → 2 ^ 128 ≡ 2 ^ w * 2 ^ (128 - w)
 power-split w narrow = let sum : 128 ≡ w + (128 - w) = omega arith in ap (λ (n : ℕ). 2 ^ n) sum ∙ pow-add 2 w (128 - w)
 
 -- a common factor of a number and of what divides it

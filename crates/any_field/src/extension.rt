@@ -4,6 +4,7 @@ ghost use Rattle.field_base.specs.Field.{IsField};
 ghost use Rattle.any_field.specs.Contexts.{HasNoFactors, IsContext, IsFieldModulus, field_product, with_top};
 
 mod inverses;
+mod orders;
 mod powers;
 mod slices;
 mod values;
