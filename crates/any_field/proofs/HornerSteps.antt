@@ -3,12 +3,14 @@ use Rattle.std.proofs.Common.{◌≡◌, ℕ, suc, ◌+◌, ◌-◌, ◌*◌, �
 use Rattle.std.specs.Prelude.{◌↔◌, IsTrue, bit_xor, nat_eq}
 use Rattle.std.proofs.lemmas.Bool.Decides.{Decides-eqb}
 use Rattle.std.proofs.lemmas.Nat.{pow-add, pow_pos, pow_below, xor_comm, xor_lt, shr-shr}
-use native.Mathlib.Nat.{mul-add-div_right, mul-add-mod_self_right}
+use native.Mathlib.Nat.{mod-lt, mul-add-div_right, mul-add-mod_self_right}
 use Rattle.field_base.specs.Remainder.{HasDegree, mul_mod}
 use Rattle.field_base.proofs.CarrylessProduct.{bit_cases}
-use Rattle.any_field.specs.Values.{binary_value, IsIsomorphismOf}
-use Rattle.any_field.proofs.RootValues.{at-step, at-one, roots_give_isomorphisms}
-use Rattle.any_field.specs.Contexts.{IsContext, HasNoFactors, with_top}
+use Rattle.any_field.specs.Values.{binary_value, IsEmbeddingOf, IsIsomorphismOf}
+use Rattle.any_field.proofs.RootValues.{at-step, at-one, at-sum, roots_give_embeddings, roots_give_isomorphisms}
+use Rattle.any_field.specs.Contexts.{IsContext, HasNoFactors, field_product, with_top}
+use Rattle.field_base.proofs.RingLemmas.{xor_cancel}
+use Rattle.any_field.proofs.RatioSteps.{with_top-xor}
 use Rattle.any_field.proofs.WordRemainders.{top-degree, context-ring}
 use Rattle.any_field.proofs.ContextFields.{irreducible-of}
 
@@ -80,3 +82,24 @@ isomorphic w t r v u s b context other none same root =
 
 pub root-exactly : (A : Type 0) (v value : ℕ) → A → v ≡ value → IsTrue (nat_eq v 0) ↔ (A × (value ≡ 0))
 root-exactly A v value same is = ((λ yes. (same, sym is ∙ (Decides-eqb v 0).0 yes)), (λ both. (Decides-eqb v 0).1 (is ∙ both.1)))
+
+-- the value of a polynomial with x^degree in front, without that of x^degree
+pub without-top : (w t r b d x low v high : ℕ) → IsContext w t r → low ≡ x % 2 ^ d → v ≡ binary_value (field_product w t) b (with_top d low)
+    → high ≡ binary_value (field_product w t) b (with_top d 0) → bit_xor v high ≡ binary_value (field_product w t) b (x % 2 ^ d)
+without-top w t r b d x low v high context low_is is high_is =
+    let at = binary_value (field_product w t) b in
+    let fits : low < 2 ^ d = subst (λ (z : ℕ). z < 2 ^ d) (sym low_is) (mod-lt x (pow_pos d)) in
+    ap₂ bit_xor
+    (is ∙ ap at (with_top-xor d low fits) ∙ at-sum w (field_product w t) context.wide (context-ring w t r context) b (2 ^ d) low)
+    (high_is ∙ ap at (whole d))
+    ∙ xor_comm (bit_xor (at (2 ^ d)) (at low)) (at (2 ^ d)) ∙ xor_cancel (at (2 ^ d)) (at low) ∙ ap at low_is
+  where
+    whole : (d : ℕ) → with_top d 0 ≡ 2 ^ d
+    whole d = omega arith
+
+pub embedded : (w t r v u s b : ℕ) → IsContext w t r → IsContext v u s → HasNoFactors (with_top v u)
+    → binary_value (field_product w t) b (with_top v u) ≡ 0
+    → IsEmbeddingOf v w (field_product v u) (field_product w t) (binary_value (field_product w t) b)
+embedded w t r v u s b context other none root =
+    roots_give_embeddings v (with_top v u) w (field_product w t) b other.wide context.wide (top-degree v u other.tail_below)
+    (irreducible-of (with_top v u) none) (context-ring w t r context) root

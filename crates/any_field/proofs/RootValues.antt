@@ -18,7 +18,7 @@ use Rattle.field_base.proofs.RemainderRing.{mul_mod-rem}
 use Rattle.field_base.proofs.RingLemmas.{xor_exchange, xor_nothing, times-zero, zero-times, sum_times}
 use Rattle.field_base.proofs.AdditiveMaps.{maps_agree}
 use Rattle.field_base.specs.Powers.{power}
-use Rattle.any_field.specs.Values.{ValuesAreLinear, binary_value_in, binary_value, IsIsomorphismOf, RootsGiveIsomorphisms}
+use Rattle.any_field.specs.Values.{ValuesAreLinear, binary_value_in, binary_value, IsEmbeddingOf, IsIsomorphismOf, RootsGiveEmbeddings, RootsGiveIsomorphisms}
 use Rattle.any_field.proofs.IrreducibleFields.{irreducible_gives_field}
 use Rattle.any_field.proofs.Products.{IsIn, down, images, down-in, down-of, length-images, images-of, images-distinct, rearranged}
 
@@ -100,9 +100,9 @@ module _ (width : ℕ) (times : ℕ → ℕ → ℕ) (wide : 0 < width) (ring : 
           (ap at (one-mul q) ∙ sym (one-times width 1 times ring (at q) (at-lt q))) n
 
   -- ---- modulo a polynomial of which b is a root
-  module _ (modulus : ℕ) (degree : HasDegree width modulus) (root : at modulus ≡ 0) where
-    at-rem : (p : ℕ) → at (rem width modulus p) ≡ at p
-    at-rem p = along (rem width modulus p) (rem_is_remainder width modulus p degree).quotient (rem_is_remainder width modulus p degree).parts
+  module _ (source modulus : ℕ) (degree : HasDegree source modulus) (root : at modulus ≡ 0) where
+    at-rem : (p : ℕ) → at (rem source modulus p) ≡ at p
+    at-rem p = along (rem source modulus p) (rem_is_remainder source modulus p degree).quotient (rem_is_remainder source modulus p degree).parts
       where
         along : (r q : ℕ) → p ≡ bit_xor (carryless q modulus) r → at r ≡ at p
         along r q parts =
@@ -110,12 +110,12 @@ module _ (width : ℕ) (times : ℕ → ℕ → ℕ) (wide : 0 < width) (ring : 
             ∙ ap (λ (z : ℕ). bit_xor z (at r)) (at-product q modulus ∙ ap (times (at q)) root ∙ times-zero width 1 times ring (at q))
             ∙ xor_comm 0 (at r) ∙ xor_zero_r (at r))
 
-    at-times : (x y : ℕ) → x < 2 ^ width → y < 2 ^ width → at (mul_mod width modulus x y) ≡ times (at x) (at y)
-    at-times x y x_fits y_fits = ap at (mul_mod-rem width modulus degree x y x_fits y_fits) ∙ at-rem (carryless x y) ∙ at-product x y
+    at-times : (x y : ℕ) → x < 2 ^ source → y < 2 ^ source → at (mul_mod source modulus x y) ≡ times (at x) (at y)
+    at-times x y x_fits y_fits = ap at (mul_mod-rem source modulus degree x y x_fits y_fits) ∙ at-rem (carryless x y) ∙ at-product x y
 
-    module _ (inverses : HasInverses width (mul_mod width modulus)) where
+    module _ (inverses : HasInverses source (mul_mod source modulus)) where
       -- only 0 goes to 0
-      kernel : (x : ℕ) → x < 2 ^ width → at x ≡ 0 → x ≡ 0
+      kernel : (x : ℕ) → x < 2 ^ source → at x ≡ 0 → x ≡ 0
       kernel zero fits nothing = refl
       kernel (suc x) fits nothing =
           let inverse = inverses (suc x) fits (λ e. absurd (omega (arith, e))) in
@@ -124,52 +124,64 @@ module _ (width : ℕ) (times : ℕ → ℕ → ℕ) (wide : 0 < width) (ring : 
           ∙ ap (λ (z : ℕ). times z (at inverse.0)) nothing ∙ zero-times width 1 times ring (at inverse.0) in
           absurd (omega (arith, one))
 
-      at-injective : (x y : ℕ) → x < 2 ^ width → y < 2 ^ width → at x ≡ at y → x ≡ y
+      at-injective : (x y : ℕ) → x < 2 ^ source → y < 2 ^ source → at x ≡ at y → x ≡ y
       at-injective x y x_fits y_fits same =
-          xor_nothing x y (kernel (bit_xor x y) (xor_lt width x y x_fits y_fits)
+          xor_nothing x y (kernel (bit_xor x y) (xor_lt source x y x_fits y_fits)
           (at-sum x y ∙ ap (λ (z : ℕ). bit_xor z (at y)) same ∙ xor_self (at y)))
 
-      abbrev order : ℕ
-      order = 2 ^ width - 1
+      is-embedding : IsEmbeddingOf source width (mul_mod source modulus) times at
+      is-embedding = record { below = at-lt; one_image = at-one; sum_image = at-sum; product_image = at-times; injective = at-injective }
 
-      within : (x : ℕ) → x ≤ order → x < 2 ^ width
-      within x least = omega (arith, pow_pos width)
+  -- ---- of as many elements
+  module _ (modulus : ℕ) (degree : HasDegree width modulus) (root : at modulus ≡ 0) (inverses : HasInverses width (mul_mod width modulus)) where
+    embedded : IsEmbeddingOf width width (mul_mod width modulus) times at
+    embedded = is-embedding width modulus degree root inverses
 
-      -- each nonzero element is an image
-      covered : (y : ℕ) → IsIn y (down order) → IsIn y (images at (down order))
-      covered =
-          (rearranged width times ring (images at (down order)) (down order)
-          (images-distinct at order (λ x y x_some y_some x_least y_least same. at-injective x y (within x x_least) (within y y_least) same))
-          (λ y is.
-          let found = images-of at (down order) y is in
-          let below = down-of order found.0 found.1 in
-          subst (λ (z : ℕ). IsIn z (down order)) (sym found.2)
-          (down-in order (at found.0) (λ e. below.0 (kernel found.0 (within found.0 below.1) e)) (of_element (at found.0) (at-lt found.0))))
-          (sym (length-images at (down order)))).1
-        where
-          of_element : (x : ℕ) → x < 2 ^ width → x ≤ order
-          of_element x fits = omega arith
+    abbrev order : ℕ
+    order = 2 ^ width - 1
 
-      preimage : (y : ℕ) → y < 2 ^ width → (x : ℕ) × (x < 2 ^ width) × (at x ≡ y)
-      preimage zero fits = (0, pow_pos width, at-zero)
-      preimage (suc y) fits =
-          let found = images-of at (down order) (suc y) (covered (suc y) (down-in order (suc y) (λ e. absurd (omega (arith, e))) (omega arith))) in
-          (found.0, within found.0 (down-of order found.0 found.1).1, sym found.2)
+    within : (x : ℕ) → x ≤ order → x < 2 ^ width
+    within x least = omega (arith, pow_pos width)
 
-      is-isomorphism : IsIsomorphismOf width (mul_mod width modulus) times at
-      is-isomorphism = record {
-        below = at-lt;
-        one_image = at-one;
-        sum_image = at-sum;
-        product_image = at-times;
-        inverse = λ y. (preimage (y % 2 ^ width) (mod-lt y (pow_pos width))).0;
-        inverse_below = λ y. (preimage (y % 2 ^ width) (mod-lt y (pow_pos width))).1;
-        image_of_inverse = λ y fits. (preimage (y % 2 ^ width) (mod-lt y (pow_pos width))).2 ∙ mod-eq_of_lt fits;
-        inverse_of_image = λ x fits.
-            at-injective (preimage (at x % 2 ^ width) (mod-lt (at x) (pow_pos width))).0 x
-            (preimage (at x % 2 ^ width) (mod-lt (at x) (pow_pos width))).1 fits
-            ((preimage (at x % 2 ^ width) (mod-lt (at x) (pow_pos width))).2 ∙ mod-eq_of_lt (at-lt x));
-      }
+    -- each nonzero element is an image
+    covered : (y : ℕ) → IsIn y (down order) → IsIn y (images at (down order))
+    covered =
+        (rearranged width times ring (images at (down order)) (down order)
+        (images-distinct at order (λ x y x_some y_some x_least y_least same. embedded.injective x y (within x x_least) (within y y_least) same))
+        (λ y is.
+        let found = images-of at (down order) y is in
+        let below = down-of order found.0 found.1 in
+        subst (λ (z : ℕ). IsIn z (down order)) (sym found.2)
+        (down-in order (at found.0) (λ e. below.0 (embedded.injective found.0 0 (within found.0 below.1) (pow_pos width) (e ∙ sym at-zero))) (of_element (at found.0) (at-lt found.0))))
+        (sym (length-images at (down order)))).1
+      where
+        of_element : (x : ℕ) → x < 2 ^ width → x ≤ order
+        of_element x fits = omega arith
+
+    preimage : (y : ℕ) → y < 2 ^ width → (x : ℕ) × (x < 2 ^ width) × (at x ≡ y)
+    preimage zero fits = (0, pow_pos width, at-zero)
+    preimage (suc y) fits =
+        let found = images-of at (down order) (suc y) (covered (suc y) (down-in order (suc y) (λ e. absurd (omega (arith, e))) (omega arith))) in
+        (found.0, within found.0 (down-of order found.0 found.1).1, sym found.2)
+
+    is-isomorphism : IsIsomorphismOf width (mul_mod width modulus) times at
+    is-isomorphism = record {
+      below = at-lt;
+      one_image = at-one;
+      sum_image = at-sum;
+      product_image = embedded.product_image;
+      inverse = λ y. (preimage (y % 2 ^ width) (mod-lt y (pow_pos width))).0;
+      inverse_below = λ y. (preimage (y % 2 ^ width) (mod-lt y (pow_pos width))).1;
+      image_of_inverse = λ y fits. (preimage (y % 2 ^ width) (mod-lt y (pow_pos width))).2 ∙ mod-eq_of_lt fits;
+      inverse_of_image = λ x fits.
+          embedded.injective (preimage (at x % 2 ^ width) (mod-lt (at x) (pow_pos width))).0 x
+          (preimage (at x % 2 ^ width) (mod-lt (at x) (pow_pos width))).1 fits
+          ((preimage (at x % 2 ^ width) (mod-lt (at x) (pow_pos width))).2 ∙ mod-eq_of_lt (at-lt x));
+    }
+
+pub roots_give_embeddings : RootsGiveEmbeddings
+roots_give_embeddings source modulus width times root some wide degree irreducible ring is =
+    is-embedding width times wide ring root source modulus degree is (irreducible_gives_field source modulus some degree irreducible).inverses
 
 pub roots_give_isomorphisms : RootsGiveIsomorphisms
 roots_give_isomorphisms width modulus times root wide degree irreducible ring is =

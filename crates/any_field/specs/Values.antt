@@ -34,6 +34,20 @@ RootsGiveIsomorphisms = (width modulus : ℕ) (times : ℕ → ℕ → ℕ) (roo
     → IsIrreducible modulus → IsRing width 1 times → binary_value times root modulus ≡ 0
     → IsIsomorphismOf width (mul_mod width modulus) times (binary_value times root)
 
+-- `map` carries the elements of a ring of `source` bits into one of `target` bits: 1, sums and products, and no two to one
+pub record IsEmbeddingOf (source target : ℕ) (from to : ℕ → ℕ → ℕ) (map : ℕ → ℕ) : Type 0 where
+  pub below : (a : ℕ) → map a < 2 ^ target
+  pub one_image : map 1 ≡ 1
+  pub sum_image : (a b : ℕ) → map (bit_xor a b) ≡ bit_xor (map a) (map b)
+  pub product_image : (a b : ℕ) → a < 2 ^ source → b < 2 ^ source → map (from a b) ≡ to (map a) (map b)
+  pub injective : (a b : ℕ) → a < 2 ^ source → b < 2 ^ source → map a ≡ map b → a ≡ b
+
+-- a root of an irreducible polynomial in any ring gives an embedding: x goes to the root
+abbrev pub RootsGiveEmbeddings : Type 0
+RootsGiveEmbeddings = (source modulus target : ℕ) (times : ℕ → ℕ → ℕ) (root : ℕ) → 0 < source → 0 < target → HasDegree source modulus
+    → IsIrreducible modulus → IsRing target 1 times → binary_value times root modulus ≡ 0
+    → IsEmbeddingOf source target (mul_mod source modulus) times (binary_value times root)
+
 -- the value at a root is the linear map that takes the powers of x to those of the root, so that a table of these computes it
 abbrev pub ValuesAreLinear : Type 0
 ValuesAreLinear = (width : ℕ) (times : ℕ → ℕ → ℕ) (root : ℕ) (powers : List ℕ) → 0 < width → IsRing width 1 times

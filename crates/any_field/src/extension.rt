@@ -3,12 +3,14 @@ ghost use Rattle.std.specs.Prelude.{◌≡◌, ◌%◌, ◌^◌, ◌<◌, ◌↔
 ghost use Rattle.field_base.specs.Field.{IsField};
 ghost use Rattle.any_field.specs.Contexts.{HasNoFactors, IsContext, IsFieldModulus, field_product, with_top};
 
+mod embeddings;
 mod inverses;
 mod orders;
 mod powers;
 mod slices;
 mod values;
 
+pub use crate::extension::embeddings::Embedding;
 use crate::irreducible::is_irreducible;
 use crate::reduction::{low_bits, multiply, ratio_of};
 

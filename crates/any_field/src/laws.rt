@@ -4,7 +4,7 @@ ghost use Rattle.any_field.specs.Contexts.{PublishedAreIrreducible};
 ghost use Rattle.any_field.specs.Irreducible.{BenOrIsExact, FieldNeedsIrreducible, IrreducibleByDegrees, IrreducibleGivesField};
 ghost use Rattle.any_field.specs.Isomorphic.{FieldsOfOneSizeAreIsomorphic};
 ghost use Rattle.any_field.specs.Rabin.{CoprimeBySteps, InversesGiveField, RabinIsExact};
-ghost use Rattle.any_field.specs.Values.{RootsGiveIsomorphisms, ValuesAreLinear};
+ghost use Rattle.any_field.specs.Values.{RootsGiveEmbeddings, RootsGiveIsomorphisms, ValuesAreLinear};
 
 /// States that a ring of 2^n elements whose nonzero elements have inverses is a field: n squarings return every element.
 pub fn inverses_give_field()
@@ -40,8 +40,10 @@ pub fn barrett_is_remainder()
     ensures words { BarrettByWords }
 {}
 
-/// States that a root of an irreducible polynomial in a ring of as many elements gives an isomorphism, which is a linear map.
+/// States that a root of an irreducible polynomial gives an embedding in the ring that has it, an isomorphism where that has as many elements,
+/// and that it is a linear map.
 pub fn roots_give_isomorphisms()
+    ensures embeddings { RootsGiveEmbeddings }
     ensures isomorphisms { RootsGiveIsomorphisms }
     ensures linear { ValuesAreLinear }
 {}

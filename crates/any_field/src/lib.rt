@@ -7,5 +7,5 @@ mod irreducible;
 pub mod laws;
 mod reduction;
 
-pub use crate::extension::{BinaryExtension, NotIrreducible};
+pub use crate::extension::{BinaryExtension, Embedding, NotIrreducible};
 pub use crate::irreducible::is_irreducible;

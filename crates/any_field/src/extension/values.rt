@@ -6,8 +6,8 @@ ghost use Rattle.any_field.specs.Values.{IsIsomorphismOf, binary_value};
 use crate::extension::BinaryExtension;
 
 impl BinaryExtension {
-    // The value at an element of the polynomial x^degree + tail, by Horner's rule.
-    fn value(self, root: u128, degree: u32, tail: u128) -> u128
+    /// The value at an element of the polynomial x^degree + tail, by Horner's rule.
+    pub(crate) fn value(self, root: u128, degree: u32, tail: u128) -> u128
         requires degree_fits { degree ≤ 128 }
         requires tail_fits { tail < 2 ^ degree }
         ensures { result ≡ binary_value (field_product self.degree self.tail) root (with_top degree tail) }

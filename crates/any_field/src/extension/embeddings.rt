@@ -1,0 +1,56 @@
+// Embeddings of one field in another, by a root of the modulus of the first in the second. A field of 2^d elements lies in one of 2^m
+// elements where d divides m (R. Lidl and H. Niederreiter, Finite Fields, theorem 2.6).
+ghost use Rattle.std.specs.Prelude.{◌≡◌, ◌≢◌, ◌%◌, ◌^◌, IfNone, IfSome};
+ghost use Rattle.any_field.specs.Contexts.{field_product, with_top};
+ghost use Rattle.any_field.specs.Values.{IsEmbeddingOf, binary_value};
+
+use crate::extension::BinaryExtension;
+use crate::reduction::low_bits;
+
+/// A map from one field into another, or onto it, that carries 1, sums and products, and no two elements to one: an element goes to the
+/// value at the root of the polynomial that it is.
+#[derive(Clone, Copy)]
+pub struct Embedding {
+    source: BinaryExtension,
+    target: BinaryExtension,
+    root: u128,
+    // the root to the power of the degree of the source
+    high: u128,
+    ghost is_root: { binary_value (field_product target.degree target.tail) root (with_top source.degree source.tail) ≡ 0 },
+    ghost high_is: { high ≡ binary_value (field_product target.degree target.tail) root (with_top source.degree 0) },
+}
+
+impl Embedding {
+    /// The map that takes x of the source to the root. It is `None` exactly where that is no root of the modulus of the source.
+    pub fn new(source: BinaryExtension, target: BinaryExtension, root: u128) -> Option<Embedding>
+        ensures fields { IfSome result (λ map. (map.source.degree ≡ source.degree) × (map.source.tail ≡ source.tail)
+            × (map.target.degree ≡ target.degree) × (map.target.tail ≡ target.tail) × (map.root ≡ root)) }
+        ensures none { IfNone result
+            (binary_value (field_product target.degree target.tail) root (with_top source.degree source.tail) ≢ 0) }
+    {
+        if target.value(root, source.degree, source.tail) != 0 {
+            return None;
+        }
+        Some(Embedding {
+            source,
+            target,
+            root,
+            high: target.value(root, source.degree, 0),
+        })
+    }
+
+    /// The image of an element: the value at the root of the polynomial that it is.
+    pub fn image(self, x: u128) -> u128
+        ensures { result ≡ binary_value (field_product self.target.degree self.target.tail) self.root (x % 2 ^ self.source.degree) }
+    {
+        let x = low_bits(x, self.source.degree);
+        self.target.value(self.root, self.source.degree, x) ^ self.high
+    }
+
+    /// States that it is an embedding: it carries 1, sums and products, and no two elements to one. Computes nothing.
+    pub fn is_embedding(self)
+        ensures { IsEmbeddingOf self.source.degree self.target.degree (field_product self.source.degree self.source.tail)
+            (field_product self.target.degree self.target.tail)
+            (binary_value (field_product self.target.degree self.target.tail) self.root) }
+    {}
+}
