@@ -1,0 +1,5 @@
+use Rattle.error_codes.proofs.Erasures.{null_vectors_solve}
+use Rattle.error_codes.proofs.laws.null_vectors_solve.Goals as goal
+
+pub returns : goal.returns
+returns c = null_vectors_solve
