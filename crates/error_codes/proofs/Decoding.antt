@@ -19,10 +19,13 @@ use Rattle.error_codes.specs.Decoding.{Decodes, DecodersAreRight, DecodingIsUniq
 use Rattle.error_codes.specs.Decoding.{KeyHasSolution, Rejects, RestoredIsOnly, SolutionsDecode}
 use Rattle.error_codes.proofs.Agreement.{agrees}
 use Rattle.proximity.proofs.Counting.{none-of-three, one-unmarked, three-marks}
-use Rattle.error_codes.proofs.Marks.{differ-is, enumerated, equal-is, fewer-marks, none-of-two, not-false, right-is}
-use Rattle.error_codes.proofs.Marks.{two-marks, unmarked-count, wrong-is}
+use Rattle.proximity.proofs.Counts.{enumerated}
+use Rattle.error_codes.proofs.Marks.{differ-is, equal-is, fewer-marks, none-of-two, not-false, right-is}
+use Rattle.proximity.proofs.Counts.{unmarked-count}
+use Rattle.error_codes.proofs.Marks.{two-marks, wrong-is}
 use Rattle.error_codes.proofs.Lists.{has-nonzero, list-polynomial}
-use Rattle.error_codes.proofs.Products.{locator, locator-nonzero, locator-polynomial, locator-zero, polynomial-most}
+use Rattle.error_codes.proofs.Products.{locator, locator-elsewhere, locator-nonzero, locator-polynomial, locator-zero}
+use Rattle.error_codes.proofs.Products.{polynomial-most}
 use Rattle.error_codes.proofs.Products.{polynomial-product}
 
 pub decoding_is_unique : DecodingIsUnique
@@ -80,11 +83,7 @@ key_has_solution width times wide field k n e t m s point word erased received t
     nonzero : (t < n) ⊎ (n ≤ t) → ((x : ℕ) → found x ≡ 0) → ⊥
     nonzero (inl more) none =
         let right = one-unmarked wrong n (let few = within.few_wrong in omega (arith, few, more)) in
-        locator-nonzero width times wide field point wrong n (point right.0)
-        (received.points.below right.0 right.1) received.points.below
-        (λ i below is same.
-        let one : right.0 ≡ i = received.points.differ right.0 i right.1 below same in
-        let yes : wrong right.0 ≡ true = ap wrong one ∙ is in let no_mark = right.2 in absurd (cc))
+        locator-elsewhere width times wide field point wrong n right.0 received.points right.1 right.2
         (none (point right.0))
     nonzero (inr fewer) none =
         let empty : n ≡ 0 = omega (arith, fewer, bottoms, short) in

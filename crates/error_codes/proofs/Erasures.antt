@@ -16,7 +16,7 @@ use Rattle.proximity.proofs.Counting.{one-unmarked}
 use Rattle.error_codes.proofs.Marks.{right-is}
 use Rattle.error_codes.proofs.Lists.{has-nonzero}
 use Rattle.error_codes.proofs.Moments.{key-values, sum-none, sum-same}
-use Rattle.error_codes.proofs.Products.{locator, locator-nonzero, locator-polynomial, locator-zero, polynomial-most}
+use Rattle.error_codes.proofs.Products.{locator, locator-elsewhere, locator-polynomial, locator-zero, polynomial-most}
 
 module _ (width : ℕ) (times : ℕ → ℕ → ℕ) (wide : 0 < width) (field : IsField width times) (n : ℕ)
     (point scale : ℕ → ℕ) where
@@ -171,9 +171,5 @@ null_vectors_exist width times wide field checks n e t point scale word erased s
     nonzero : ((x : ℕ) → found x ≡ 0) → ⊥
     nonzero none =
         let right = one-unmarked wrong n (let few = sent.few_wrong in omega (arith, few, short)) in
-        locator-nonzero width times wide field point wrong n (point right.0)
-        (scaled.points.below right.0 right.1) scaled.points.below
-        (λ i below is same.
-        let one : right.0 ≡ i = scaled.points.differ right.0 i right.1 below same in
-        let marks : wrong right.0 ≡ true = ap wrong one ∙ is in let no_mark = right.2 in absurd (cc))
+        locator-elsewhere width times wide field point wrong n right.0 scaled.points right.1 right.2
         (none (point right.0))

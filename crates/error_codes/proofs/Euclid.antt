@@ -16,7 +16,7 @@ use Rattle.error_codes.specs.Decoding.{Decodes}
 use Rattle.error_codes.specs.Euclid.{EuclidContinues, EuclidDecodes, EuclidStarts, EuclidStops, HasTop}
 use Rattle.proximity.specs.Marks.{marked_below, total}
 use Rattle.error_codes.specs.Words.{at, SolvesKey}
-use Rattle.error_codes.proofs.Marks.{unmarked-count}
+use Rattle.proximity.proofs.Counts.{unmarked-count}
 use Rattle.error_codes.proofs.Decoding.{solutions_decode}
 use Rattle.error_codes.proofs.Degrees.{count-polynomial, make-top, polynomial-count, top-polynomial, top-product}
 use Rattle.error_codes.proofs.Degrees.{top-sum}

@@ -11,20 +11,10 @@ use Rattle.proximity.specs.Marks.{total}
 use Rattle.proximity.specs.Openings.{sum_lists}
 use Rattle.error_codes.specs.Secrets.{FewerSharesAreCounted, are_shares}
 use Rattle.error_codes.specs.Words.{at}
-use Rattle.proximity.proofs.Counting.{total-add}
+use Rattle.proximity.proofs.Counting.{total-add, total-same, total-zero}
+use Rattle.proximity.proofs.Counts.{total-same_number}
 use Rattle.error_codes.proofs.Counts.{shares_are_counted, total-none, total-one}
 use Rattle.error_codes.proofs.Lists.{list-polynomial}
-
-total-same : (f g : ℕ → ℕ) (n : ℕ) → ((i : ℕ) → i < n → f i ≡ g i) → total f n ≡ total g n
-unfolding total
-total-same f g zero same = refl
-total-same f g (suc n) same =
-    ap₂ ◌+◌ (total-same f g n (λ i below. same i (omega (arith, below)))) (same n (omega arith))
-
-total-number : (c n : ℕ) → total (λ p. c) n ≡ n * c
-unfolding total
-total-number c zero = omega arith
-total-number c (suc n) = let before = total-number c n in omega (arith, before)
 
 lists-same : (q bound : ℕ) (f g : List ℕ → ℕ) → ((xs : List ℕ) → f xs ≡ g xs)
     → sum_lists q bound f ≡ sum_lists q bound g
@@ -34,29 +24,22 @@ lists-same (suc q) bound f g same =
     total-same (λ x. sum_lists q bound (λ xs. f (x ∷ xs))) (λ x. sum_lists q bound (λ xs. g (x ∷ xs))) bound
     (λ x below. lists-same q bound (λ xs. f (x ∷ xs)) (λ xs. g (x ∷ xs)) (λ xs. same (x ∷ xs)))
 
-lists-none : (q bound : ℕ) → sum_lists q bound (λ xs. 0) ≡ 0
-unfolding sum_lists
-lists-none zero bound = refl
-lists-none (suc q) bound = total-none (λ x. sum_lists q bound (λ xs. 0)) bound (λ x below. lists-none q bound)
-
-lists-add : (q bound : ℕ) (f g : List ℕ → ℕ)
-    → sum_lists q bound (λ xs. f xs + g xs) ≡ sum_lists q bound f + sum_lists q bound g
-unfolding sum_lists
-lists-add zero bound f g = refl
-lists-add (suc q) bound f g =
-    total-same (λ x. sum_lists q bound (λ xs. f (x ∷ xs) + g (x ∷ xs)))
-    (λ x. sum_lists q bound (λ xs. f (x ∷ xs)) + sum_lists q bound (λ xs. g (x ∷ xs))) bound
-    (λ x below. lists-add q bound (λ xs. f (x ∷ xs)) (λ xs. g (x ∷ xs)))
-    ∙ total-add (λ x. sum_lists q bound (λ xs. f (x ∷ xs))) (λ x. sum_lists q bound (λ xs. g (x ∷ xs))) bound
-
 -- sums in another order
+total-turned : (f : ℕ → ℕ → ℕ) (m n : ℕ) → total (λ x. total (f x) n) m ≡ total (λ y. total (λ x. f x y) m) n
+unfolding total
+total-turned f m zero = total-zero m
+total-turned f m (suc n) =
+    total-add (λ x. total (f x) n) (λ x. f x n) m ∙ ap (λ (z : ℕ). z + total (λ x. f x n) m) (total-turned f m n)
+
 lists-total : (q bound n : ℕ) (f : ℕ → List ℕ → ℕ)
     → sum_lists q bound (λ xs. total (λ y. f y xs) n) ≡ total (λ y. sum_lists q bound (f y)) n
-unfolding total
-lists-total q bound zero f = lists-none q bound
-lists-total q bound (suc n) f =
-    lists-add q bound (λ xs. total (λ y. f y xs) n) (f n)
-    ∙ ap (λ (z : ℕ). z + sum_lists q bound (f n)) (lists-total q bound n f)
+unfolding sum_lists
+lists-total zero bound n f = refl
+lists-total (suc q) bound n f =
+    total-same (λ x. sum_lists q bound (λ xs. total (λ y. f y (x ∷ xs)) n))
+    (λ x. total (λ y. sum_lists q bound (λ xs. f y (x ∷ xs))) n) bound
+    (λ x below. lists-total q bound n (λ y xs. f y (x ∷ xs)))
+    ∙ total-turned (λ x y. sum_lists q bound (λ xs. f y (x ∷ xs))) bound n
 
 module _ (width : ℕ) (times : ℕ → ℕ → ℕ) (wide : 0 < width) (field : IsField width times) (point : ℕ → ℕ) where
   -- the shares with another one at a place
@@ -157,7 +140,7 @@ module _ (width : ℕ) (times : ℕ → ℕ → ℕ) (wide : 0 < width) (field :
       (λ y below.
       counted others points nonzero secret secret_fits more (suc known) (omega (arith, sum)) (put share known y)
       (λ i inside. put-fits y below i inside (eqb_tells i known)))
-      ∙ total-number ((2 ^ width) ^ more) (2 ^ width) ∙ turned (2 ^ width) ((2 ^ width) ^ more)
+      ∙ total-same_number ((2 ^ width) ^ more) (2 ^ width) ∙ turned (2 ^ width) ((2 ^ width) ^ more)
       ∙ sym (pow-suc (2 ^ width) more)
     where
       turned : (a b : ℕ) → a * b ≡ b * a

@@ -8,6 +8,7 @@ use lib.Bits.{xor_self, xor_zero_r}
 use Rattle.field_base.specs.Basis.{product_below}
 use Rattle.field_base.specs.Field.{IsField}
 use Rattle.field_base.specs.Ring.{IsRing}
+use Rattle.field_base.specs.PolynomialRoots.{AreDistinctBelow}
 use Rattle.field_base.proofs.RingLemmas.{sum_times, times-zero, zero-times, xor_nothing}
 use Rattle.field_base.proofs.PowerLemmas.{times-one, one-times}
 use Rattle.field_base.proofs.FieldLemmas.{no_zero_divisors}
@@ -154,3 +155,12 @@ module _ (width : ℕ) (times : ℕ → ℕ → ℕ) (wide : 0 < width) (field :
             | inl none ↦ before none
             | inr none ↦ others n (omega arith) n_is (xor_nothing x (point n) none)
           ]
+
+  -- at a place that is not marked it is not 0, where the points differ
+  pub locator-elsewhere : (n i : ℕ) → AreDistinctBelow n (2 ^ width) point → i < n → marked i ≡ false
+      → locator n (point i) ≢ 0
+  locator-elsewhere n i points below free =
+      locator-nonzero n (point i) (points.below i below) points.below
+      (λ j j_below is same.
+      let one : i ≡ j = points.differ i j below j_below same in
+      let yes : marked i ≡ true = ap marked one ∙ is in absurd (cc))

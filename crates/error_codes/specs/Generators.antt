@@ -9,10 +9,11 @@ use Rattle.field_base.specs.PolynomialRoots.{AreDistinctBelow}
 use Rattle.error_codes.specs.Checks.{AreScaled, syndrome}
 use Rattle.error_codes.specs.Words.{at}
 
--- point i, and scale i
+-- point i
 abbrev pub power_point : (ℕ → ℕ → ℕ) → ℕ → ℕ → ℕ
 power_point times r i = power 1 times r i
 
+-- scale i
 abbrev pub power_scale : (ℕ → ℕ → ℕ) → ℕ → ℕ → ℕ → ℕ
 power_scale times r b i = power 1 times (power 1 times r b) i
 
