@@ -1,0 +1,4 @@
+mod Products
+mod Interpolating
+mod Loops
+mod Secrecy

@@ -1,0 +1,4 @@
+pub mod Fields
+pub mod Sharing
+pub mod Refusals
+pub mod Secrecy
