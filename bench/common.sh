@@ -1,5 +1,12 @@
 # What the scripts of the benchmark share. Each sets `here`, the folder that it is in, and reads this file.
 # shellcheck shell=sh
+# --help is answered by the head of the script, and nothing is done.
+case ${1-} in
+--help | -h)
+    sed -n '2,/^[^#]/s/^# \{0,1\}//p' "$0"
+    exit 0
+    ;;
+esac
 RT=${RT:-rt}
 top=$(cd "$(dirname "$here")" && git rev-parse --show-toplevel)
 

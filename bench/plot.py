@@ -115,6 +115,9 @@ def drawn(axes, title, rows):
 
 def main():
     """Draws the picture, or compares it."""
+    if sys.argv[1:] in (["--help"], ["-h"]):
+        print(__doc__.strip())
+        return 0
     if sys.argv[1:] == ["--check"]:
         return check()
     THREE.write_text(three(), encoding="utf-8")
