@@ -41,7 +41,7 @@ module _ (width : ℕ) (times : ℕ → ℕ → ℕ) (wide : 0 < width) (field :
       ∙ ap (times (slice_index cs i)) (field.ring.comm x (power 1 times x i))))
       ∙ sym (sum-first (λ i. times (slice_index (c ∷ cs) i) (power 1 times x i)) (length cs))
 
-  powers-join : (r b m i : ℕ)
+  pub powers-join : (r b m i : ℕ)
       → times (power 1 times (power 1 times r b) i) (power 1 times (power 1 times r i) m) ≡ power 1 times
       (power 1 times r (b + m)) i
   powers-join r b m i =
@@ -53,7 +53,7 @@ module _ (width : ℕ) (times : ℕ → ℕ → ℕ) (wide : 0 < width) (field :
       counted : (b m i : ℕ) → b * i + i * m ≡ (b + m) * i
       counted b m i = omega arith
 
-  power-nonzero : (a : ℕ) → a < 2 ^ width → a ≢ 0 → (n : ℕ) → power 1 times a n ≢ 0
+  pub power-nonzero : (a : ℕ) → a < 2 ^ width → a ≢ 0 → (n : ℕ) → power 1 times a n ≢ 0
   unfolding power
   power-nonzero a fits nonzero zero is = absurd (omega (arith, is))
   power-nonzero a fits nonzero (suc n) is =

@@ -5,3 +5,5 @@ pub mod Euclid
 pub mod Generators
 pub mod Registers
 pub mod Secrets
+pub mod ByteFields
+pub mod Correcting

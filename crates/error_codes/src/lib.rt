@@ -1,4 +1,14 @@
-//! Reed-Solomon codes that correct errors, and what shares of a secret hide.
+//! Reed-Solomon codes that correct errors: their laws, their encoder over bytes, and what shares of a secret hide.
 #![tactic(auto)]
 
+mod byte_field;
+mod code;
+mod encoder;
+mod error;
 pub mod laws;
+#[cfg(test)]
+mod tests;
+
+pub use crate::byte_field::{ByteField, bytes_are_fields};
+pub use crate::code::CorrectingCode;
+pub use crate::error::CodeError;

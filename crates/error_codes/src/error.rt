@@ -1,0 +1,16 @@
+// Why a code cannot be made, and why a word is not corrected.
+use thiserror::Error;
+
+/// Why there is no code with these numbers.
+#[derive(Clone, Copy, Debug, PartialEq, Eq, Error)]
+pub enum CodeError {
+    /// A code has at least one symbol of data, and at least one other.
+    #[error("a code has symbols of data and others")]
+    NoSymbols,
+    /// A word has at most 255 symbols.
+    #[error("a word has at most 255 symbols")]
+    TooLong,
+    /// The powers of the root that belong to the symbols are not different.
+    #[error("the order of the root is below the length")]
+    RepeatedPoints,
+}
