@@ -1,5 +1,6 @@
 -- Values of words at the roots of a code, by Horner's rule, and that they are the syndromes of a code by checks.
-use Rattle.std.proofs.Common.{◌≡◌, ◌≢◌, ◌⊎◌, inl, inr, ℕ, zero, suc, ◌+◌, ◌-◌, ◌^◌, ◌<◌, ◌≤◌, List, length, set, replicate}
+use Rattle.std.proofs.Common.{◌≡◌, ◌≢◌, ◌⊎◌, inl, inr, ℕ, zero, suc, ◌+◌, ◌-◌, ◌^◌, ◌<◌, ◌≤◌, List, length, set}
+use Rattle.std.proofs.Common.{replicate}
 use Rattle.std.proofs.Common.{sym, ◌∙◌, ap, ap₂, arith, below_more}
 use Rattle.std.specs.Prelude.{bit_xor, slice_index}
 use Rattle.std.proofs.lemmas.List.{get_or-replicate, get_or-set_other, get_or-set_same, get_or_past, length-replicate}
@@ -36,7 +37,8 @@ pub zeros-at : (n i : ℕ) → slice_index (replicate {A = ℕ} n 0) i ≡ 0
 zeros-at n i =
     elim (cases_lt i n) [
       | inl below ↦ get_or-replicate n i 0 0 below
-      | inr past ↦ get_or_past (replicate {A = ℕ} n 0) i 0 (let long = length-replicate {A = ℕ} n 0 in omega (arith, long, past))
+      | inr past ↦ get_or_past (replicate {A = ℕ} n 0) i 0 (let long = length-replicate {A = ℕ} n 0 in
+          omega (arith, long, past))
     ]
 
 -- the same from the second place on
@@ -69,7 +71,8 @@ entry-over j entry value row initial inside is before = (
   below_more (λ n. slice_index (set row j entry) n ≡ value n) j
       (λ n below. get_or-set_other row j n entry 0 (λ e. absurd (omega (arith, e, below))) ∙ before.0 n below)
       (get_or-set_same row j entry 0 inside ∙ is),
-  λ n above. get_or-set_other row j n entry 0 (λ e. absurd (omega (arith, e, above))) ∙ before.1 n (omega (arith, above)),
+  λ n above. get_or-set_other row j n entry 0 (λ e. absurd (omega (arith, e, above)))
+      ∙ before.1 n (omega (arith, above)),
 )
 
 -- an entry more behind the first k
@@ -83,7 +86,8 @@ entry-behind k j entry row initial rest inside is before = (
   length-set row (k + j) entry ∙ before.0,
   λ i below. get_or-set_other row (k + j) i entry 0 (λ e. absurd (omega (arith, e, below))) ∙ before.1 i below,
   below_more (λ n. slice_index (set row (k + j) entry) (k + n) ≡ slice_index rest n) j
-      (λ n below. get_or-set_other row (k + j) (k + n) entry 0 (λ e. absurd (omega (arith, e, below))) ∙ before.2 n below)
+      (λ n below. get_or-set_other row (k + j) (k + n) entry 0 (λ e. absurd (omega (arith, e, below)))
+      ∙ before.2 n below)
       (get_or-set_same row (k + j) entry 0 inside ∙ is),
 )
 
@@ -93,7 +97,8 @@ module _ (width : ℕ) (times : ℕ → ℕ → ℕ) (wide : 0 < width) (field :
 
   value-lt : (n : ℕ) (word : ℕ → ℕ) (x : ℕ) → code_value times n word x < 2 ^ width
   unfolding sum_below
-  value-lt n word x = sum-lt (λ i. times (word i) (power 1 times x (n - 1 - i))) (λ i. field.ring.below (word i) (power 1 times x (n - 1 - i))) n
+  value-lt n word x = sum-lt (λ i. times (word i) (power 1 times x (n - 1 - i)))
+      (λ i. field.ring.below (word i) (power 1 times x (n - 1 - i))) n
     where
       sum-lt : (f : ℕ → ℕ) → ((i : ℕ) → f i < 2 ^ width) → (n : ℕ) → sum_below f n < 2 ^ width
       sum-lt f each zero = pow_pos width
@@ -149,8 +154,10 @@ module _ (width : ℕ) (times : ℕ → ℕ → ℕ) (wide : 0 < width) (field :
       ap (λ (m : ℕ). code_value times m word x) next ∙ horner-next (k + n) word x
       ∙ ap (λ (v : ℕ). bit_xor (times v x) (times (word (k + n)) 1)) (value-split k n word x)
       ∙ ap (λ (v : ℕ). bit_xor v (times (word (k + n)) 1))
-      (sum_times width 1 times field.ring (times (code_value times k word x) (power 1 times x n)) (code_value times n rest x) x)
-      ∙ xor_assoc (times (times (code_value times k word x) (power 1 times x n)) x) (times (code_value times n rest x) x)
+      (sum_times width 1 times field.ring (times (code_value times k word x) (power 1 times x n))
+      (code_value times n rest x) x)
+      ∙ xor_assoc (times (times (code_value times k word x) (power 1 times x n)) x)
+      (times (code_value times n rest x) x)
       (times (word (k + n)) 1)
       ∙ ap₂ bit_xor (field.ring.assoc (code_value times k word x) (power 1 times x n) x)
       (sym (horner-next n rest x))
@@ -168,7 +175,8 @@ module _ (width : ℕ) (times : ℕ → ℕ → ℕ) (wide : 0 < width) (field :
     points = record {
       below = λ i below. scaled.points.below (n - 1 - i) (omega (arith, below));
       differ = λ i j i_below j_below same.
-          let equal = scaled.points.differ (n - 1 - i) (n - 1 - j) (omega (arith, i_below)) (omega (arith, j_below)) same in
+          let equal = scaled.points.differ (n - 1 - i) (n - 1 - j) (omega (arith, i_below))
+          (omega (arith, j_below)) same in
           omega (arith, i_below, j_below, equal);
     };
     scales = λ i below. scaled.scales (n - 1 - i) (omega (arith, below));
@@ -180,7 +188,8 @@ module _ (width : ℕ) (times : ℕ → ℕ → ℕ) (wide : 0 < width) (field :
       → syndrome times n (λ i. power_point times r (n - 1 - i)) (λ i. power_scale times r b (n - 1 - i)) word m
       ≡ code_value times n word (power 1 times r (b + m))
   syndrome-value n r b m word =
-      sum-same (λ i. times (times (power_scale times r b (n - 1 - i)) (word i)) (power 1 times (power_point times r (n - 1 - i)) m))
+      sum-same (λ i. times (times (power_scale times r b (n - 1 - i)) (word i))
+      (power 1 times (power_point times r (n - 1 - i)) m))
       (λ i. times (word i) (power 1 times (power 1 times r (b + m)) (n - 1 - i))) n
       (λ i below.
       ap (λ (z : ℕ). times z (power 1 times (power 1 times r (n - 1 - i)) m))
@@ -196,7 +205,8 @@ module _ (width : ℕ) (times : ℕ → ℕ → ℕ) (wide : 0 < width) (field :
       (power-lt width 1 times field.ring one_fits r (j - i)) (power-lt width 1 times field.ring one_fits r i) one_fits
       (field.ring.comm (power 1 times r (j - i)) (power 1 times r i)
       ∙ sym (power-add width 1 times field.ring one_fits r i (j - i)) ∙ ap (power 1 times r) (whole less) ∙ sym same
-      ∙ sym (one-times width 1 times field.ring (power 1 times r i) (power-lt width 1 times field.ring one_fits r i)))) [
+      ∙ sym (one-times width 1 times field.ring (power 1 times r i)
+      (power-lt width 1 times field.ring one_fits r i)))) [
         | inl one ↦ order (j - i) (omega (arith, less)) (omega (arith, less, j_below)) one
         | inr none ↦ power-nonzero width times wide field r fits nonzero i none
       ]
@@ -240,4 +250,5 @@ module _ (width : ℕ) (times : ℕ → ℕ → ℕ) (wide : 0 < width) (field :
   pub root-power : (r b m first value : ℕ) → first ≡ power 1 times r b → value ≡ times first (power 1 times r m)
       → value ≡ power 1 times r (b + m)
   root-power r b m first value first_is value_is =
-      value_is ∙ ap (λ (z : ℕ). times z (power 1 times r m)) first_is ∙ sym (power-add width 1 times field.ring one_fits r b m)
+      value_is ∙ ap (λ (z : ℕ). times z (power 1 times r m)) first_is
+      ∙ sym (power-add width 1 times field.ring one_fits r b m)

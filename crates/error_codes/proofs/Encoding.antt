@@ -33,7 +33,8 @@ module _ (width : ℕ) (times : ℕ → ℕ → ℕ) (wide : 0 < width) (field :
       (λ i. bit_xor (times (a i) (power 1 times x (n - 1 - i))) (times s (times (b i) (power 1 times x (n - 1 - i))))) n
       (λ i below.
       sum_times width 1 times field.ring (a i) (times s (b i)) (power 1 times x (n - 1 - i))
-      ∙ ap (bit_xor (times (a i) (power 1 times x (n - 1 - i)))) (field.ring.assoc s (b i) (power 1 times x (n - 1 - i))))
+      ∙ ap (bit_xor (times (a i) (power 1 times x (n - 1 - i))))
+      (field.ring.assoc s (b i) (power 1 times x (n - 1 - i))))
       ∙ sum-add (λ i. times (a i) (power 1 times x (n - 1 - i)))
       (λ i. times s (times (b i) (power 1 times x (n - 1 - i)))) n
       ∙ ap (bit_xor (code_value times n a x))
@@ -53,7 +54,8 @@ module _ (width : ℕ) (times : ℕ → ℕ → ℕ) (wide : 0 < width) (field :
       ∙ sym (xor_cancel first (code_value times n (λ j. f (1 + j)) x))
       ∙ ap (bit_xor first) (sym (value-split width times wide field 1 n f x)
       ∙ ap (λ (m : ℕ). code_value times m f x) whole ∙ horner-next width times wide field n f x
-      ∙ ap (bit_xor (times (code_value times n f x) x)) (ap (λ (z : ℕ). times z 1) none ∙ zero-times width 1 times field.ring 1)
+      ∙ ap (bit_xor (times (code_value times n f x) x)) (ap (λ (z : ℕ). times z 1) none
+      ∙ zero-times width 1 times field.ring 1)
       ∙ xor_zero_r (times (code_value times n f x) x))
       ∙ xor_comm first (times (code_value times n f x) x)
       ∙ ap (bit_xor (times (code_value times n f x) x)) first-is
@@ -74,7 +76,8 @@ module _ (width : ℕ) (times : ℕ → ℕ → ℕ) (wide : 0 < width) (field :
 
   -- a polynomial of count + 1 coefficients times x + r, the highest coefficient first
   pub times-root : (count r x : ℕ) (before after : ℕ → ℕ) → after 0 ≡ before 0
-      → ((j : ℕ) → j < count + 1 → after (j + 1) ≡ bit_xor (before (j + 1)) (times r (before j))) → before (count + 1) ≡ 0
+      → ((j : ℕ) → j < count + 1 → after (j + 1) ≡ bit_xor (before (j + 1)) (times r (before j)))
+      → before (count + 1) ≡ 0
       → code_value times (count + 1 + 1) after x
       ≡ bit_xor (times (code_value times (count + 1) before x) x) (times r (code_value times (count + 1) before x))
   times-root count r x before after first next none =
@@ -84,7 +87,8 @@ module _ (width : ℕ) (times : ℕ → ℕ → ℕ) (wide : 0 < width) (field :
       (ap (λ (z : ℕ). times z (power 1 times x (count + 1)))
       (value-one after x ∙ ap (λ (z : ℕ). times z 1) first ∙ sym (value-one before x)))
       (value-same (count + 1) (λ j. after (1 + j)) (λ j. bit_xor (before (1 + j)) (times r (before j))) x
-      (λ j below. ap after (turned j) ∙ next j below ∙ ap (λ (k : ℕ). bit_xor (before k) (times r (before j))) (sym (turned j)))
+      (λ j below. ap after (turned j) ∙ next j below ∙ ap (λ (k : ℕ). bit_xor (before k) (times r (before j)))
+      (sym (turned j)))
       ∙ value-sum (count + 1) (λ j. before (1 + j)) before r x)
       ∙ sym (xor_assoc (times (code_value times 1 before x) (power 1 times x (count + 1)))
       (code_value times (count + 1) (λ j. before (1 + j)) x) (times r (code_value times (count + 1) before x)))
@@ -107,7 +111,8 @@ module _ (width : ℕ) (times : ℕ → ℕ → ℕ) (wide : 0 < width) (field :
 
   -- a root stays, and r is one
   pub root-stays : (count r x : ℕ) (before after : ℕ → ℕ) → after 0 ≡ before 0
-      → ((j : ℕ) → j < count + 1 → after (j + 1) ≡ bit_xor (before (j + 1)) (times r (before j))) → before (count + 1) ≡ 0
+      → ((j : ℕ) → j < count + 1 → after (j + 1) ≡ bit_xor (before (j + 1)) (times r (before j)))
+      → before (count + 1) ≡ 0
       → code_value times (count + 1) before x ≡ 0 → code_value times (count + 1 + 1) after x ≡ 0
   root-stays count r x before after first next none root =
       times-root count r x before after first next none
@@ -116,7 +121,8 @@ module _ (width : ℕ) (times : ℕ → ℕ → ℕ) (wide : 0 < width) (field :
       ∙ xor_zero_l 0
 
   pub root-added : (count r : ℕ) (before after : ℕ → ℕ) → after 0 ≡ before 0
-      → ((j : ℕ) → j < count + 1 → after (j + 1) ≡ bit_xor (before (j + 1)) (times r (before j))) → before (count + 1) ≡ 0
+      → ((j : ℕ) → j < count + 1 → after (j + 1) ≡ bit_xor (before (j + 1)) (times r (before j)))
+      → before (count + 1) ≡ 0
       → code_value times (count + 1 + 1) after r ≡ 0
   root-added count r before after first next none =
       times-root count r r before after first next none
@@ -194,7 +200,8 @@ module _ (width : ℕ) (times : ℕ → ℕ → ℕ) (wide : 0 < width) (field :
       → code_value times count before x ≡ times (code_value times n word x) (power 1 times x count)
       → code_value times count after x ≡ times (code_value times (n + 1) word x) (power 1 times x count)
   rest-more count n x word generator before after symbol monic root symbol_is none next value =
-      value-same count after (λ j. bit_xor (before (j + 1)) (times (bit_xor symbol (before 0)) (generator (j + 1)))) x next
+      value-same count after (λ j. bit_xor (before (j + 1)) (times (bit_xor symbol (before 0))
+      (generator (j + 1)))) x next
       ∙ value-sum count (λ j. before (j + 1)) (λ j. generator (j + 1)) (bit_xor symbol (before 0)) x
       ∙ ap₂ bit_xor (value-moved count before x none)
       (ap (times (bit_xor symbol (before 0))) (lower-value count x generator monic root)
@@ -207,7 +214,8 @@ module _ (width : ℕ) (times : ℕ → ℕ → ℕ) (wide : 0 < width) (field :
       ∙ ap (times (code_value times n word x)) (field.ring.comm top x)
       ∙ sym (field.ring.assoc (code_value times n word x) x top))
       (sym (mod-times width 1 times field.ring symbol top)
-      ∙ ap (λ (z : ℕ). times z top) (sym (field.ring.one symbol) ∙ field.ring.comm 1 symbol ∙ ap (λ (z : ℕ). times z 1) symbol_is))
+      ∙ ap (λ (z : ℕ). times z top) (sym (field.ring.one symbol) ∙ field.ring.comm 1 symbol
+      ∙ ap (λ (z : ℕ). times z 1) symbol_is))
       ∙ sym (sum_times width 1 times field.ring (times (code_value times n word x) x) (times (word n) 1) top)
       ∙ ap (λ (z : ℕ). times z top) (sym (horner-next width times wide field n word x)
       ∙ ap (λ (m : ℕ). code_value times m word x) more)

@@ -1,6 +1,5 @@
 // The fields of bytes that codes use, by tables: a product is a generator of the field to the power of the sum of the
-// logarithms of its factors. Bit i of a byte is the coefficient of x^i. What differs between the fields is a row of each
-// table.
+// logarithms of its factors. Bit i of a byte is the coefficient of x^i.
 ghost use Rattle.std.specs.Prelude.{◌≡◌, ◌≢◌};
 ghost use Rattle.field_base.specs.Field.{IsField};
 ghost use Rattle.field_base.specs.Powers.{power};

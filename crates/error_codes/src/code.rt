@@ -1,5 +1,6 @@
 // The code: its field, its length, and its roots.
-ghost use Rattle.std.specs.Prelude.{◌≡◌, ◌≢◌, ◌+◌, ◌-◌, ◌<◌, ◌≤◌, ◌↔◌, ℕ, length, slice_index, IsTrue, IsOk, IfOk, IfErr};
+ghost use Rattle.std.specs.Prelude.{◌≡◌, ◌≢◌, ◌+◌, ◌-◌, ◌<◌, ◌≤◌, ◌↔◌, ℕ, length, slice_index, IsTrue, IsOk, IfOk};
+ghost use Rattle.std.specs.Prelude.{IfErr};
 ghost use Rattle.field_base.specs.Powers.{power};
 ghost use Rattle.error_codes.specs.ByteFields.{byte_generator, byte_times};
 ghost use Rattle.error_codes.specs.Checks.{AreScaled};
@@ -32,7 +33,8 @@ pub struct CorrectingCode {
         → slice_index roots m ≡ power 1 (byte_times field) root (first_root + m) },
     ghost monic: { slice_index generator 0 ≡ 1 },
     ghost zeros: { (m : ℕ) → m < word_length - dimension
-        → code_value (byte_times field) (word_length - dimension + 1) (slice_index generator) (slice_index roots m) ≡ 0 },
+        → code_value (byte_times field) (word_length - dimension + 1) (slice_index generator) (slice_index roots m)
+        ≡ 0 },
 }
 
 impl CorrectingCode {

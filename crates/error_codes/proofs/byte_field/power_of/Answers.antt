@@ -7,7 +7,8 @@ use Rattle.error_codes.proofs.byte_field.power_of.Goals.{then-rest-eq1, else-res
 
 pub loop-rest-init : goal.loop-rest-init
 loop-rest-init c = (
-  power_start 8 1 (byte_times c.args.field) (bytes_are_fields c.args.field).ring (lit< tt) 1 c.args.a c.args.exponent refl,
+  power_start 8 1 (byte_times c.args.field) (bytes_are_fields c.args.field).ring
+      (lit< tt) 1 c.args.a c.args.exponent refl,
   lit< tt,
 )
 

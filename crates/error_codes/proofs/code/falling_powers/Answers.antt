@@ -6,5 +6,6 @@ use Rattle.error_codes.proofs.code.falling_powers.Goals as goal
 
 pub loop-i-preserved : goal.loop-i-preserved
 loop-i-preserved c =
-    entry-more (λ n. power 1 (byte_times c.args.field) c.args.base (c.args.count - 1 - n)) 256 c.loop-i.i _ c.loop-i.powers
+    entry-more (λ n. power 1 (byte_times c.args.field) c.args.base
+    (c.args.count - 1 - n)) 256 c.loop-i.i _ c.loop-i.powers
     c.loop-i.invariant (omega arith) c.power_of.ensures

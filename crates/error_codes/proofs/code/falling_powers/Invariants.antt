@@ -5,4 +5,5 @@ use Rattle.error_codes.proofs.code.falling_powers.Given as goal
 
 abbrev pub invariant-loop-i : goal.invariant-loop-i
 invariant-loop-i l =
-    (length l.powers ≡ 256) × ((n : ℕ) → n < l.i → slice_index l.powers n ≡ power 1 (byte_times l.field) l.base (l.count - 1 - n))
+    (length l.powers ≡ 256) × ((n : ℕ) → n < l.i → slice_index l.powers n
+    ≡ power 1 (byte_times l.field) l.base (l.count - 1 - n))

@@ -12,7 +12,8 @@ loop-i-init c =
     let code = c.args.self.now in (
       λ j above. zeros-at 256 j,
       λ m below.
-          rest-starts 8 (byte_times code.field) (lit< tt) (bytes_are_fields code.field) (code.word_length - code.dimension)
+          rest-starts 8 (byte_times code.field) (lit< tt) (bytes_are_fields code.field)
+          (code.word_length - code.dimension)
           (slice_index code.roots m) (slice_index c.args.word.now) (slice_index (replicate 256 0)) (zeros-at 256),
     )
 
@@ -23,7 +24,8 @@ loop-i-preserved c =
       λ j above. c.shift_rest.ensures.others j above ∙ c.loop-i.invariant.0 j above,
       λ m below.
           rest-more 8 times (lit< tt) (bytes_are_fields code.field) (code.word_length - code.dimension) c.loop-i.i
-          (slice_index code.roots m) (slice_index c.args.word.now) (slice_index code.generator) (slice_index c.loop-i.rest)
+          (slice_index code.roots m) (slice_index c.args.word.now) (slice_index code.generator)
+          (slice_index c.loop-i.rest)
           (slice_index c.shift_rest.new.rest) _ code.monic (code.zeros m below) refl
           (c.loop-i.invariant.0 (code.word_length - code.dimension) (omega arith)) c.shift_rest.ensures.shifted
           (c.loop-i.invariant.1 m below),
@@ -31,7 +33,8 @@ loop-i-preserved c =
 
 pub loop-j-preserved : goal.loop-j-preserved
 loop-j-preserved c =
-    entry-behind c.args.self.now.dimension c.loop-j.j (slice_index c.loop-i.rest c.loop-j.j) c.loop-j.word c.args.word.now
+    entry-behind c.args.self.now.dimension c.loop-j.j (slice_index c.loop-i.rest c.loop-j.j) c.loop-j.word
+    c.args.word.now
     c.loop-i.rest (omega (arith, c.loop-j.invariant.0, c.requires, c.loop-j-test.true)) refl c.loop-j.invariant
 
 pub returns-clause-encoded : goal.returns-clause-encoded

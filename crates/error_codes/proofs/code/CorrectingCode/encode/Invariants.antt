@@ -8,7 +8,8 @@ use Rattle.error_codes.proofs.code.CorrectingCode.encode.Given as goal
 abbrev pub invariant-loop-i : goal.invariant-loop-i
 invariant-loop-i l =
     ((j : ℕ) → l.checks ≤ j → slice_index l.rest j ≡ 0)
-    × ((m : ℕ) → m < l.checks → code_value (byte_times l.self.field) l.checks (slice_index l.rest) (slice_index l.self.roots m)
+    × ((m : ℕ) → m < l.checks → code_value (byte_times l.self.field) l.checks (slice_index l.rest)
+    (slice_index l.self.roots m)
     ≡ byte_times l.self.field
     (code_value (byte_times l.self.field) l.i (slice_index l.word) (slice_index l.self.roots m))
     (power 1 (byte_times l.self.field) (slice_index l.self.roots m) l.checks))

@@ -7,6 +7,7 @@ use Rattle.error_codes.proofs.code.CorrectingCode.syndromes.Given as goal
 abbrev pub invariant-loop-m : goal.invariant-loop-m
 invariant-loop-m l =
     (length l.values ≡ 256)
-    × ((n : ℕ) → n < l.m → slice_index l.values n ≡ code_value (byte_times l.self.field) (length l.word) (slice_index l.word)
+    × ((n : ℕ) → n < l.m → slice_index l.values n ≡ code_value (byte_times l.self.field) (length l.word)
+    (slice_index l.word)
     (power 1 (byte_times l.self.field) l.self.root (l.self.first_root + n)))
     × ((n : ℕ) → l.m ≤ n → slice_index l.values n ≡ 0)
