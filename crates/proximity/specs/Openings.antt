@@ -3,7 +3,7 @@
 -- section 4.1; A. Golovnev, J. Lee, S. Setty, J. Thaler and R. Wahby, Brakedown, 2021, section 4; B. Diamond and J. Posen, Proximity
 -- testing with logarithmic randomness, 2023).
 use Rattle.std.specs.Prelude.{◌≡◌, ◌≢◌, ◌⊎◌, ℕ, zero, suc, ◌+◌, ◌-◌, ◌*◌, ◌^◌, ◌<◌, ◌≤◌, Bool, true, cond, not, ◌&&◌}
-use Rattle.std.specs.Prelude.{List, [], ◌∷◌, length, nat_eq}
+use Rattle.std.specs.Prelude.{List, [], ◌∷◌, length, nat_eq, slice_index}
 use Rattle.field_base.specs.Field.{IsField}
 use Rattle.proximity.specs.Codes.{HasDistance, HasGap, HaveSymbols, IsNear, IsWordOf}
 use Rattle.proximity.specs.Folds.{IsLuckyAt, rows_folded}
@@ -57,6 +57,23 @@ OtherRowsMiss =
 unfoldable pub sum_lists : ℕ → ℕ → (List ℕ → ℕ) → ℕ
 sum_lists zero bound f = f []
 sum_lists (suc q) bound f = total (λ x. sum_lists q bound (λ xs. f (x ∷ xs))) bound
+
+-- a list of so many numbers below a bound
+pub record AreNumbersBelow (q bound : ℕ) (numbers : List ℕ) : Type 0 where
+  pub count : length numbers ≡ q
+  pub below : (i : ℕ) → i < q → slice_index numbers i < bound
+
+-- Of a matrix that is not near the code, at most h lucky F ^ (h - 1) of the F ^ h points fold it to a word that is, F the elements of the
+-- field: so many do at which a test holds that holds at no others.
+abbrev pub FewPointsFoldNear : Type 0
+FewPointsFoldNear =
+    (width : ℕ) (times : ℕ → ℕ → ℕ) (size n d : ℕ) (generator : ℕ → ℕ → ℕ) → 0 < width → IsField width times
+    → HasDistance times size n generator d
+    → (e lucky h : ℕ) (word : ℕ → ℕ → ℕ) → 2 * e < d → HasGap width times size n generator e lucky → HaveSymbols width n (2 ^ h) word
+    → (IsNear times size n generator e (2 ^ h) word → ⊥)
+    → (near : List ℕ → Bool)
+    → ((point : List ℕ) → length point ≡ h → near point ≡ true → IsNear times size n generator e 1 (rows_folded times h point word))
+    → 2 ^ width * sum_lists h (2 ^ width) (λ point. cond (near point) 1 0) ≤ h * lucky * (2 ^ width) ^ h
 
 -- no place of a list is marked
 unfoldable pub all_unmarked : (ℕ → Bool) → List ℕ → Bool

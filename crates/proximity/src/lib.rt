@@ -4,7 +4,7 @@
 ghost use Rattle.proximity.specs.Blocks.{FewBlocksMiss, FewCheatsInBlocks};
 ghost use Rattle.proximity.specs.Codes.{LinesAreNear, TriplesAreNear};
 ghost use Rattle.proximity.specs.Folds.{FarMatricesNeedLuck, FewFoldsAreNear};
-ghost use Rattle.proximity.specs.Openings.{FewCheatsAreAccepted, NearIsUnique, OpeningsNeedLuck, OtherRowsMiss};
+ghost use Rattle.proximity.specs.Openings.{FewCheatsAreAccepted, FewPointsFoldNear, NearIsUnique, OpeningsNeedLuck, OtherRowsMiss};
 
 /// States the line lemma, for every linear code and e below a third of its distance: where u + x v is near the code for more than e + 1
 /// different x, u and v are near it together, but for at most e places, the same for both.
@@ -27,6 +27,12 @@ pub fn few_folds_are_near()
 /// coordinate few values are (`few_folds_are_near`).
 pub fn far_matrices_need_luck()
     ensures { FarMatricesNeedLuck }
+{}
+
+/// States the same of whole points: of a matrix that is not near the code, at most h times as many of F points fold it to a near word as its
+/// lines may have near points, h the coordinates and F the elements of the field.
+pub fn few_points_fold_near()
+    ensures { FewPointsFoldNear }
 {}
 
 /// States that a matrix is near at most one matrix of code words, within half the distance of the code.
