@@ -1,9 +1,10 @@
 mod CodeColumns
-mod CodeDistances
+pub mod CodeDistances
 mod HonestColumns
-mod OpenedTables
+pub mod OpenedTables
 pub mod ProofBytes
 mod RootColumns
+pub mod SoundnessErrors
 mod TableLaws
 pub mod TableOpenings
 mod TableRows

@@ -3,4 +3,5 @@ pub mod CodeWords
 pub mod Interleaved
 pub mod OpenedTables
 pub mod RootColumns
+pub mod SoundnessErrors
 pub mod Tables

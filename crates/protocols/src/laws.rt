@@ -4,6 +4,7 @@ ghost use Rattle.std.specs.Prelude.{◌*◌, ◌^◌, ◌<◌};
 ghost use Rattle.protocols.specs.CodeDistances.{CodeWordsHaveDistance, FewQuarterRateCheats, QuarterRateGap};
 ghost use Rattle.protocols.specs.OpenedTables.{OpenedRowsNeedLuck, OpenedValuesNeedLuck, TableIsOne};
 ghost use Rattle.protocols.specs.RootColumns.{RootsHoldColumns};
+ghost use Rattle.protocols.specs.SoundnessErrors.{FewRunsSave};
 
 use merkle_trees::openings::openings_bind;
 pub use sum_checks::laws::{
@@ -27,6 +28,12 @@ pub fn quarter_rate_gap()
 pub fn few_quarter_rate_cheats()
     ensures cheats { FewQuarterRateCheats }
     ensures share { 163 ^ 128 * 2 ^ 83 < 256 ^ 128 }
+{}
+
+/// States the soundness error of sum-check: of all F^n lists of challenges, at most n d F^(n - 1) lead a false claim to a true one, by a prover
+/// that sends each message by the challenges before it, where no term has more than d factors and the field has F elements.
+pub fn few_runs_save()
+    ensures { FewRunsSave }
 {}
 
 /// States soundness for every prover: a row that agrees with columns at places, whatever the columns are, has the values of the table to

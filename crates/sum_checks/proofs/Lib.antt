@@ -3,7 +3,7 @@ mod ColumnSteps
 mod Refusals
 mod RoundValues
 pub mod Rows
-mod Soundness
+pub mod Soundness
 mod SumcheckStatements
 mod SumcheckSteps
 mod SumcheckWhole

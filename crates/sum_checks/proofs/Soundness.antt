@@ -83,7 +83,7 @@ module _ (width : ℕ) (times : ℕ → ℕ → ℕ) (field : IsField width time
 -- ---- one round
 
 -- what is left of a shape where the first coordinate is set
-shape-folded : (width : ℕ) (times : ℕ → ℕ → ℕ) (terms : List Product) (count d n r : ℕ) (values : List ℕ)
+pub shape-folded : (width : ℕ) (times : ℕ → ℕ → ℕ) (terms : List Product) (count d n r : ℕ) (values : List ℕ)
     → IsClaimShape width times terms count d (suc n) values → IsClaimShape width times terms count d n (folded times r values)
 shape-folded width times terms count d n r values shape = record {
   summed = shape.summed;
@@ -130,7 +130,7 @@ module _ (width : ℕ) (times : ℕ → ℕ → ℕ) (terms : List Product) (cou
       (honest_at times terms count n values) round-polynomial (honest-nodes claim true_claim) x
 
   -- of a false claim the polynomial is not the honest one
-  false-differs : (claim : ℕ) (message : List ℕ) → claim < 2 ^ width → length message ≡ d → ((i : ℕ) → slice_index message i < 2 ^ width)
+  pub false-differs : (claim : ℕ) (message : List ℕ) → claim < 2 ^ width → length message ≡ d → ((i : ℕ) → slice_index message i < 2 ^ width)
       → claim ≢ cube_sum times terms count (suc n) values
       → (x : ℕ) × (message_at width times claim message x ≢ honest_at times terms count n values x)
   false-differs claim message claim_fits long fits wrong =
@@ -159,7 +159,7 @@ module _ (width : ℕ) (times : ℕ → ℕ → ℕ) (terms : List Product) (cou
       left-over (message_at width times claim g r) (folded times r values) rs gs (shape-folded width times terms count d (length rs) r values shape)
       (honest-reduced width times terms count d (length rs) values shape claim g true_claim honest.0 r) honest.1
 
-  at-point : (values challenges : List ℕ) → IsClaimShape width times terms count d (length challenges) values
+  pub at-point : (values challenges : List ℕ) → IsClaimShape width times terms count d (length challenges) values
       → terms_value times terms (slice_index (folded_all times challenges values)) ≡ terms_value times terms (table_value times count values challenges)
   at-point values challenges shape =
       terms_value-same times count terms (slice_index (folded_all times challenges values)) (table_value times count values challenges)
