@@ -3,6 +3,9 @@ mod Files
 mod Places
 mod Refusals
 mod Sizes
+mod SoundBits
 mod Soundness
+mod SoundnessErrors
 mod StateRuns
 mod SumSteps
+mod TwoTables

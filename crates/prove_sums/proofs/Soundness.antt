@@ -1,9 +1,9 @@
 -- What accepted proofs of a sum of products of two tables show.
-use Rattle.std.proofs.Common.{◌≡◌, ◌⊎◌, inl, inr, ℕ, zero, suc, ◌+◌, ◌-◌, ◌*◌, ◌/◌, ◌^◌, ◌<◌, ◌≤◌, List, [], ◌∷◌, ◌++◌, length, map, take, drop, refl, sym, ◌∙◌, ap, ap₂, subst, arith, lit<, lit≤}
+use Rattle.std.proofs.Common.{◌≡◌, ◌⊎◌, inl, inr, ℕ, zero, suc, ◌+◌, ◌-◌, ◌*◌, ◌/◌, ◌^◌, ◌<◌, ◌≤◌, List, [], ◌∷◌, ◌++◌, length, map, take, drop, get_or, refl, sym, ◌∙◌, ap, ap₂, subst, arith, lit<, lit≤}
 use Rattle.std.specs.Prelude.{Bool, slice_index}
 use Rattle.std.proofs.Math.Nat.{pow-le-pow_right}
 use Rattle.std.proofs.lemmas.Bool.Decides.{eqb_tells}
-use Rattle.std.proofs.lemmas.List.{get_or-drop, get_or-take, length-append, length-drop, length-map, length-take, length-take-le, map-append, take-append-drop}
+use Rattle.std.proofs.lemmas.List.{drop-map, get_or-drop, get_or-take, length-append, length-drop, length-map, length-take, length-take-le, map-append, take-append-drop, take-map}
 use Rattle.std.proofs.lemmas.Nat.{pow-add, pow_pos}
 use native.Mathlib.Nat.{mod-eq_of_lt}
 use lib.Bits.{xor_zero_r}
@@ -22,63 +22,16 @@ use Rattle.sum_checks.specs.SumcheckClaims.{AreMessages, FalseClaimsNeedLuck, Is
 use Rattle.sum_checks.specs.Terms.{HaveFactors, cube_sum, table_value, terms_value}
 use Rattle.protocols.specs.OpenedTables.{AreColumnsOf, CommitsTo, OpenedValuesNeedLuck, ShowsTable}
 use Rattle.protocols.specs.RootColumns.{AreAccepted, HasSent, HaveOtherColumns, RootsHoldColumns, SentColumns, column_bytes}
+use Rattle.protocols.specs.SoundnessErrors.{sent_messages}
 use Rattle.protocols.specs.Tables.{AgreesAt}
 use Rattle.protocols.proofs.ProofBytes.{length-proof, proof-cons}
 use Rattle.protocols.proofs.TableOpenings.{opens-same, row-room}
 use Rattle.prove_sums.specs.Shapes.{columns_in, columns_size, depth_of, element_count, levels_of, messages_in, nodes_in, row_in, row_size, rows_of, sum_in}
 use Rattle.prove_sums.specs.ProofFiles.{file_bytes}
-use Rattle.prove_sums.specs.Soundness.{AcceptedFile, AcceptedProof, ElementsShowSum, FilesShowSums, HasPoints, HaveColumns, RootsShowSums, ShowsSum, SumsAreProved, SumsNeedLuck, sent_columns}
+use Rattle.prove_sums.specs.Soundness.{AcceptedFile, AcceptedProof, ElementsAreRun, ElementsShowSum, FilesShowSums, HasPoints, HaveColumns, RootsShowSums, ShowsSum, SumsAreProved, SumsNeedLuck, sent_columns}
 use Rattle.prove_sums.specs.Verdicts.{OpensTable, checks_number, gives_number, interleaved, observes_number, passes_number, product_terms, samples_bits, word_times, word_vector}
-use Rattle.prove_sums.proofs.SumSteps.{messages-length, product-within, rows-length}
-
--- ---- two tables as rows
-
-rows-fit : (bound : ℕ) → 0 < bound → (xs ys : List ℕ) → ((i : ℕ) → slice_index xs i < bound) → ((i : ℕ) → slice_index ys i < bound)
-    → (i : ℕ) → slice_index (interleaved xs ys) i < bound
-rows-fit bound some [] ys one other i = some
-rows-fit bound some (x ∷ xs) [] one other i = some
-rows-fit bound some (x ∷ xs) (y ∷ ys) one other zero = one 0
-rows-fit bound some (x ∷ xs) (y ∷ ys) one other (suc zero) = other 0
-rows-fit bound some (x ∷ xs) (y ∷ ys) one other (suc (suc i)) = rows-fit bound some xs ys (λ j. one (suc j)) (λ j. other (suc j)) i
-
-rows-at : (xs ys : List ℕ) → length ys ≡ length xs → (i : ℕ) → i < length xs
-    → (slice_index (interleaved xs ys) (i * 2 + 0) ≡ slice_index xs i) × (slice_index (interleaved xs ys) (i * 2 + 1) ≡ slice_index ys i)
-rows-at [] ys same i below = absurd (omega (arith, below))
-rows-at (x ∷ xs) [] same i below = absurd (omega (arith, same))
-rows-at (x ∷ xs) (y ∷ ys) same zero below = (refl, refl)
-rows-at (x ∷ xs) (y ∷ ys) same (suc i) below =
-    let first : suc i * 2 + 0 ≡ suc (suc (i * 2 + 0)) = omega arith in
-    let second : suc i * 2 + 1 ≡ suc (suc (i * 2 + 1)) = omega arith in
-    let before = rows-at xs ys (omega (arith, same)) i (omega (arith, below)) in
-    let at = slice_index (x ∷ y ∷ interleaved xs ys) in
-    (ap at first ∙ before.0, ap at second ∙ before.1)
-
-module _ (width : ℕ) (times : ℕ → ℕ → ℕ) (ring : IsRing width 1 times) where
-  -- the term at a row of two values
-  term-value : (row : ℕ → ℕ) → terms_value times product_terms row ≡ times (row 0) (row 1)
-  unfolding terms_value product_below
-  term-value row =
-      xor_zero_r (times 1 (times (times 1 (row 0)) (row 1)))
-      ∙ ring.one (times (times 1 (row 0)) (row 1)) ∙ mod-eq_of_lt (ring.below (times 1 (row 0)) (row 1))
-      ∙ ap (λ (v : ℕ). times v (row 1)) (ring.one (row 0)) ∙ mod-times width 1 times ring (row 0) (row 1)
-
-  -- .. of the values of both tables at a point
-  values-product : (xs ys point : List ℕ) → length xs ≡ 2 ^ length point → length ys ≡ length xs
-      → terms_value times product_terms (table_value times 2 (interleaved xs ys) point)
-      ≡ times (multilinear_value times xs point) (multilinear_value times ys point)
-  values-product xs ys point size same =
-      term-value (table_value times 2 (interleaved xs ys) point)
-      ∙ ap₂ times
-      (sum_below-same (λ i. times (slice_index (interleaved xs ys) (i * 2 + 0)) (eq_corner times point i))
-      (λ i. times (slice_index xs i) (eq_corner times point i)) (2 ^ length point)
-      (λ i below. ap (λ (v : ℕ). times v (eq_corner times point i)) (rows-at xs ys same i (subst (λ (m : ℕ). i < m) (sym size) below)).0))
-      (sum_below-same (λ i. times (slice_index (interleaved xs ys) (i * 2 + 1)) (eq_corner times point i))
-      (λ i. times (slice_index ys i) (eq_corner times point i)) (2 ^ length point)
-      (λ i below. ap (λ (v : ℕ). times v (eq_corner times point i)) (rows-at xs ys same i (subst (λ (m : ℕ). i < m) (sym size) below)).1))
-
-product-factors : HaveFactors 2 product_terms
-unfolding HaveFactors
-product-factors = (omega arith, tt)
+use Rattle.prove_sums.proofs.SumSteps.{messages-length}
+use Rattle.prove_sums.proofs.TwoTables.{tables-shape, values-product}
 
 -- ---- of columns
 
@@ -92,9 +45,6 @@ sums_need_luck false_claims opened width times vector wide field vectors fit k r
     some_width : 0 < width
     some_width = omega (arith, wide)
 
-    nodes : 3 ≤ 2 ^ width
-    nodes = let more : 2 ^ 2 ≤ 2 ^ width = pow-le-pow_right (lit< tt) wide in omega (arith, more)
-
     whole : (table : List ℕ) → length table ≡ 2 ^ length first * 2 ^ k → length table ≡ 2 ^ length (first ++ others)
     whole table size =
         size ∙ sym (ap (λ (m : ℕ). 2 ^ m) (length-append first others ∙ ap (λ (m : ℕ). length first + m) long) ∙ pow-add 2 (length first) k)
@@ -102,18 +52,8 @@ sums_need_luck false_claims opened width times vector wide field vectors fit k r
     shape : (one other : List ℕ) → CommitsTo width times vector k r e (2 ^ length first) left one
         → CommitsTo width times vector k r e (2 ^ length first) right other
         → IsClaimShape width times product_terms 2 2 (length (first ++ others)) (interleaved one other)
-    shape one other a b = record {
-      summed = record {
-        field = field;
-        wide = some_width;
-        nodes = nodes;
-        some = omega arith;
-        few = product-factors;
-        within = product-within;
-      };
-      size = rows-length one other (b.size ∙ sym a.size) ∙ ap (λ (m : ℕ). m * 2) (whole one a.size);
-      fits = rows-fit (2 ^ width) (pow_pos width) one other a.fits b.fits;
-    }
+    shape one other a b =
+        tables-shape width times wide field (length (first ++ others)) one other (whole one a.size) (b.size ∙ sym a.size) a.fits b.fits
 
     claimed : (one other : List ℕ) → CommitsTo width times vector k r e (2 ^ length first) left one
         → CommitsTo width times vector k r e (2 ^ length first) right other
@@ -153,6 +93,15 @@ messages-are repr width (suc n) range values long = (
   numbers-lt repr width range (take 2 values),
   let rest = length-drop 2 values in messages-are repr width n range (drop 2 values) (omega (arith, long, rest)),
 )
+
+-- a prover that sends messages whatever the challenges are sends these
+sent-always : (messages : List (List ℕ)) (point : List ℕ) → length messages ≡ length point
+    → sent_messages (λ past. get_or messages (length past) []) point ≡ messages
+unfolding sent_messages
+sent-always [] [] same = refl
+sent-always [] (r ∷ rs) same = absurd (omega (arith, same))
+sent-always (g ∷ gs) [] same = absurd (omega (arith, same))
+sent-always (g ∷ gs) (r ∷ rs) same = ap (λ (l : List (List ℕ)). g ∷ l) (sent-always gs rs (omega (arith, same)))
 
 -- the bytes of elements are those of their numbers
 number-bytes : {F : Type 0} (size : ℕ) (repr : F → ℕ) (xs : List F) → joined_bytes size repr xs ≡ joined_bytes size (λ (n : ℕ). n) (map repr xs)
@@ -296,6 +245,41 @@ module _ {C F : Type 0} (observes : C → F → C → Type 0) (gives : C → F �
           ap (reduced_claim width times (sum_in repr p.elements) (map (map repr) (messages_of 2 n (messages_in n p.elements)))) whole
           ∙ sym p.verdict.reduced.left ∙ (p.verdict.decided.0 refl).1
 
+  runs : (one other : ℕ → List ℕ) (p : Proof)
+      → ((k : ℕ) → k < length p.verdict.places
+      → map repr (row_at (2 ^ rows_of n) (columns_in n 0 p.elements) k) ≡ one (slice_index p.verdict.places k))
+      → ((k : ℕ) → k < length p.verdict.places
+      → map repr (row_at (2 ^ rows_of n) (columns_in n 1 p.elements) k) ≡ other (slice_index p.verdict.places k))
+      → ElementsAreRun repr width times vector n one other p.elements p.verdict.point p.verdict.places
+  runs one other p one_same other_same = record {
+    reduced =
+        ap (λ (l : List (List ℕ)). reduced_claim width times (sum_in repr p.elements) l (map repr p.verdict.point))
+        (sent-always messages (map repr p.verdict.point) same_length)
+        ∙ sym p.verdict.reduced.left ∙ (p.verdict.decided.0 refl).1
+        ∙ ap (λ (l : List ℕ). times (multilinear_value times (map repr (row_in n 0 p.elements)) l)
+        (multilinear_value times (map repr (row_in n 1 p.elements)) l)) (sym (drop-map repr (rows_of n) p.verdict.point));
+    left_agrees = at-first 0 left (opens-left p) one one_same;
+    right_agrees = at-first 1 right (opens-right p) other other_same;
+  }
+    where
+      messages : List (List ℕ)
+      messages = map (map repr) (messages_of 2 n (messages_in n p.elements))
+
+      same_length : length messages ≡ length (map repr p.verdict.point)
+      same_length =
+          length-map (messages_of 2 n (messages_in n p.elements)) (map repr) ∙ messages-length 2 n (messages_in n p.elements)
+          ∙ sym (length-map p.verdict.point repr ∙ p.verdict.reduced.challenge_count)
+
+      at-first : (which : ℕ) (root : List ℕ) → Opens which root p → (column : ℕ → List ℕ)
+          → ((k : ℕ) → k < length p.verdict.places
+          → map repr (row_at (2 ^ rows_of n) (columns_in n which p.elements) k) ≡ column (slice_index p.verdict.places k))
+          → AgreesAt width times vector (levels_of n) 2 (take (rows_of n) (map repr p.verdict.point)) (map repr (row_in n which p.elements))
+          p.verdict.places (λ k. column (slice_index p.verdict.places k))
+      at-first which root opens column same =
+          subst (λ (l : List ℕ). AgreesAt width times vector (levels_of n) 2 l (map repr (row_in n which p.elements)) p.verdict.places
+          (λ k. column (slice_index p.verdict.places k))) (sym (take-map repr (rows_of n) p.verdict.point))
+          (agreed which root p opens column same)
+
   module _ (count : ℕ) (proof : ℕ → Proof) where
     abbrev Held : ℕ → Type 0
     Held which = HaveColumns width (2 ^ 2 * 2 ^ levels_of n) count (λ i. sent which (proof i))
@@ -327,8 +311,10 @@ module _ {C F : Type 0} (observes : C → F → C → Type 0) (gives : C → F �
             inl (
               one,
               other,
-              λ a b a_fits b_fits a_has b_has i below.
-                  shows a b a_fits b_fits (proof i) (λ k inside. a_has i k below inside) (λ k inside. b_has i k below inside),
+              λ a b a_fits b_fits a_has b_has i below. (
+                shows a b a_fits b_fits (proof i) (λ k inside. a_has i k below inside) (λ k inside. b_has i k below inside),
+                runs a b (proof i) (λ k inside. a_has i k below inside) (λ k inside. b_has i k below inside),
+              ),
             )
 
 pub sums_are_proved : {C F : Type 0} (observes gives : C → F → C → Type 0) (passing : C → ℕ → ℕ → Bool) (checks : C → ℕ → ℕ → C → Type 0)

@@ -2,4 +2,5 @@ pub mod ProofFiles
 pub mod Reports
 pub mod Shapes
 pub mod Soundness
+pub mod SoundnessErrors
 pub mod Verdicts

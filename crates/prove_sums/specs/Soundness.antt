@@ -15,6 +15,7 @@ use Rattle.protocols.specs.Tables.{AgreesAt}
 use Rattle.prove_sums.specs.declared.tables.Table.{Table}
 use Rattle.prove_sums.specs.ProofFiles.{IsFileOf, file_bytes, number_in}
 use Rattle.prove_sums.specs.Shapes.{columns_in, depth_of, element_count, levels_of, messages_in, nodes_in, row_in, rows_of, sum_in}
+use Rattle.prove_sums.specs.SoundnessErrors.{IsAcceptedRun, sends_always}
 use Rattle.prove_sums.specs.Verdicts.{IsSumVerdict, VerifiesSum, interleaved, product_terms, word_times, word_vector}
 
 -- ---- of columns
@@ -88,12 +89,21 @@ ElementsShowSum repr width times vector n e one other elements point places =
     (map (map repr) (messages_of 2 n (messages_in n elements))) (map repr (take (rows_of n) point)) (map repr (drop (rows_of n) point))
     (map repr (row_in n 0 elements)) (map repr (row_in n 1 elements)) places
 
+-- with these columns it is a run of the interactive protocol that a verifier accepts, with the challenges and the places as those that it
+-- draws: so of all that it may draw, as few make a proof of a false sum accepted as runs are (`FewCheatsSucceed`, SoundnessErrors.antt)
+abbrev pub ElementsAreRun : {F : Type 0} → (F → ℕ) → ℕ → (ℕ → ℕ → ℕ) → (ℕ → ℕ) → ℕ → (ℕ → List ℕ) → (ℕ → List ℕ) → List F → List F
+    → List ℕ → Type 0
+ElementsAreRun repr width times vector n one other elements point places =
+    IsAcceptedRun width times vector n one other (sum_in repr elements)
+    (sends_always (map (map repr) (messages_of 2 n (messages_in n elements))) (map repr (row_in n 0 elements)) (map repr (row_in n 1 elements)))
+    (map repr point) places
+
 -- there is a function of columns of elements, over so many places, that has those of the openings
 abbrev pub HaveColumns : ℕ → ℕ → ℕ → (ℕ → SentColumns) → Type 0
 HaveColumns width size count sent = (column : ℕ → List ℕ) × AreColumnsOf width size column × HasSent count sent column
 
 -- What so many proofs show that open columns of two roots. There are functions of columns that have all that they open, and each proof shows
--- its sum of any such functions: so of the columns that a prover has committed to, whatever is opened of them. The functions are of all
+-- its sum of any such functions, and is a run with these: so of the columns that a prover has committed to, whatever is opened of them. The functions are of all
 -- proofs, so that what is lucky is the same for all, and so are the tables to which they commit (`TableIsOne` of `protocols`). Or two proofs
 -- open other columns at one place, and have a collision of the hash function.
 abbrev pub RootsShowSums : {F : Type 0} → (F → ℕ) → (List ℕ → List ℕ) → ℕ → ℕ → (ℕ → ℕ → ℕ) → (ℕ → ℕ) → ℕ → ℕ → List ℕ → List ℕ → ℕ
@@ -104,7 +114,9 @@ RootsShowSums repr hash size width times vector n e left right count elements no
     × ((one other : ℕ → List ℕ) → AreColumnsOf width (2 ^ 2 * 2 ^ levels_of n) one → AreColumnsOf width (2 ^ 2 * 2 ^ levels_of n) other
     → HasSent count (λ i. sent_columns repr n 0 (elements i) (nodes i) (places i)) one
     → HasSent count (λ i. sent_columns repr n 1 (elements i) (nodes i) (places i)) other
-    → (i : ℕ) → i < count → ElementsShowSum repr width times vector n e one other (elements i) (point i) (places i)))
+    → (i : ℕ) → i < count
+    → ElementsShowSum repr width times vector n e one other (elements i) (point i) (places i)
+    × ElementsAreRun repr width times vector n one other (elements i) (point i) (places i)))
     ⊎ HaveOtherColumns hash size (depth_of n) left count (λ i. sent_columns repr n 0 (elements i) (nodes i) (places i))
     ⊎ HaveOtherColumns hash size (depth_of n) right count (λ i. sent_columns repr n 1 (elements i) (nodes i) (places i))
 

@@ -38,8 +38,9 @@ each table, or at all places where there are fewer, and the nodes that open them
 32. The transcript begins with the bytes before the sum.
 
 A proof is about the nearest tables: where a few columns below a root are not those of its table, a proof may be accepted that is one of
-the table to which the others belong. What it shows rests on SHA-256, on challenges and places that SHA-256 draws in place of a verifier,
-and on how many columns are opened. No theorem says how seldom a false proof is accepted.
+the table to which the others belong. b bits of soundness: where a verifier draws challenges and places at random, it accepts a sum that
+is false with a chance of at most 2^-b, whatever the prover is, which is proved. 16 bits of work make each try at the places cost 2^16
+digests. That SHA-256 may draw in place of a verifier, and that it has no collisions, is assumed.
 
 The exit status is 0 if a proof was written or is accepted, 1 if it is refused, and 2 after an error. Without arguments the program
 prints a worked example. --version prints the version.";

@@ -1,5 +1,6 @@
 // Soundness of sums of products of two tables, for every prover, as contracts of functions that compute nothing.
 ghost use Rattle.prove_sums.specs.Soundness.{HasPoints, SumsAreProved, SumsNeedLuck, WordFilesShowSums};
+ghost use Rattle.prove_sums.specs.SoundnessErrors.{ErrorsAreSmall, FewCheatsSucceed};
 
 use field_element::Ghash128;
 use protocols::laws::{false_claims_need_luck, opened_values_need_luck, roots_hold_columns};
@@ -43,4 +44,18 @@ pub fn files_show_sums<H: ByteHasher32>()
     field_has_points::<Ghash128>();
     roots_hold_columns();
     sums_need_luck();
+}
+
+/// States the soundness error of the interactive protocol over every field, as a count: of all lists of challenges and places, at most the
+/// share max(2 n, h lucky) / F + (1 - (e + 1) / N)^q accepts a prover that cheats, whatever its columns, messages and rows are.
+pub fn few_cheats_succeed()
+    ensures { FewCheatsSucceed }
+{}
+
+/// States it in numbers over the field of GHASH: of all runs for two tables of 2^n words, at most the share
+/// max(2 n, 34 N h) / 2^128 + (163 / 256)^128 accepts a sum that is false, by N places and 2^h rows, and 2 n / 2^128 where n is below 6.
+pub fn errors_are_small()
+    ensures { ErrorsAreSmall }
+{
+    field_has_points::<Ghash128>();
 }

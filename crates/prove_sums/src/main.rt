@@ -14,6 +14,7 @@ mod proof_file;
 mod proving;
 mod refusal;
 mod reports;
+mod security;
 mod shapes;
 mod sums;
 mod tables;

@@ -1,0 +1,7 @@
+use Rattle.prove_sums.proofs.SoundBits.{errors_are_small}
+use Rattle.prove_sums.proofs.laws.errors_are_small.Goals as goal
+
+pub returns : goal.returns
+returns c =
+    let points = c.field_has_points.ensures in
+    errors_are_small points.field points.vectors points.fit

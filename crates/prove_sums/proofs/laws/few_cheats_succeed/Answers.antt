@@ -1,0 +1,5 @@
+use Rattle.prove_sums.proofs.SoundnessErrors.{few_cheats_succeed}
+use Rattle.prove_sums.proofs.laws.few_cheats_succeed.Goals as goal
+
+pub returns : goal.returns
+returns c = few_cheats_succeed
