@@ -1,0 +1,21 @@
+// The page: it loads the library, and starts its parts.
+import { load } from "./binary_field/binary_field.mjs";
+import { startAsk } from "./ask.mjs";
+import { startShards } from "./shards.mjs";
+import { startTransform } from "./transform.mjs";
+
+const state = document.querySelector("#state");
+const began = performance.now();
+
+try {
+  const bf = await load(new URL("binary_field/binary_field.wasm", import.meta.url));
+  startAsk(bf);
+  startShards(bf);
+  startTransform(bf);
+  state.textContent = `The library, version ${bf.version}, was loaded in ${Math.round(performance.now() - began)} milliseconds.`;
+  // What tests wait for.
+  document.documentElement.dataset.state = "ready";
+} catch (error) {
+  state.textContent = `The library was not loaded: ${error.message}`;
+  document.documentElement.dataset.state = "failed";
+}
