@@ -7,14 +7,17 @@ that of `rt`.
 """
 
 import os
+import pathlib
 import re
 import resource
 import shutil
 import subprocess
 import sys
 import textwrap
+import tempfile
 import time
 
+import compile_library
 import crates
 import files
 import forms
@@ -78,6 +81,25 @@ def prove(form, progress, kept):
     return status if status >= 0 else 1
 
 
+def compile_over(form):
+    """Compiles a form of which clang is told more than `rt lib` tells it, over the libraries that `rt lib` has just proved; the exit status."""
+    with tempfile.TemporaryDirectory() as checked:
+        kit = compile_library.kit_folder()
+        is_built = compile_library.build(kit, form, forms.archive(form), pathlib.Path(checked), lambda text: print(text, flush=True))
+    if is_built:
+        say(f"compiled for {form}")
+    return 0 if is_built else 1
+
+
+def prove_module(form, progress, kept):
+    """The same for a module, which is linked too."""
+    plain = next(it for it in forms.FLAGS if forms.is_module(it) and it not in forms.MORE_FOR_CLANG)
+    status = prove(plain, progress, kept)
+    if status == 0 and form != plain:
+        return compile_over(form)
+    return status or (0 if compile_library.link(compile_library.kit_folder(), forms.archive(form), say) else 1)
+
+
 def main():
     """Proves for all forms that are named."""
     log, *wanted = sys.argv[1:]
@@ -88,7 +110,7 @@ def main():
     began, progress, status = time.monotonic(), Progress(names, costs), 0
     with open(log, "w", encoding="utf-8") as kept:
         for form in wanted:
-            status = status or prove(form, progress, kept)
+            status = status or (prove_module if forms.is_module(form) else prove)(form, progress, kept)
             progress = Progress([forms.CRATE], costs)
     spent = resource.getrusage(resource.RUSAGE_CHILDREN)
     if status == 0:

@@ -1,0 +1,87 @@
+"""Compiles the crate of the C library over libraries that are there, by the kit's `rattle build`, and links modules of WebAssembly."""
+
+import os
+import pathlib
+import shlex
+import subprocess
+
+import crates
+import files
+import forms
+
+# What the last line of a proof says that took nothing from earlier checks, but for the kit's own logic, the libraries below, and the folder of
+# this run.
+TRUSTED = {"logic-built=trusted", "libraries-built=trusted", "statements=trusted", "incremental=trusted"}
+
+
+def rlib(name):
+    """Where a crate's library stands."""
+    return files.CRATES / name / "out/rlib" / f"{name}.rlib"
+
+
+def kit_folder():
+    """The folder of the kit: the page that `rt doc` names stands in it."""
+    named = os.environ.get("RT", "rt")
+    return pathlib.Path(subprocess.run([named, "doc"], capture_output=True, text=True, check=True).stdout.strip()).resolve().parent
+
+
+def below():
+    """The crates below the library's."""
+    return [it for it in crates.chain([forms.CRATE]) if it != forms.CRATE]
+
+
+def words_of(kit):
+    """What `rattle build` is told, whatever the form."""
+    known = crates.dependencies()
+    words = ["--crate-name", forms.CRATE, "src/lib.rt", "--crate-type", "staticlib", "--links", f"{forms.CRATE}="]
+    for name in ["std", *[it for it in known[forms.CRATE] if it not in known and it != "staticlib"]]:
+        words += ["--extern", f"{name}={kit}/rlibs/{name}.rlib"]
+    for name in known[forms.CRATE]:
+        words += ["--extern", f"{name}={rlib(name)}"] if name in known else []
+    for name in below():
+        words += ["-L", f"dependency={rlib(name).parent}"]
+    words += ["-L", f"dependency={kit}/rlibs", "--antt-project", f"{kit}/rattle/logic/antt-project.json", "--logic-built", f"{kit}/logic_built"]
+    return [*words, "--backend", "llvm", "--jobs", "1"]
+
+
+def toolchain(kit, form, folder):
+    """The kit's folder of compilers; for a form of which clang is told more, one in this folder whose clang is the kit's with these words."""
+    own = kit / "toolchain"
+    if form not in forms.MORE_FOR_CLANG:
+        return own
+    made = folder / f"toolchain-{form}"
+    (made / "bin").mkdir(parents=True, exist_ok=True)
+    for it in [*(own / "bin").iterdir(), own / "lib"]:
+        link = made / it.relative_to(own)
+        if it.name != "clang" and not link.is_symlink():
+            link.symlink_to(it)
+    clang = made / "bin/clang"
+    clang.write_text(f'#!/bin/sh\nexec {shlex.quote(str(own / "bin/clang"))} "$@" {shlex.join(forms.MORE_FOR_CLANG[form])}\n', encoding="utf-8")
+    clang.chmod(0o755)
+    return made
+
+
+def build(kit, form, archive, checked, says):
+    """Checks the crate and compiles it into the archive, and links the module; whether it is proved over the libraries that are there. What was
+    checked for one form is kept in the folder `checked` for the next."""
+    words = [*words_of(kit), "--toolchain", toolchain(kit, form, checked), "--incremental", checked / "incremental", *forms.FLAGS[form], "-o", archive]
+    ran = subprocess.run(list(map(str, [kit / "bin/rattle", "build", *words])), cwd=files.CRATES / forms.CRATE, stdin=subprocess.DEVNULL,
+                         stdout=subprocess.PIPE, stderr=subprocess.STDOUT, text=True, errors="replace", check=False)
+    verdict = next((it for it in reversed(ran.stdout.splitlines()) if it.startswith("logic=")), "")
+    said = {it for it in verdict.split() if it.endswith("=trusted")}
+    if ran.returncode or not verdict.startswith("logic=proved ") or said - TRUSTED:
+        says(ran.stdout[-3000:])
+        says(f"{forms.CRATE} is not proved and built over these libraries: {verdict or 'no verdict'}")
+        return False
+    says(f"{archive}: {verdict}")
+    return not forms.is_module(form) or link(kit, archive, says)
+
+
+def link(kit, archive, says):
+    """Links an archive for WebAssembly into a module, which stands beside it; whether that went well."""
+    module = archive.with_suffix(".wasm")
+    ran = subprocess.run([kit / "bin/rattle-link", *forms.WASM, "--toolchain", kit / "toolchain", "-o", module, archive], stdin=subprocess.DEVNULL,
+                         stdout=subprocess.PIPE, stderr=subprocess.STDOUT, text=True, errors="replace", check=False)
+    if ran.returncode:
+        says(f"{ran.stdout[-3000:]}{module} was not linked")
+    return ran.returncode == 0
