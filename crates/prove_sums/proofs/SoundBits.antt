@@ -18,7 +18,7 @@ use Rattle.protocols.specs.CodeDistances.{point_generator}
 use Rattle.protocols.proofs.CodeDistances.{quarter_rate_gap}
 use Rattle.protocols.proofs.OpenedTables.{code-distance}
 use Rattle.prove_sums.specs.Shapes.{block_bits, block_count, depth_of, levels_of, rows_of}
-use Rattle.prove_sums.specs.SoundnessErrors.{AreBits, AreSoundBits, Cheats, ErrorsAreSmall, Prover, accepted_runs}
+use Rattle.prove_sums.specs.SoundnessErrors.{AreMostBits, AreSoundBits, Cheats, ErrorsAreSmall, Prover, accepted_runs}
 use Rattle.prove_sums.specs.SoundnessErrors.{all_runs, error_parts, lucky_challenges, lucky_places, whole_parts}
 use Rattle.prove_sums.specs.SoundnessErrors.{wrong_columns}
 use Rattle.prove_sums.specs.Verdicts.{word_times, word_vector}
@@ -265,7 +265,7 @@ errors_are_small field vectors fit n few = pick (cases_lt (levels_of n) 6)
 
 -- ---- its bits
 
-pub sound-bits : ErrorsAreSmall → (n bits : ℕ) → n ≤ 39 → AreBits n bits → AreSoundBits n bits
+pub sound-bits : ErrorsAreSmall → (n bits : ℕ) → n ≤ 39 → AreMostBits n bits → AreSoundBits n bits
 sound-bits small n bits few are left right sum prover accepted cheats =
     joined (2 ^ bits) (accepted_runs 128 n accepted) (all_runs 128 n) (error_parts n) whole_parts (lit< tt) are.bound
     (small n few left right sum prover accepted cheats)
@@ -282,7 +282,7 @@ sound-bits small n bits few are left right sum prover accepted cheats =
     ]
 
 -- from 2 ^ 6 words on, where (163 / 256) ^ 128 is most of the error
-pub many-bits : (n : ℕ) → 6 ≤ n → n ≤ 39 → AreBits n 83
+pub many-bits : (n : ℕ) → 6 ≤ n → n ≤ 39 → AreMostBits n 83
 many-bits n enough few = record {
   bound = le_trans (mul-le-mul_left (2 ^ 83) top) (lit≤ tt);
   most = λ some. le_trans least (mul-le-mul_left (2 ^ 84) bottom);

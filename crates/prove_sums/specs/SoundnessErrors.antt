@@ -119,7 +119,7 @@ ErrorsAreSmall =
     → whole_parts * accepted_runs 128 n accepted ≤ error_parts n * all_runs 128 n
 
 -- The bits of soundness: the largest b with an error of at most 2 ^ -b, and 128 where there is none.
-pub record AreBits (n bits : ℕ) : Type 0 where
+pub record AreMostBits (n bits : ℕ) : Type 0 where
   pub bound : 2 ^ bits * error_parts n ≤ whole_parts
   pub most : 0 < error_parts n → whole_parts < 2 ^ suc bits * error_parts n
   pub none : error_parts n ≡ 0 → bits ≡ 128

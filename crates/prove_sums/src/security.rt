@@ -1,6 +1,6 @@
 // How sure an accepted proof is: the soundness error of the interactive protocol, in bits.
 ghost use Rattle.std.specs.Prelude.{◌≤◌};
-ghost use Rattle.prove_sums.specs.SoundnessErrors.{AreBits, AreSoundBits};
+ghost use Rattle.prove_sums.specs.SoundnessErrors.{AreMostBits, AreSoundBits};
 
 use crate::laws::errors_are_small;
 
@@ -9,7 +9,7 @@ use crate::laws::errors_are_small;
 /// comes on top.
 pub(crate) fn soundness_bits(rounds: usize) -> u8
     requires { rounds ≤ 39 }
-    ensures bits { AreBits rounds result }
+    ensures bits { AreMostBits rounds result }
     ensures sound { AreSoundBits rounds result }
 {
     errors_are_small();
@@ -20,7 +20,7 @@ pub(crate) fn soundness_bits(rounds: usize) -> u8
 // of places are, beside which challenges do not count.
 fn bits_of(rounds: usize) -> u8
     requires { rounds ≤ 39 }
-    ensures { AreBits rounds result }
+    ensures { AreMostBits rounds result }
 {
     match rounds {
         0 => 128,
