@@ -12,7 +12,7 @@ use Rattle.field_base.proofs.CarrylessProduct.{one_carryless, carryless_comm, ze
 use Rattle.field_base.proofs.FieldLemmas.{no_zero_divisors}
 use Rattle.field_base.proofs.RemainderLaws.{rem_small, rem_multiple, rem_lt, rem_sum, rem_carryless}
 use Rattle.field_base.proofs.RemainderRing.{mul_mod-rem, mul_mod_ring}
-use Rattle.any_field.specs.Irreducible.{IsIrreducible, HasNoProduct, IrreducibleGivesField, FieldNeedsIrreducible, IrreducibleByDegrees}
+use Rattle.any_field.specs.Irreducible.{IsIrreducible, IrreducibleGivesField, FieldNeedsIrreducible, IrreducibleByDegrees}
 use Rattle.any_field.proofs.Degrees.{IsCommon, common, degree-most, degree-nonzero, degree-some, degree-zero, degree-product, degree-unique}
 use Rattle.any_field.proofs.Products.{field-of}
 
@@ -80,27 +80,34 @@ factors width modulus g h degree is =
     right_nonzero : h ≢ 0
     right_nonzero none = degree-nonzero width modulus degree (sym is ∙ ap (carryless g) none ∙ carryless_zero g)
 
--- a polynomial of degree less than the width is an element
-pub degree-fits : (m width g : ℕ) → HasDegree m g → m < width → g < 2 ^ width
-degree-fits m width g degree less = lt_of_lt_of_le (degree-most m g degree) (pow_mono less)
-
-pub field_needs_irreducible : FieldNeedsIrreducible
-field_needs_irreducible width modulus wide degree field g h is =
+-- a polynomial is irreducible where it is no product of two of degree 1 or more, whose degrees add up to its own
+pub irreducible-by : (width modulus : ℕ) → HasDegree width modulus
+    → ((m n g h : ℕ) → 0 < m → 0 < n → m + n ≡ width → HasDegree m g → HasDegree n h → carryless g h ≡ modulus → ⊥) → IsIrreducible modulus
+irreducible-by width modulus degree none g h is =
     let parts = factors width modulus g h degree is in
     cases parts.0 parts.1 parts.2 parts.3 parts.4
   where
     cases : (m n : ℕ) → HasDegree m g → HasDegree n h → m + n ≡ width → (g ≡ 1) ⊎ (h ≡ 1)
     cases zero n left right sum = inl (degree-zero g left)
     cases (suc m) zero left right sum = inr (degree-zero h right)
-    cases (suc m) (suc n) left right sum =
-        let g_fits : g < 2 ^ width = degree-fits (suc m) width g left (omega arith) in
-        let h_fits : h < 2 ^ width = degree-fits (suc n) width h right (omega arith) in
-        elim (no_zero_divisors width (mul_mod width modulus) field.ring field.inverses g h g_fits h_fits
-        (mul_mod-rem width modulus degree g h g_fits h_fits ∙ ap (rem width modulus) (is ∙ sym (one_carryless modulus))
-        ∙ rem-multiple width modulus degree 1)) [
-          | inl e ↦ absurd (degree-nonzero (suc m) g left e)
-          | inr e ↦ absurd (degree-nonzero (suc n) h right e)
-        ]
+    cases (suc m) (suc n) left right sum = absurd (none (suc m) (suc n) g h (omega arith) (omega arith) sum left right is)
+
+-- a polynomial of degree less than the width is an element
+pub degree-fits : (m width g : ℕ) → HasDegree m g → m < width → g < 2 ^ width
+degree-fits m width g degree less = lt_of_lt_of_le (degree-most m g degree) (pow_mono less)
+
+pub field_needs_irreducible : FieldNeedsIrreducible
+field_needs_irreducible width modulus wide degree field =
+    irreducible-by width modulus degree
+    (λ m n g h m_some n_some sum left right is.
+    let g_fits : g < 2 ^ width = degree-fits m width g left (omega (arith, n_some, sum)) in
+    let h_fits : h < 2 ^ width = degree-fits n width h right (omega (arith, m_some, sum)) in
+    elim (no_zero_divisors width (mul_mod width modulus) field.ring field.inverses g h g_fits h_fits
+    (mul_mod-rem width modulus degree g h g_fits h_fits ∙ ap (rem width modulus) (is ∙ sym (one_carryless modulus))
+    ∙ rem-multiple width modulus degree 1)) [
+      | inl e ↦ absurd (degree-nonzero m g left e)
+      | inr e ↦ absurd (degree-nonzero n h right e)
+    ])
 
 pub irreducible_by_degrees : IrreducibleByDegrees
 irreducible_by_degrees width modulus degree = (
@@ -108,7 +115,7 @@ irreducible_by_degrees width modulus degree = (
     | inl e ↦ one m g m_some left e
     | inr e ↦ one n h n_some right e
   ]),
-  (λ none g h is. let parts = factors width modulus g h degree is in cases none g h is parts.0 parts.1 parts.2 parts.3),
+  (λ none. irreducible-by width modulus degree (λ m n g h m_some n_some sum left right is. none m n g h m_some n_some left right is)),
 )
   where
     one : (m g : ℕ) → 0 < m → HasDegree m g → g ≡ 1 → ⊥
@@ -116,8 +123,3 @@ irreducible_by_degrees width modulus degree = (
         let zero_degree : HasDegree 0 g = subst (HasDegree 0) (sym e) refl in
         let none : m ≡ 0 = degree-unique m 0 g left zero_degree in
         absurd (omega (arith, none))
-
-    cases : HasNoProduct modulus → (g h : ℕ) → carryless g h ≡ modulus → (m n : ℕ) → HasDegree m g → HasDegree n h → (g ≡ 1) ⊎ (h ≡ 1)
-    cases none g h is zero n left right = inl (degree-zero g left)
-    cases none g h is (suc m) zero left right = inr (degree-zero h right)
-    cases none g h is (suc m) (suc n) left right = absurd (none (suc m) (suc n) g h (omega arith) (omega arith) left right is)

@@ -19,7 +19,7 @@ use Rattle.field_base.proofs.RingLemmas.{xor_cancel}
 use Rattle.any_field.specs.Irreducible.{IsIrreducible, AreCoprime}
 use Rattle.any_field.specs.Rabin.{IsPrime, PassesRabin, RabinIsExact, CoprimeBySteps, InversesGiveField}
 use Rattle.any_field.proofs.Degrees.{degree-zero}
-use Rattle.any_field.proofs.IrreducibleFields.{irreducible_gives_field, factors}
+use Rattle.any_field.proofs.IrreducibleFields.{irreducible_gives_field, factors, irreducible-by}
 use Rattle.any_field.proofs.Products.{field-of}
 use Rattle.any_field.proofs.Tests.{rem-squarings, divisor-fails, some-moves, all-return, irreducible-coprime}
 
@@ -136,15 +136,10 @@ module _ (width modulus : ℕ) (wide : 0 < width) (degree : HasDegree width modu
           (carryless_assoc h p q ∙ ap (carryless h) product ∙ is))
 
   passes-irreducible : IsIrreducible modulus
-  passes-irreducible g h is =
-      let parts = factors width modulus g h degree is in
-      cases parts.0 parts.1 parts.2 parts.3 parts.4
-    where
-      cases : (m n : ℕ) → HasDegree m g → HasDegree n h → m + n ≡ width → (g ≡ 1) ⊎ (h ≡ 1)
-      cases zero n left right sum = inl (degree-zero g left)
-      cases (suc m) zero left right sum = inr (degree-zero h right)
-      cases (suc m) (suc n) left right sum =
-          absurd (no-factor (suc m) (suc m) g h (omega arith) (omega arith) (omega arith) left (carryless_comm h g ∙ is))
+  passes-irreducible =
+      irreducible-by width modulus degree
+      (λ m n g h m_some n_some sum left right is.
+      no-factor m m g h (omega arith) m_some (omega (arith, n_some, sum)) left (carryless_comm h g ∙ is))
 
 -- ---- an irreducible polynomial passes
 

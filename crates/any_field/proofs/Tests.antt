@@ -23,7 +23,7 @@ use Rattle.field_base.proofs.Polynomials.{IsPolynomial, polynomial-same, polynom
 use Rattle.any_field.specs.Irreducible.{IsIrreducible, AreCoprime, PassesBenOr, BenOrIsExact}
 use Rattle.any_field.proofs.Degrees.{common, degree-zero}
 use Rattle.any_field.proofs.Products.{repeated_square-zero}
-use Rattle.any_field.proofs.IrreducibleFields.{irreducible_gives_field, rem-multiple, common-one, factors}
+use Rattle.any_field.proofs.IrreducibleFields.{irreducible_gives_field, rem-multiple, common-one, factors, irreducible-by}
 
 -- ---- a polynomial that passes is irreducible
 
@@ -103,18 +103,13 @@ module _ (width modulus : ℕ) (wide : 0 < width) (degree : HasDegree width modu
           (carryless_assoc h p q ∙ ap (carryless h) product ∙ is))
 
   passes-irreducible : IsIrreducible modulus
-  passes-irreducible g h is =
-      let parts = factors width modulus g h degree is in
-      cases parts.0 parts.1 parts.2 parts.3 parts.4
-    where
-      cases : (m n : ℕ) → HasDegree m g → HasDegree n h → m + n ≡ width → (g ≡ 1) ⊎ (h ≡ 1)
-      cases zero n left right sum = inl (degree-zero g left)
-      cases (suc m) zero left right sum = inr (degree-zero h right)
-      cases (suc m) (suc n) left right sum =
-          elim (cases_lt (suc m) (suc n)) [
-            | inl less ↦ absurd (no-factor (suc m) (suc m) g h (omega arith) (omega arith) (omega arith) left (carryless_comm h g ∙ is))
-            | inr least ↦ absurd (no-factor (suc n) (suc n) h g (omega arith) (omega arith) (omega arith) right is)
-          ]
+  passes-irreducible =
+      irreducible-by width modulus degree
+      (λ m n g h m_some n_some sum left right is.
+      elim (cases_lt m n) [
+        | inl less ↦ no-factor m m g h (omega arith) m_some (omega (arith, less, sum)) left (carryless_comm h g ∙ is)
+        | inr least ↦ no-factor n n h g (omega arith) n_some (omega (arith, least, sum)) right is
+      ])
 
 -- ---- an irreducible polynomial passes
 
