@@ -76,7 +76,7 @@ show("of powers of x", bool((bf.transform(bf.from_powers(powers)) == F.evaluate(
 show("GHASH", bf.gcm_ghash(bytes.fromhex("66e94bd4ef8a2c3b884cfa59ca342b2e"), b"", bytes.fromhex("0388dace60b6a392f328c2b971b2fe78")).hex())
 
 # %% Reed-Solomon codes: any four of six shards are enough.
-code = bf.ReedSolomon(4, 2)
+code = bf.ReedSolomon(data=4, parity=2)
 shards = code.encode([b"any ", b"four", b" are", b" it."])
 lost = [None, shards[1], None, shards[3], shards[4], shards[5]]
 show("restored", code.reconstruct_data(lost).tobytes().decode())

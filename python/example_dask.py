@@ -2,7 +2,8 @@
 
 PYTHONPATH=python BINARY_FIELD_LIBRARY=FOLDER/lib python3 python/example_dask.py [BYTES]
 
-Each process reads a piece of all rows, encodes it, and writes its shards' pieces, so that no array passes between processes. Where dask's
+BYTES is the size of the file, by default 192 MiB less one byte. It is at least 96 MiB, as a process may take half of it, and needs some
+40 MiB beside what it has at the beginning. Each process reads a piece of all rows, encodes it, and writes its shards' pieces, so that no array passes between processes. Where dask's
 workers are on several machines, the folder has to be on a disk that all of them see.
 """
 
@@ -24,7 +25,7 @@ import binary_field as bf
 da: Any = importlib.import_module("dask.array")
 distributed: Any = importlib.import_module("distributed")
 
-CODE = bf.ReedSolomon(4, 2)
+CODE = bf.ReedSolomon(data=4, parity=2)
 LOST = (0, 3)
 PIECE = 1 << 20
 NOTHING: Any = np.empty((0, 0), np.uint8)

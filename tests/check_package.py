@@ -266,8 +266,9 @@ class Maps(unittest.TestCase):
         for count in (0, 3, -4, 2.0, "4", None):
             self.assertRaises(ValueError, bf.transform_points, count)
         for wrong in (bf.Ghash128.random(0), bf.Ghash128.random(3), bf.Ghash128.random((2, 3)), bf.Ghash128(1)):
-            self.assertRaises(ValueError, bf.transform, wrong)
-            self.assertRaises(ValueError, bf.inverse_transform, wrong)
+            for function in (bf.transform, bf.inverse_transform):
+                with self.assertRaisesRegex(ValueError, r"takes 2\*\*m elements along the last axis, m from 0 to 40, and not [03]$"):
+                    function(wrong)
 
     def test_rows(self):
         for field in (bf.Ghash128, bf.BinaryField16, bf.BinaryField128):
@@ -425,6 +426,10 @@ class Bytes(unittest.TestCase):
             self.assertRaises(ValueError, bf.Ghash(key).gcm_digest, 0, wrong)
         self.assertTrue(bf.tags_are_equal(b"tag", b"tag"))
         self.assertFalse(bf.tags_are_equal(b"tag", b"tags"))
+        for call in (bf.ghash, bf.polyval, lambda key, it: bf.gcm_ghash(key, it, it), bf.Ghash, bf.Polyval):
+            with self.assertRaisesRegex(ValueError, "^a key has 16 bytes, and this one has 5$"):
+                call(b"short", b"")
+        self.assertRaises(TypeError, bf.ghash, "text", b"")
 
     def test_lines(self):
         for line, answer in definitions.worked_lines.rows():
@@ -433,8 +438,6 @@ class Bytes(unittest.TestCase):
         for wrong in (None, 5, ["t8 mul 10 10"]):
             with self.assertRaises(TypeError):
                 bf.answer(wrong)
-        self.assertRaises(ValueError, bf.ghash, b"short", b"")
-        self.assertRaises(TypeError, bf.ghash, "text", b"")
 
     def hash_in_pieces(self, key, message, piece):
         """Hashes of a message in pieces, of its beginning by a copy, and of GCM."""
@@ -455,7 +458,7 @@ class Bytes(unittest.TestCase):
         self.assertEqual(both.gcm_digest(3, len(message)), bf.gcm_ghash(key, key[:3], message))
 
     def test_codes(self):
-        code = bf.ReedSolomon(4, 2)
+        code = bf.ReedSolomon(data=4, parity=2)
         content = random.Random(49).randbytes(36)
         data = np.frombuffer(content, np.uint8).reshape(4, 9)
         shards = code.encode(data)
@@ -492,9 +495,12 @@ class Bytes(unittest.TestCase):
         self.assertRaises(ValueError, code.encode, np.zeros((3, 9), np.uint8))
         self.assertRaises(ValueError, code.encode, np.zeros((4, 0), np.uint8))
         for data, parity in ((0, 1), (1, 0), (200, 57), (-1, 3)):
-            self.assertRaises(ValueError, bf.ReedSolomon, data, parity)
+            self.assertRaises(ValueError, bf.ReedSolomon, data=data, parity=parity)
         for data, parity in ((2.0, 3), (2, "3"), (None, 1)):
-            self.assertRaises(TypeError, bf.ReedSolomon, data, parity)
+            self.assertRaises(TypeError, bf.ReedSolomon, data=data, parity=parity)
+        # Two numbers alone could be those of all shards and of the data.
+        self.assertRaises(TypeError, bf.ReedSolomon, 15, 9)
+        self.assertRaises(TypeError, bf.TransformCode, 15, 9)
         # Elements of fields of bytes are bytes.
         rows = bf.Rijndael8b.from_words(shards)
         self.assertTrue((code.encode(rows[:4]) == shards).all() and code.verify(rows.T.copy().T))
@@ -522,13 +528,13 @@ class Bytes(unittest.TestCase):
             self.assertRaises(ValueError, code.reconstruct_in_place, given, flags)
 
     def test_transform_codes(self):
-        code = bf.TransformCode(5, 3)
+        code = bf.TransformCode(data=5, parity=3)
         words = np.frombuffer(random.Random(50).randbytes(5 * 14), "<u2").reshape(5, 7)
         data = words.view(np.uint8)
         shards = code.encode(data)
         self.assertEqual(shards[:5].tobytes(), data.tobytes())
         self.assertEqual(shards[5:].view("<u2").ravel().tolist(), definitions.transform_parity(5, 3, words.ravel().tolist()))
-        self.assertEqual((code.data, code.parity, repr(code)), (5, 3, "TransformCode(5, 3)"))
+        self.assertEqual((code.data, code.parity, repr(code)), (5, 3, "TransformCode(data=5, parity=3)"))
         self.assertTrue(code.verify(shards) and code.verify([it.tobytes() for it in shards]))
         damaged = [None if it in (0, 4, 6) else row.tobytes() for it, row in enumerate(shards)]
         self.assertTrue((code.reconstruct(damaged) == shards).all())
@@ -543,9 +549,9 @@ class Bytes(unittest.TestCase):
         for given in (np.zeros((4, 8), np.uint8), np.zeros((5, 0), np.uint8), np.zeros((5, 3), np.uint8)):
             self.assertRaises(ValueError, code.encode, given)
         for counts in ((0, 1), (1, 0), (-1, 3), (32769, 1), (1, 65536), (1 << 64, 1)):
-            self.assertRaises(ValueError, bf.TransformCode, *counts)
-        self.assertRaises(TypeError, bf.TransformCode, 2.0, 3)
-        many = bf.TransformCode(3000, 1000)
+            self.assertRaises(ValueError, bf.TransformCode, data=counts[0], parity=counts[1])
+        self.assertRaises(TypeError, bf.TransformCode, data=2.0, parity=3)
+        many = bf.TransformCode(data=3000, parity=1000)
         shards = many.encode(np.frombuffer(random.Random(51).randbytes(6000), np.uint8).reshape(3000, 2))
         self.assertTrue((many.reconstruct([None] * 1000 + list(shards[1000:])) == shards).all())
 

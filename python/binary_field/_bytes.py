@@ -27,10 +27,18 @@ def _buffer(value: Any) -> Words:
     return buffer
 
 
-def _hash(name: str, *given: Any) -> bytes:
+def _key(value: Any) -> Words:
+    """The bytes of a key."""
+    key = _bytes(value)
+    if key.size != 16:
+        raise ValueError(f"a key has 16 bytes, and this one has {key.size}")
+    return key
+
+
+def _hash(name: str, key: Any, *given: Any) -> bytes:
     """The hash that a function writes."""
     result = np.zeros(16, np.uint8)
-    call(name, *map(_bytes, given), result)
+    call(name, _key(key), *map(_bytes, given), result)
     return result.tobytes()
 
 
@@ -72,7 +80,7 @@ class _Pieces:
 
     def __init__(self, key: Any, message: Any = b"") -> None:
         self._state = np.zeros((), WORDS[f"{self.name}_state"])
-        call(f"tag_{self.name}_init", self._state, _bytes(key))
+        call(f"tag_{self.name}_init", self._state, _key(key))
         self.update(message)
 
     def update(self, message: Any) -> None:
@@ -203,12 +211,12 @@ class _Code:
         return self._parity
 
     def __repr__(self) -> str:
-        return f"{type(self).__name__}({self.data}, {self.parity})"
+        return f"{type(self).__name__}(data={self.data}, parity={self.parity})"
 
     def verify(self, shards: Any) -> bool:
         """Whether the shards of parity are those of the data.
 
-        >>> for code in bf.ReedSolomon(2, 1), bf.TransformCode(2, 1):
+        >>> for code in bf.ReedSolomon(data=2, parity=1), bf.TransformCode(data=2, parity=1):
         ...     shards = code.encode([b"ab", b"cd"])
         ...     shards[0, 0] += 1
         ...     code.verify(shards)
@@ -258,21 +266,21 @@ class _Code:
 class ReedSolomon(_Code):
     """A code that restores losses, of shards that are known to be missing, and corrects no errors.
 
-    It has so many shards of data and of parity, at most 256 in all, over bytes modulo x^8 + x^4 + x^3 + x^2 + 1. Shards are the rows of an
+    It has so many shards of data and of parity, which are told by these names, at most 256 in all, over bytes modulo x^8 + x^4 + x^3 + x^2 + 1. Shards are the rows of an
     array of bytes, or of elements that are bytes, those of data first. Wrong bytes in at most as many shards as there are of parity are found
     by `verify`, and not corrected. The parity is that of klauspost/reedsolomon, and not of other libraries: the last example has 1569 by zfec. The tables of the code are made at the
     first call that uses them, and kept: 32 bytes for each pair of a shard of data and one of parity, where those of parity are counted up to
     a multiple of four.
 
-    >>> code = bf.ReedSolomon(2, 1)
+    >>> code = bf.ReedSolomon(data=2, parity=1)
     >>> shards = code.encode([b"two ", b"rows"])
     >>> code.reconstruct_data([None, shards[1], shards[2]]).tobytes()
     b'two rows'
-    >>> bf.ReedSolomon(3, 2).encode([bytes([1]), bytes([2]), bytes([3])])[3:].tobytes().hex()
+    >>> bf.ReedSolomon(data=3, parity=2).encode([bytes([1]), bytes([2]), bytes([3])])[3:].tobytes().hex()
     '0015'
     """
 
-    def __init__(self, data: int, parity: int) -> None:
+    def __init__(self, *, data: int, parity: int) -> None:
         data, parity = operator.index(data), operator.index(parity)
         if not (data >= 1 and parity >= 1 and data + parity <= 256):
             raise ValueError("invalid shard counts: at least one of data and one of parity, and at most 256 in all")
@@ -293,7 +301,7 @@ class ReedSolomon(_Code):
     def encode(self, data: Any) -> Words:
         """All shards: those of data, and behind them those of parity.
 
-        >>> bf.ReedSolomon(2, 1).encode([b"ab", b"cd"]).tobytes()
+        >>> bf.ReedSolomon(data=2, parity=1).encode([b"ab", b"cd"]).tobytes()
         b'abcden'
         """
         shards = self._with_room(data)
@@ -304,7 +312,7 @@ class ReedSolomon(_Code):
         """The shards of parity of shards of data that are buffers of their own, none of which is copied: the rows of an array, or `out`, a
         buffer for each of them that is written.
 
-        >>> code = bf.ReedSolomon(2, 1)
+        >>> code = bf.ReedSolomon(data=2, parity=1)
         >>> code.parity_of([b"ab", bytearray(b"cd")]).tobytes() == code.encode([b"ab", b"cd"])[2].tobytes()
         True
         """
@@ -327,7 +335,7 @@ class ReedSolomon(_Code):
         """Adds to `sums` what a shard of data is in a shard of parity, both counted from 0. Once each shard of data was added to zeros, in any
         order, `sums` is that shard of parity.
 
-        >>> code, sums = bf.ReedSolomon(2, 1), bytearray(2)
+        >>> code, sums = bf.ReedSolomon(data=2, parity=1), bytearray(2)
         >>> code.add_shard(0, 0, b"ab", sums)
         >>> code.add_shard(1, 0, b"cd", sums)
         >>> bytes(sums) == code.encode([b"ab", b"cd"])[2].tobytes()
@@ -340,7 +348,7 @@ class ReedSolomon(_Code):
         """Writes the missing shards of shards that are buffers of their own, none of which is copied. A shard is missing where `present`
         has False; where it is None it is left out, as those of parity may be.
 
-        >>> code, lost = bf.ReedSolomon(2, 1), bytearray(2)
+        >>> code, lost = bf.ReedSolomon(data=2, parity=1), bytearray(2)
         >>> code.reconstruct_in_place([b"ab", lost, code.encode([b"ab", b"cd"])[2]], [True, False, True])
         >>> bytes(lost)
         b'cd'
@@ -367,8 +375,8 @@ class ReedSolomon(_Code):
     def reconstruct(self, shards: Sequence[Any] | Words, present: Sequence[bool] | None = None) -> Words:
         """All shards, the missing ones restored. A shard is missing where it is None, and where `present` has False.
 
-        >>> shards = bf.ReedSolomon(2, 1).encode([b"ab", b"cd"])
-        >>> bf.ReedSolomon(2, 1).reconstruct([shards[0], b"??", shards[2]], [True, False, True]).tobytes() == shards.tobytes()
+        >>> shards = bf.ReedSolomon(data=2, parity=1).encode([b"ab", b"cd"])
+        >>> bf.ReedSolomon(data=2, parity=1).reconstruct([shards[0], b"??", shards[2]], [True, False, True]).tobytes() == shards.tobytes()
         True
         """
         return self._restored("rs_reconstruct", shards, present)
@@ -376,8 +384,8 @@ class ReedSolomon(_Code):
     def reconstruct_data(self, shards: Sequence[Any] | Words, present: Sequence[bool] | None = None) -> Words:
         """The shards of data, the missing ones restored.
 
-        >>> shards = bf.ReedSolomon(2, 1).encode([b"ab", b"cd"])
-        >>> bf.ReedSolomon(2, 1).reconstruct_data([None, *shards[1:]]).tobytes()
+        >>> shards = bf.ReedSolomon(data=2, parity=1).encode([b"ab", b"cd"])
+        >>> bf.ReedSolomon(data=2, parity=1).reconstruct_data([None, *shards[1:]]).tobytes()
         b'abcd'
         """
         return self._restored("rs_reconstruct_data", shards, present)[: self.data]
@@ -395,13 +403,13 @@ class TransformCode(_Code):
     of an array of bytes, those of data first; each has an even number of bytes, of which two are an element, the low one first. The parity is
     not that of `ReedSolomon`.
 
-    >>> code = bf.TransformCode(1000, 500)
+    >>> code = bf.TransformCode(data=1000, parity=500)
     >>> shards = code.encode([f"row {it:4}".encode() for it in range(1000)])
     >>> code.reconstruct([None] * 500 + list(shards[500:]))[7].tobytes()
     b'row    7'
     """
 
-    def __init__(self, data: int, parity: int) -> None:
+    def __init__(self, *, data: int, parity: int) -> None:
         data, parity = operator.index(data), operator.index(parity)
         if not (data >= 1 and parity >= 1 and (1 << (data - 1).bit_length()) + parity <= 1 << 16):
             raise ValueError(
@@ -412,7 +420,7 @@ class TransformCode(_Code):
     def encode(self, data: Any) -> Words:
         """All shards: those of data, and behind them those of parity.
 
-        >>> bf.TransformCode(2, 1).encode([b"ab", b"cd"])[:2].tobytes()
+        >>> bf.TransformCode(data=2, parity=1).encode([b"ab", b"cd"])[:2].tobytes()
         b'abcd'
         """
         shards = self._with_room(data)
@@ -425,8 +433,8 @@ class TransformCode(_Code):
     def reconstruct(self, shards: Sequence[Any] | Words, present: Sequence[bool] | None = None) -> Words:
         """All shards, the missing ones restored. A shard is missing where it is None, and where `present` has False.
 
-        >>> shards = bf.TransformCode(2, 1).encode([b"ab", b"cd"])
-        >>> bf.TransformCode(2, 1).reconstruct([shards[0], b"??", shards[2]], [True, False, True]).tobytes() == shards.tobytes()
+        >>> shards = bf.TransformCode(data=2, parity=1).encode([b"ab", b"cd"])
+        >>> bf.TransformCode(data=2, parity=1).reconstruct([shards[0], b"??", shards[2]], [True, False, True]).tobytes() == shards.tobytes()
         True
         """
         all_shards, flags = self._with_flags(shards, present)

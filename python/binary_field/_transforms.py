@@ -6,7 +6,7 @@ coefficients of the powers of x, and `to_powers` goes back. Point p is the shift
 """
 
 import math
-from typing import Any
+from typing import Any, TypeVar, overload
 
 import numpy as np
 
@@ -17,6 +17,7 @@ from ._workers import at_each, set_workers
 
 # The levels of the tower over which there is a transform.
 _LEVELS = (BinaryField16, BinaryField32, BinaryField64, BinaryField128)
+L = TypeVar("L", BinaryField16, BinaryField32, BinaryField64, BinaryField128)
 
 
 def _vector(values: Any, field: type[A]) -> A:
@@ -31,12 +32,21 @@ def _transformed(function: str, values: Any, shift: Any, workers: int | None) ->
     """What a transform makes of an array along its last axis, over its field where that is a level, and else over Ghash128."""
     field: Any = type(values) if isinstance(values, _LEVELS) else Ghash128
     result, scalar = field._operand(values).copy(), field._operand(shift)._scalar()
-    if not result.ndim:
-        raise ValueError("expected an array of one dimension at least")
+    count, most = result.shape[-1] if result.ndim else 0, min(40, field.degree)
+    if count < 1 or count & count - 1 or count > 1 << most:
+        raise ValueError(f"a transform over {field.__name__} takes 2**m elements along the last axis, m from 0 to {most}, and not {count}")
     rows = result._words.reshape(math.prod(result.shape[:-1]), result.shape[-1])
     with set_workers(workers):
         at_each(lambda row: call(f"{field._name}_{function}", row, scalar), list(rows))
     return result
+
+
+@overload
+def transform(coefficients: L, shift: Any = 0, workers: int | None = None) -> L: ...
+
+
+@overload
+def transform(coefficients: Any, shift: Any = 0, workers: int | None = None) -> Ghash128: ...
 
 
 def transform(coefficients: Any, shift: Any = 0, workers: int | None = None) -> Any:
@@ -54,6 +64,14 @@ def transform(coefficients: Any, shift: Any = 0, workers: int | None = None) -> 
     return _transformed("transform", coefficients, shift, workers)
 
 
+@overload
+def inverse_transform(values: L, shift: Any = 0, workers: int | None = None) -> L: ...
+
+
+@overload
+def inverse_transform(values: Any, shift: Any = 0, workers: int | None = None) -> Ghash128: ...
+
+
 def inverse_transform(values: Any, shift: Any = 0, workers: int | None = None) -> Any:
     """The coefficients, as `transform` takes them, of the polynomial that has these values at the 2**m points. `to_powers` makes the
     coefficients of the powers of x of them. An array of more dimensions goes as in `transform`.
@@ -62,6 +80,14 @@ def inverse_transform(values: Any, shift: Any = 0, workers: int | None = None) -
     Ghash128([0x1, 0x2, 0x3, 0x4])
     """
     return _transformed("inverse_transform", values, shift, workers)
+
+
+@overload
+def transform_points(count: int, shift: L) -> L: ...
+
+
+@overload
+def transform_points(count: int, shift: Any = 0) -> Ghash128: ...
 
 
 def transform_points(count: int, shift: Any = 0) -> Any:
@@ -182,10 +208,12 @@ def low_stages(values: Any, shifts: Any, basis: Any, first_run: int = 0) -> Ghas
     >>> bf.low_stages([0] * 8 + [1] + [0] * 7, [2, 3, 4, 5], [6, 7, 8])[[0, 8]]
     Ghash128([0x5, 0x4])
     """
-    result = _vector(values, Ghash128)
+    result, factors = _vector(values, Ghash128), _vector(shifts, Ghash128)
     if not 0 <= first_run < 1 << 64:
         raise ValueError("first_run must be from 0 to 2**64 - 1")
-    call("g128_low_stages", result._words, Ghash128._operand(shifts)._words, Ghash128._operand(basis)._words, first_run)
+    if result.size % 16 or factors.size != 4:
+        raise ValueError(f"expected runs of sixteen values and four shifts, and not {result.size} and {factors.size}")
+    call("g128_low_stages", result._words, factors._words, Ghash128._operand(basis)._words, first_run)
     return result
 
 
@@ -197,6 +225,8 @@ def linear_map(values: Any, images: A, workers: int | None = None) -> A:
     """
     if not isinstance(images, FieldArray) or images._name not in ("r8", "g128"):
         raise TypeError("images must be an array of Rijndael8b or Ghash128")
+    if images.shape != (images.degree,):
+        raise ValueError(f"a linear map over {type(images).__name__} has {images.degree} images, and not an array of the shape {images.shape}")
     values = images._operand(values)
     result = images.zeros(values.shape)
     with set_workers(workers):
