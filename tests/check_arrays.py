@@ -10,6 +10,7 @@ import doctest
 import io
 import operator
 import pickle
+import random
 import tempfile
 import tracemalloc
 import unittest
@@ -61,7 +62,8 @@ class Plain:
         return self._of(other, self._quotient, True)
 
     def __pow__(self, exponent):
-        return Plain(self.field, self.field.power(self.number, exponent))
+        base = self.number if exponent >= 0 else self._quotient(1, self.number)
+        return Plain(self.field, self.field.power(base, abs(exponent)))
 
     def __neg__(self):
         return self
@@ -230,6 +232,14 @@ CHANGES = [changed(it) for it in [
     lambda o, n: n.fill(o.w[1]), lambda o, n: n.T[0].fill(1), lambda o, n: np.full_like(n, o.w[1]), lambda o, n: operator.ipow(n, np.array([1, 2, 3])),
     lambda o, n: n.diagonal().__setitem__(0, o.w[0]), lambda o, n: np.broadcast_to(n, (2, 4, 3)).__setitem__(0, n),
 ]]
+
+
+def swap(a, first, second):
+    a[first], a[second] = a[second], a[first]
+
+
+def turn(a):
+    a[0], a[1], a[2] = a[1], a[2], a[0]
 
 
 class AsNumpy(unittest.TestCase):
@@ -446,9 +456,9 @@ class Elements(unittest.TestCase):
                 lambda: field.evaluate(a, b), lambda: a.add_scaled(1, b), lambda: np.concatenate([a, [2]]), lambda: np.append(a, 2), lambda: np.where([True], a, 2),
                 lambda: a + [0, 1, 2], lambda: [2, 0, 0] @ a, lambda: np.array([2, 0, 0]) @ a, lambda: a.dot([2, 0, 0]), lambda: a + None,
                 lambda: a + "1", lambda: a + 1.0, lambda: a * np.ones(3), lambda: a**a, lambda: 2**a, lambda: np.float64(1) * a,
-                lambda: np.sum(a, dtype=int), lambda: np.add(a, a, dtype=int), lambda: np.insert(a, 0, 1), lambda: np.mean(a), lambda: np.sort(a),
+                lambda: np.sum(a, dtype=int), lambda: np.add(a, a, dtype=int), lambda: np.insert(a, 0, 1), lambda: np.mean(a), lambda: np.fft.ifft(a),
                 lambda: np.linalg.eig(a), lambda: np.maximum(a, a), lambda: np.subtract.reduce(a), lambda: np.add.reduceat(a, [0]),
-                lambda: np.einsum("i,i", a, a), lambda: np.bitwise_xor(a, a), lambda: np.tile(np.array([1]), a),
+                lambda: np.einsum("i,i", a, b), lambda: np.bitwise_xor(a, a), lambda: np.tile(np.array([1]), a),
                 lambda: np.add.at(np.zeros(3), [0], a), lambda: iter(a[0]),
             ):
                 self.assertRaises(TypeError, mixed)
@@ -490,6 +500,190 @@ class Elements(unittest.TestCase):
         with self.assertRaisesRegex(TypeError, r"^matrix_rank\(\)"):
             np.linalg.matrix_rank(a.reshape(1, 2), tol=1)
 
+    def test_rows_that_trade_places(self):
+        # Rows are views: what writes one after the other loses one, which is refused, and leaves all as it was.
+        for field in FIELDS.values():
+            a = field.random((6, 2), seed=64)
+            a[:, 0] = [1, 0, 1, 0, 1, 0]
+            whole = a.tolist()
+            for trade in (
+                np.random.default_rng(1).shuffle, np.random.RandomState(1).shuffle, random.Random(1).shuffle, lambda it: swap(it, 0, 1),
+                lambda it: swap(it, (slice(None), 0), (slice(None), 1)), lambda it: swap(it, slice(0, 3), slice(3, 6)), turn,
+            ):
+                with warnings.catch_warnings():
+                    warnings.simplefilter("ignore", UserWarning)
+                    with self.assertRaisesRegex(TypeError, "^rows are views"):
+                        trade(a)
+                self.assertEqual(a.tolist(), whole)
+            # Each place is that of another one, elements are copies, and a view shows what is there now.
+            a[[0, 1]] = a[[1, 0]]
+            self.assertEqual(a.tolist(), [whole[1], whole[0], *whole[2:]])
+            a[0, 0], a[1, 0] = a[1, 0], a[0, 0]
+            self.assertEqual(a[:2, 0].tolist(), [1, 0])
+            for at in range(5, 0, -1):
+                a[at] = a[at - 1]
+            self.assertEqual(a[1:, 0].tolist(), [1, 0, 1, 0, 1])
+            row = a[0]
+            a[0] = 1
+            a[1] = row
+            self.assertEqual(a[1].tolist(), [1, 1])
+            first, second = a[2], a[3]
+            a[2] = second
+            self.assertEqual(first.tolist(), a[3].tolist())
+
+    def test_shuffles(self):
+        for field in FIELDS.values():
+            a, numbers = field.random((5, 3), seed=65), np.arange(15).reshape(5, 3)
+            for axis in (0, 1, -1):
+                b, moved = a.copy(), numbers.copy()
+                field.shuffle(b, np.random.default_rng(2), axis)
+                np.random.default_rng(2).shuffle(moved, axis)
+                self.assertTrue((b == a.ravel()[moved]).all())
+                self.assertTrue((a.permuted(3, axis) == a.ravel()[np.random.default_rng(3).permuted(numbers, axis=axis)]).all())
+            self.assertTrue((a.permuted(3) == a.ravel()[np.random.default_rng(3).permuted(numbers)]).all())
+            draw = np.random.default_rng(4)
+            self.assertEqual(sorted(int(it) for it in np.ravel(draw.permutation(a))), sorted(a.ravel().tolist()))
+
+    def test_draws(self):
+        for field in FIELDS.values():
+            self.assertTrue((field.Random(50, seed=5) == field.random(50, 5)).all())
+            self.assertTrue((field.Random((9, 9), 1, None, 6) != 0).all() and (field.random(9, low=1, high=2) == 1).all())
+            top = field.order
+            drawn = field.random(200, 7, low=top - 2).tolist()
+            self.assertEqual(set(drawn), {top - 2, top - 1})
+            for low, high in ((0, 0), (1, 1), (-1, 1), (0, top + 1), (top, None)):
+                self.assertRaises(ValueError, field.random, 3, low=low, high=high)
+
+    def test_names_of_galois(self):
+        for field in FIELDS.values():
+            made = [field.Zeros(2), field.Ones(2), field.Range(2), field.Range(0, 2, 1), field.range(1, 2), field.Identity(2), field.identity(2)]
+            self.assertEqual([it.tolist() for it in made], [[0, 0], [1, 1], [0, 1], [0, 1], [1], [[1, 0], [0, 1]], [[1, 0], [0, 1]]])
+            a = field.random((2, 3), seed=66)
+            for order, digits in (("desc", f"0{field.degree}b"), ("asc", "")):
+                texts = [format(it, f"0{field.degree}b")[:: 1 if digits else -1] for it in a.ravel().tolist()]
+                vectors = a.vector(order)
+                self.assertEqual(vectors.tolist(), [[[int(bit) for bit in it] for it in texts[at : at + 3]] for at in (0, 3)])
+                self.assertTrue((field.Vector(vectors, order) == a).all() and (field.Vector(vectors.tolist(), order) == a).all())
+                self.assertIs(type(vectors), bf.Gf2)
+            self.assertRaises(ValueError, field.Vector, [0] * (field.degree + 1))
+            self.assertRaises(ValueError, a.vector, "big")
+            self.assertEqual(((a - a).additive_order().tolist(), field(1).additive_order()), ([[1] * 3] * 2, 2))
+            self.assertIn(f"GF(2^{field.degree})", field.properties)
+            self.assertEqual(field.view(a, field).tolist(), a.tolist())
+            for kind in (float, int, bf.FieldArray, bf.Poly64 if field is not bf.Poly64 else bf.Gf2):
+                self.assertRaises(TypeError, a.view, kind)
+            self.assertRaises(TypeError, np.zeros(3, np.uint8).view, field)
+            if field.degree > 64:
+                self.assertRaises(TypeError, a.view, np.ndarray)
+                self.assertRaises(ValueError, field.repr_table)
+            else:
+                a.view(np.ndarray)[0, 0] = 1
+                self.assertEqual((int(a[0, 0]), a.view(np.ndarray).tolist(), a.view(np.ndarray).dtype), (1, a.tolist(), a.dtype))
+
+    def test_tables(self):
+        for field in (bf.Gf2, bf.BinaryField2, bf.BinaryField4, bf.Rijndael8b):
+            lines = field.repr_table().splitlines()
+            numbers = [int(it.split()[-1], 16) for it in lines[2:]]
+            self.assertEqual(numbers, [0, *(field.primitive_element ** list(range(field.order - 1))).tolist()])
+            self.assertEqual([int(it.split()[-1], 16) for it in field.repr_table(sort="int").splitlines()[2:]], list(range(field.order)))
+            self.assertEqual("Polynomial" in lines[0], field is bf.Rijndael8b)
+            for sign, operation in (("+", operator.add), ("-", operator.sub), ("*", operator.mul), ("/", operator.truediv)):
+                y = field.units if sign == "/" else field.elements
+                rows = [[int(it, 16) for it in line.partition("|")[2].split()] for line in field.arithmetic_table(sign).splitlines()[2:]]
+                self.assertEqual(rows, operation(field.elements.reshape(-1, 1), y).tolist())
+            self.assertEqual(len(field.arithmetic_table("+", [0, 1], [1]).splitlines()), 4)
+            for wrong in (lambda: field.arithmetic_table("%"), lambda: field.repr_table(0), lambda: field.repr_table(sort="poly"), lambda: field.arithmetic_table("+", 1)):
+                self.assertRaises(ValueError, wrong)
+
+    def test_texts_of_polynomials(self):
+        for field in FIELDS.values():
+            if field in (bf.Rijndael8b, bf.Poly64, bf.Ghash128):
+                self.assertEqual([int(field(it)) for it in ("x^2 + 1", "x", "x^7+x")], [5, 2, 130])
+                self.assertEqual(field(["x", "ff"]).tolist(), [2, 255])
+                self.assertRaises(ValueError, field, f"x^{field.degree}")
+            else:
+                self.assertRaisesRegex(ValueError, "no polynomials over", field, "x^2 + 1")
+            self.assertRaisesRegex(ValueError, "no text of hexadecimal digits", field, "nothing")
+
+    def test_messages(self):
+        for field in FIELDS.values():
+            a = field([1, 0])
+            for number, times in ((7, 1), (12, 0)):
+                meant = f"{field.__name__}({number})" if number < field.order else "a representation, of which there is none"
+                for wrong in (lambda: a * number, lambda: a + [1, number], lambda: number - a, lambda: np.multiply(a, np.array([0, number]))):
+                    with self.assertRaises(TypeError) as raised:
+                        wrong()
+                    self.assertIn(f"{number} could be {meant}, or {number} times 1, which is {times}", str(raised.exception))
+            self.assertRaisesRegex(TypeError, "and not float$", lambda: a * 0.5)
+            with self.assertRaisesRegex(np.linalg.LinAlgError, "^Singular matrix$"):
+                np.linalg.inv(field([[1, 1], [1, 1]]))
+            self.assertRaisesRegex(TypeError, r"transform\(\)", np.fft.rfft, a)
+
+    def test_orders(self):
+        # By representation, and of wide elements by the highest word that differs.
+        for field in FIELDS.values():
+            a = field.random((4, 6), seed=67)
+            a[1], a[:, 3] = a[0], a[:, 4].copy()
+            o, b, c = np.array(a.tolist(), dtype=object), a[0].copy(), np.array(a[0].tolist(), dtype=object)
+            for axis in (0, -1, None):
+                self.assertEqual(np.sort(a, axis=axis).tolist(), np.sort(o, axis=axis).tolist())
+                self.assertEqual(np.argsort(a, axis, "stable").tolist(), np.argsort(o, axis, "stable").tolist())
+                for function in (np.min, np.max, np.argmin, np.argmax):
+                    self.assertEqual(function(a, axis=axis).tolist(), np.asarray(function(o, axis=axis)).tolist())
+            self.assertEqual((np.max(a, initial=0).tolist(), np.min(a, axis=0, keepdims=True).shape), (int(o.max()), (1, 6)))
+            found, known = (np.unique(it, return_index=True, return_inverse=True, return_counts=True) for it in (a, o))
+            self.assertEqual([it.ravel().tolist() for it in found], [np.asarray(it).ravel().tolist() for it in known])
+            self.assertEqual(np.unique(a, axis=0).tolist(), sorted(map(list, set(map(tuple, a.tolist())))))
+            self.assertEqual((np.isin(a, b).tolist(), np.isin(a, b, invert=True).tolist()), (np.isin(o, c).tolist(), (~np.isin(o, c)).tolist()))
+            for function in (np.union1d, np.intersect1d, np.setdiff1d, np.setxor1d):
+                self.assertEqual(function(a[2], b).tolist(), function(o[2], c).tolist())
+            ordered = np.sort(a[2])
+            self.assertEqual(np.searchsorted(ordered, a).tolist(), np.searchsorted(np.sort(o[2]), o).tolist())
+            self.assertIs(type(np.sort(a)), field)
+
+    def test_sums_by_labels(self):
+        for field in SOME:
+            a, b, c = field.random((3, 4), seed=68), field.random((4, 2), seed=69), field.random((2, 3, 4), seed=70)
+            s, v = field.random((3, 3), seed=71), field.random(4, seed=72)
+            for wanted, arguments in [
+                (a @ b, ("ij,jk->ik", a, b)), (a @ b, ("ij,jk", a, b)), ((a @ b).T, ("ij , jk -> ki", a, b)), (a.T, ("ij->ji", a)), (a.sum(), ("ij->", a)),
+                (a.sum(1), ("ij->i", a)), (s.trace(), ("ii", s)), (s.diagonal(), ("ii->i", s)), (a * a, ("ij,ij->ij", a, a)), (np.outer(v, v), ("i,j->ij", v, v)),
+                (c @ b, ("...j,jk->...k", c, b)), (c * v, ("...i,...i->...i", c, v)), (c @ v, ("...i,i", c, v)), (s @ a @ b, ("ij,jk,kl->il", s, a, b)),
+                (a @ b, (a, [0, 1], b, [1, 2], [0, 2])), (a @ b, (a, [0, 1], b, [1, 2])), (c.sum(0), (c, [0, ...], [...])), (v[0] * v, (",i->i", v[0], v)),
+                (np.tensordot(c, c, ([0, 1], [0, 1])), ("ijk,ijl->kl", c, c)), ((c * c).sum(), ("ijk,ijk", c, c)), (s[:1] * s, ("...,...", s[:1], s)),
+                (a.sum(1), ("ij,j->i", a, [1, 1, 1, 1])),
+            ]:
+                found = np.einsum(*arguments)
+                self.assertEqual((type(found), found.shape, found.tolist()), (field, wanted.shape, wanted.tolist()))
+            out = field.zeros((3, 2))
+            self.assertTrue(np.einsum("ij,jk", a, b, out=out) is out and (out == a @ b).all())
+            for wrong in (("ij,jk->ik", a, a), ("ij->k", a), ("ij", v), ("ij,jk", a), ("ii", a), ("i.j", a), ("ij->ii", a), ("...i->i", a)):
+                self.assertRaises(ValueError, np.einsum, *wrong)
+            self.assertRaises(TypeError, np.einsum, "i,i", v, [1, 2, 3, 4])
+            self.assertRaises(TypeError, lambda: np.einsum("i,i", v, v, dtype=int))
+
+    def test_pads(self):
+        for field in SOME:
+            a = field.random((3, 4), seed=73)
+            o = np.array(a.tolist(), dtype=object)
+            for mode in ("edge", "reflect", "symmetric", "wrap", "constant"):
+                self.assertEqual(np.pad(a, ((1, 2), (0, 3)), mode).tolist(), np.pad(o, ((1, 2), (0, 3)), mode).tolist())
+            values = ((1, 0), (0, 1))
+            self.assertEqual(np.pad(a, 1, constant_values=values).tolist(), np.pad(o, 1, constant_values=values).tolist())
+            self.assertEqual(np.pad(a, 1, constant_values=a[0, 0])[0, 0].tolist(), int(a[0, 0]))
+            for wrong in ({"mode": "mean"}, {"mode": "linear_ramp"}, {"mode": "reflect", "reflect_type": "odd"}, {"mode": lambda *it: None}):
+                self.assertRaises(TypeError, lambda: np.pad(a, 1, **wrong))
+
+    def test_elements_are_no_places(self):
+        for field in FIELDS.values():
+            a = field([1, 0, 1])
+            for wrong in (
+                lambda: [5, 6][a[0]], lambda: np.take(a, a), lambda: np.tile(5, a), lambda: np.tile(a, a), lambda: np.roll(a, a[0]), lambda: np.delete(a, a),
+                lambda: np.repeat(a, a), lambda: np.compress(a, a), lambda: np.extract(a, a), lambda: np.take_along_axis(a, a, 0), lambda: a.take(a),
+                lambda: np.reshape(a, field([1])), lambda: np.split(a, a), lambda: np.broadcast_to(a, a),
+            ):
+                self.assertRaises((TypeError, IndexError), wrong)
+
     def test_every_bit_counts(self):
         for field in FIELDS.values():
             bits = field([1 << i for i in range(field.degree)])
@@ -517,17 +711,17 @@ class Examples(unittest.TestCase):
 
     def test_examples(self):
         tried = 0
-        for name in ("_storage", "_facts", "_matrices", "_arrays", "_library", "_poly", "_transforms", "_workers", "_bytes"):
-            module = getattr(bf, name)
-            found = doctest.testmod(module, extraglobs={"bf": bf, "np": np})
-            self.assertEqual(found.failed, 0)
+        modules = ("_storage", "_draws", "_facts", "_matrices", "_arrays", "_library", "_poly", "_transforms", "_workers", "_bytes", "_hardware")
+        for module in [bf, *(getattr(bf, name) for name in modules)]:
+            found = doctest.testmod(module)
+            self.assertEqual((module.__name__, found.failed, found.attempted > 0), (module.__name__, 0, True))
             tried += found.attempted
-        self.assertGreater(tried, 100)
+        self.assertGreater(tried, 220)
 
     def test_every_function_has_one(self):
         functions = {name: getattr(bf, name) for name in bf.__all__ if not isinstance(getattr(bf, name), type)}
         codes = (bf._bytes._Code, bf.ReedSolomon, bf.TransformCode)
-        for kind in (bf._storage.Stored, bf._facts.Facts, bf._matrices.Matrices, bf.FieldArray, bf.Poly, *bf.Ghash.__mro__[:-1], *codes):
+        for kind in (bf._storage.Stored, bf._draws.Drawn, bf._facts.Facts, bf._matrices.Matrices, bf.FieldArray, bf.Poly, *bf.Ghash.__mro__[:-1], *codes):
             functions |= {name: it for name, it in vars(kind).items() if not name.startswith("_") and not isinstance(it, property)}
         lacking = [name for name, it in functions.items() if callable(it) or isinstance(it, classmethod) if ">>> " not in (it.__doc__ or "")]
         self.assertEqual((lacking, len(functions) > 90), ([], True))

@@ -256,6 +256,17 @@ class Methods(unittest.TestCase):
                 self.assertRaises(ValueError, wrong.characteristic_poly)
                 self.assertRaises(ValueError, wrong.minimal_poly)
 
+    def test_methods(self):
+        for field in FIELDS.values():
+            a = field.random((2, 3, 3), seed=82)
+            a[:, [0, 1, 2], [0, 1, 2]] += field.primitive_element
+            self.assertEqual((a.det().tolist(), a.rank().tolist()), (np.linalg.det(a).tolist(), np.linalg.matrix_rank(a).tolist()))
+            regular = a[a.rank() == 3]
+            self.assertEqual(regular.inv().tolist(), np.linalg.inv(regular).tolist())
+            self.assertEqual((field.Identity(2).rank(), type(a.det())), (2, field))
+            with self.assertRaisesRegex(np.linalg.LinAlgError, "^Singular matrix$"):
+                field.zeros((2, 2)).inv()
+
     def test_made_matrices(self):
         for field in FIELDS.values():
             defined, x = defined_of(field), int(field.primitive_element)

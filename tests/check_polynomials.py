@@ -394,5 +394,105 @@ class Facts(unittest.TestCase):
         self.assertEqual(bf.Poly192(1 << 64).minimal_poly(bf.Poly64), bf.Poly192.irreducible_poly)
 
 
+class Primitive(unittest.TestCase):
+    """Primitive polynomials and Conway polynomials, and what else bears names of `galois`."""
+
+    def powers_of_x(self, poly):
+        """How many polynomials the powers of x are, modulo one."""
+        seen, x = set(), bf.Poly.Identity(poly.field) % poly
+        power = bf.Poly.One(poly.field) % poly
+        while int(power) not in seen:
+            seen.add(int(power))
+            power = power * x % poly
+        return len(seen - {0})
+
+    def test_primitive(self):
+        for field, degrees in ((bf.Gf2, (1, 2, 3, 4, 5)), (bf.BinaryField2, (1, 2)), (bf.BinaryField4, (1,))):
+            for degree in degrees:
+                found = [bf.Poly.Int(it, field) for it in range(field.order**degree, 2 * field.order**degree)]
+                wanted = [it for it in found if it.coeffs[-1] and self.powers_of_x(it) == field.order**degree - 1]
+                self.assertEqual([it for it in found if it.is_primitive()], wanted)
+                self.assertEqual(bf.primitive_poly(degree, field), wanted[0])
+                self.assertEqual((wanted[0] * field.primitive_element).is_primitive(), True)
+        self.assertFalse(bf.Poly.Zero().is_primitive() or bf.Poly.One().is_primitive() or bf.Poly.Identity().is_primitive())
+        # A factor of x**n - 1, and a square, whose powers of x come round too early.
+        self.assertFalse(bf.Poly.Int(0x11B).is_primitive() or (bf.Poly.Int(7) ** 2).is_primitive())
+        self.assertTrue(bf.Poly(bf.Ghash128([1, int(bf.Ghash128.primitive_element)])).is_primitive())
+        self.assertRaises(ValueError, bf.primitive_poly, 0)
+        self.assertRaises(ValueError, bf.Poly.Degrees([129, 5, 0]).is_primitive)
+        for name in (bf.irreducible_poly, bf.primitive_poly):
+            for wrong in (3, int, bf.FieldArray, None):
+                self.assertRaisesRegex(TypeError, "is no field$", name, 8, wrong)
+
+    def test_primes(self):
+        primes_of_group = bf._primitive.primes_of_group
+        for bits in (*range(1, 97), 101, 125, 127, 128):
+            rest = (1 << bits) - 1
+            for it in primes_of_group(bits):
+                self.assertTrue(it < 1 << 40 and all(it % below for below in range(2, min(it, 1000))) or pow(3, it - 1, it) == 1)
+                self.assertEqual(rest % it, 0)
+                while rest % it == 0:
+                    rest //= it
+            self.assertEqual(rest, 1)
+        for field in FIELDS.values():
+            self.assertEqual(list(primes_of_group(field.degree)) if field.degree <= 128 else [], [
+                it for it in definitions.PRIMES if (field.order - 1) % it == 0
+            ] if field.degree <= 128 else [])
+
+    def test_conway(self):
+        # The definition, for each degree: primitive, and with the roots of those of its divisors as powers of its own.
+        known = {}
+        for degree in range(1, 65):
+            poly = bf.conway_poly(2, degree)
+            known[degree] = poly
+            self.assertEqual((poly.degree, poly.is_primitive()), (degree, True))
+            self.assertTrue(self.agrees(poly, known) if degree < 25 or degree in (32, 36, 48, 60, 64) else True)
+        # And the least of such, where all are tried.
+        for degree in range(1, 11):
+            least = next(it for it in map(bf.Poly.Int, range(1 << degree, 2 << degree)) if it.is_primitive() and self.agrees(it, known))
+            self.assertEqual(least, known[degree])
+        for wrong in ((3, 2), (2, 0), (2, 65), (4, 1)):
+            self.assertRaises(ValueError, bf.conway_poly, *wrong)
+
+    def agrees(self, poly, known):
+        """Whether a power of x modulo a polynomial is a root of the Conway polynomial of each divisor of its degree."""
+        for degree in range(1, poly.degree):
+            if poly.degree % degree == 0:
+                power = ((1 << poly.degree) - 1) // ((1 << degree) - 1)
+                if known[degree](pow(bf.Poly.Identity(), power, poly)) % poly:
+                    return False
+        return True
+
+    def test_common_multiples_and_remainders(self):
+        for field in (bf.Gf2, bf.Rijndael8b):
+            draw = np.random.default_rng(79)
+            for _ in range(2):
+                a, b, c = (bf.Poly.Random(it, draw, field) for it in (3, 2, 4))
+                least = bf.lcm(a, b, c)
+                self.assertEqual((least % a, least % b, least % c, least.is_monic), (0, 0, 0, True))
+                self.assertEqual(bf.lcm(a, b) * bf.gcd(a, b), (a * b) * (a * b).coeffs[0].reciprocal())
+                self.assertEqual((bf.lcm(a * b, b).degree, bf.lcm(a, bf.Poly.Zero(field)), bf.lcm(a) * a.coeffs[0]), ((a * b).degree, 0, a))
+                moduli = [bf.Poly.Degrees([it], field=field) + 1 for it in (1,)] + [bf.irreducible_poly(3, field), bf.irreducible_poly(2, field)]
+                rests = [bf.Poly.Random(1, draw, field), a, b]
+                found = bf.crt(rests, moduli)
+                self.assertEqual([found % it for it in moduli], [rest % it for rest, it in zip(rests, moduli)])
+                self.assertLess(found.degree, 6)
+            self.assertRaises(ValueError, bf.crt, [a, b], [moduli[1], moduli[1]])
+            self.assertRaises(ValueError, bf.crt, [a], moduli)
+        self.assertRaises(ValueError, bf.lcm)
+        self.assertRaises(ValueError, bf.crt, [], [])
+
+    def test_values_at_matrices(self):
+        for field in FIELDS.values():
+            poly, a = bf.Poly.Random(4, seed=80, field=field), field.random((3, 3), seed=81)
+            power, total = field.Identity(3), field.zeros((3, 3))
+            for it in poly.coefficients(order="asc"):
+                total, power = total + power * it, power @ a
+            self.assertEqual(poly(a, elementwise=False).tolist(), total.tolist())
+            self.assertFalse(a.characteristic_poly()(a, elementwise=False).any())
+            self.assertRaises(ValueError, lambda: poly(a[:2], elementwise=False))
+            self.assertEqual(poly.reverse(), bf.Poly(poly.coeffs, order="asc"))
+
+
 if __name__ == "__main__":
     unittest.main()

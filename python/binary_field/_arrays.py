@@ -25,6 +25,13 @@ UFUNCS: dict[np.ufunc, Callable[..., Any]] = {}
 FUNCTIONS: dict[Callable[..., Any], Callable[..., Any]] = {}
 
 
+def implement(functions: dict[Any, Callable[..., Any]]) -> None:
+    """Adds functions of numpy, each with what it is over elements. What a wrong argument is told of has the name that the caller knows."""
+    for known, own in functions.items():
+        own.__name__ = own.__qualname__ = known.__name__
+        FUNCTIONS[known] = own
+
+
 def _is_left_to(other: Any) -> bool:
     """Whether an operator is left to the other operand, as numpy's arrays leave it: a polynomial says so, and arrays of other libraries,
     as those of dask, have their own rules."""
@@ -87,9 +94,20 @@ class FieldArray(Matrices):
         else:
             is_meant = array.dtype == object and all(map(cls._is_meant, array.ravel()))
         if not is_meant:
-            name = cls.__name__
-            raise TypeError(f"the other operand must be of {name}, or 0 or 1: 2 could be {name}(2), or 1 + 1, which is 0")
+            raise TypeError(cls._why_not(value, array))
         return cls(array)
+
+    @classmethod
+    def _why_not(cls, value: Any, array: Words) -> str:
+        """What is said of an operand that holds neither elements nor zeros and ones."""
+        name = cls.__name__
+        wrong = next(it for it in array.ravel().tolist() if not cls._is_meant(it))
+        if isinstance(wrong, FieldArray):
+            return f"{name} and {type(wrong).__name__} cannot be mixed; convert with .to()"
+        if not isinstance(wrong, int):
+            return f"beside elements of {name} an operand holds such elements, or the integers 0 and 1, and not {type(wrong).__name__}"
+        element = f"{name}({wrong})" if 0 <= wrong < cls.order else "a representation, of which there is none"
+        return f"beside elements of {name} an integer is 0 or 1: {wrong} could be {element}, or {wrong} times 1, which is {wrong % 2}"
 
     @classmethod
     def _is_meant(cls, item: Any) -> bool:

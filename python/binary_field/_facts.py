@@ -12,8 +12,10 @@ from typing import TYPE_CHECKING, Any
 
 import numpy as np
 
-from ._library import Words
-from ._storage import _FIELDS, S, Stored
+from . import _tables
+from ._draws import Drawn
+from ._library import Words, packed
+from ._storage import _FIELDS, S
 
 if TYPE_CHECKING:
     from ._poly import Poly
@@ -27,7 +29,7 @@ _PRIMES = (
 _LOGARITHM_BITS = 64
 
 
-class Facts(Stored):
+class Facts(Drawn):
     """What is known of elements beside arithmetic."""
 
     __slots__ = ()
@@ -77,6 +79,74 @@ class Facts(Stored):
                 power, rest = power**prime, rest * prime
         return self._integers(np.asarray(orders, dtype=object))
 
+    def additive_order(self) -> Any:
+        """The least number above 0 of times that each element adds up to 0: 1 of 0, and else 2.
+
+        >>> bf.Rijndael8b([0, 3]).additive_order()
+        array([1, 2])
+        """
+        elements: Any = self
+        return self._integers(np.asarray(np.where(elements == 0, 1, 2), dtype=object))
+
+    # ---- vectors over GF(2), and texts
+
+    def vector(self, order: str = "desc") -> Any:
+        """The bits of each representation, along a last axis, as elements of `Gf2`: the highest first, or with `order="asc"` the lowest.
+
+        >>> bf.BinaryField4([1, 12]).vector()
+        Gf2([[0x0, 0x0, 0x0, 0x1], [0x1, 0x1, 0x0, 0x0]])
+        """
+        words = packed(self._words)
+        data = np.frombuffer(words.tobytes(), np.uint8).reshape(*words.shape, words.dtype.itemsize)
+        bits = np.unpackbits(data, axis=-1, count=self.degree, bitorder="little")
+        return _FIELDS["gf2"]._of(np.ascontiguousarray(bits[..., :: _step(order)]))
+
+    @classmethod
+    def Vector(cls: type[S], array: Any, order: str = "desc") -> S:
+        """The elements with these bits along the last axis, as `vector` has them.
+
+        >>> bf.BinaryField4.Vector([[1, 1, 0, 0]])
+        BinaryField4([0xc])
+        """
+        bits = _FIELDS["gf2"]._operand(array)._words[..., :: _step(order)]
+        if bits.shape[-1:] != (cls.degree,):
+            raise ValueError(f"the vectors of elements of {cls.__name__} have {cls.degree} bits along the last axis, and the shape is {bits.shape}")
+        result = cls.zeros(bits.shape[:-1])
+        data = np.zeros((*result.shape, result.itemsize), np.uint8)
+        made = np.packbits(bits, axis=-1, bitorder="little")
+        data[..., : made.shape[-1]] = made
+        result._words[...] = np.frombuffer(data.tobytes(), cls._dtype()).reshape(result.shape)
+        return result
+
+    @classmethod
+    def repr_table(cls, element: Any = None, sort: str = "power") -> str:
+        """A table of all elements of a field of up to 8 bits: each as a power of a primitive element, by default `primitive_element`, as a
+        polynomial where elements are such, as a vector and as a representation, sorted by "power" or "int".
+
+        >>> print(bf.BinaryField2.repr_table())
+          Power  Vector  Integer
+        -------  ------  -------
+              0  [0, 0]      0x0
+        (0x2)^0  [0, 1]      0x1
+        (0x2)^1  [1, 0]      0x2
+        (0x2)^2  [1, 1]      0x3
+        """
+        return _tables.of_elements(cls, element, sort)
+
+    @classmethod
+    def arithmetic_table(cls, operation: str, x: Any = None, y: Any = None) -> str:
+        """A table of what `+`, `-`, `*` or `/` makes of each element of x with each of y, by default all of a field of up to 8 bits.
+
+        >>> print(bf.BinaryField2.arithmetic_table("*"))
+        x * y |  0x0  0x1  0x2  0x3
+        -------  ---  ---  ---  ---
+          0x0 |  0x0  0x0  0x0  0x0
+          0x1 |  0x0  0x1  0x2  0x3
+          0x2 |  0x0  0x2  0x3  0x1
+          0x3 |  0x0  0x3  0x1  0x2
+        """
+        return _tables.of_operation(cls, operation, x, y)
+
     # ---- logarithms
 
     def log(self, base: Any = None) -> Any:
@@ -103,12 +173,13 @@ class Facts(Stored):
     def _logarithms(self) -> Words:
         """Those to the primitive element: the Chinese remainder of those in the groups of prime order, since no square divides 2**n - 1."""
         elements: Any = self
+        generator: Any = type(self).primitive_element
         group = type(self).order - 1
         result = np.full(self.shape, 0, dtype=object)
         for prime in _PRIMES:
             if group % prime == 0:
                 rest = group // prime
-                digits = _in_prime_group(elements**rest, type(self).primitive_element**rest, prime)
+                digits = _in_prime_group(elements**rest, generator**rest, prime)
                 result = (result + digits.astype(object) * (rest * pow(rest, -1, prime))) % group
         return np.asarray(result, dtype=object)
 
@@ -201,7 +272,6 @@ class Facts(Stored):
         over_this = Poly.Roots(type(self)(conjugates[:count]))
         return Poly(over_this.coeffs._restricted(subfield))
 
-
     def characteristic_poly(self) -> Poly:
         """Of a square matrix the determinant of x minus it; of a single element that of its products, over GF(2).
 
@@ -221,6 +291,13 @@ class Facts(Stored):
         if self.shape[0] != self.shape[1]:
             raise ValueError(f"a square matrix is wanted, and the shape is {self.shape}")
         return self
+
+
+def _step(order: str) -> int:
+    """The step through bits from the lowest on that has them in an order."""
+    if order not in ("desc", "asc"):
+        raise ValueError('the order of bits is "desc" or "asc"')
+    return -1 if order == "desc" else 1
 
 
 def _in_prime_group(values: Any, generator: Any, prime: int) -> Words:

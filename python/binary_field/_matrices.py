@@ -42,6 +42,15 @@ class Matrices(Facts):
         return cls(np.eye(size, dtype=np.uint8))
 
     @classmethod
+    def identity(cls: type[M], size: int) -> M:
+        """`Identity`, as numpy names it.
+
+        >>> bf.Gf2.identity(2)
+        Gf2([[0x1, 0x0], [0x0, 0x1]])
+        """
+        return cls.Identity(size)
+
+    @classmethod
     def Vandermonde(cls: type[M], element: Any, rows: int, cols: int) -> M:
         """The matrix with the powers of element**i, from the power 0 on, in row i. Those of any points are `np.vander`.
 
@@ -125,6 +134,34 @@ class Matrices(Facts):
 
     def _transposed(self: M) -> M:
         return self._one_matrix().transpose()
+
+    # ---- inverses, determinants and ranks, as np.linalg has them
+
+    def inv(self: M) -> M:
+        """The inverse of each matrix in the last two axes; LinAlgError where one has none.
+
+        >>> bf.Rijndael8b([[1, 2], [3, 4]]).inv()
+        Rijndael8b([[0x2, 0x1], [0x8c, 0x8d]])
+        """
+        result: M = inverse(self)
+        return result
+
+    def det(self: M) -> M:
+        """The determinant of each matrix in the last two axes.
+
+        >>> bf.Rijndael8b([[1, 2], [3, 4]]).det()
+        Rijndael8b(0x2)
+        """
+        result: M = determinant(self)
+        return result
+
+    def rank(self) -> Any:
+        """The rank of each matrix in the last two axes, an integer of a single one.
+
+        >>> int(bf.Rijndael8b([[1, 2], [3, 6]]).rank())
+        1
+        """
+        return rank(self)
 
     # ---- decompositions
 
@@ -307,7 +344,10 @@ def inverse(a: Any) -> Any:
     words, result = packed(a._words).reshape(count, size, size), a.zeros((count, size, size))
     space, places = _space(words, size, 2 * size)
     for at in range(count):
-        call(f"{a._name}_matrix_inverse", words[at], size, result._words[at], space, places)
+        try:
+            call(f"{a._name}_matrix_inverse", words[at], size, result._words[at], space, places)
+        except np.linalg.LinAlgError:
+            raise np.linalg.LinAlgError("Singular matrix") from None
     return result.reshape(shape)
 
 

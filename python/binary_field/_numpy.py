@@ -11,7 +11,7 @@ from typing import Any, Callable, Sequence
 import numpy as np
 
 from . import _matrices
-from ._arrays import FUNCTIONS, UFUNCS, FieldArray
+from ._arrays import UFUNCS, FieldArray, implement
 from ._transforms import field_of_product, product_by_transforms
 
 Function = Callable[..., Any]
@@ -96,6 +96,7 @@ def _comparison(function: Function) -> Function:
         if method == "outer":
             field = _field_of(left, right)
             return _outer(function, field._operand(left), field._operand(right))
+        np.broadcast_shapes(np.shape(left), np.shape(right))
         return function(left, right) if isinstance(left, FieldArray) else function(right, left)
 
     return called
@@ -106,6 +107,10 @@ def _power(method: str, inputs: Sequence[Any], options: dict[str, Any]) -> Any:
     if not isinstance(base, FieldArray):
         return NotImplemented
     return _ufunc(lambda it, out=None: it._left_in(out, it**exponent))(method, [base], options) if method == "__call__" else NotImplemented
+
+
+def _log(method: str, inputs: Sequence[Any], options: dict[str, Any]) -> Any:
+    return NotImplemented if options or method != "__call__" else _field_of(*inputs)._operand(inputs[0]).log()
 
 
 def _matmul(method: str, inputs: Sequence[Any], options: dict[str, Any]) -> Any:
@@ -141,6 +146,7 @@ UFUNCS.update({
     np.reciprocal: _ufunc(FieldArray.reciprocal),
     np.negative: _ufunc(_same),
     np.positive: _ufunc(_same),
+    np.log: _log,
     np.power: _power,
     np.matmul: _matmul,
     np.equal: _comparison(lambda left, right: left == right),
@@ -176,8 +182,21 @@ def _elements_of(field: type[FieldArray], words: Any) -> Any:
     return field._of(words)
 
 
+# Where a function that moves elements has them: at its first place if nothing else is said, or at every place.
+_PLACES: dict[Any, Sequence[int]] = {
+    it: range(64) for it in (np.atleast_1d, np.atleast_2d, np.atleast_3d, np.broadcast_arrays, np.meshgrid)
+} | {np.compress: (1,), np.extract: (1,)}
+# The names of these places, and that of an array that is written.
+_NAMES = ("A", "a", "arr", "array", "arrays", "ary", "m", "out", "seq", "tup", "v", "x")
+
+
 def _moving(function: Function) -> Function:
+    places = _PLACES.get(function, (0,))
+
     def moved(*arguments: Any, **options: Any) -> Any:
+        others = [it for at, it in enumerate(arguments) if at not in places] + [it for name, it in options.items() if name not in _NAMES]
+        if any(isinstance(it, FieldArray) for it in _all_of(others)):
+            raise TypeError(f"{function.__name__}: elements are moved, and are neither places nor numbers nor conditions")
         field = _field_of(*_all_of([*arguments, *options.values()]))
         result = function(*(_words_of(field, it) for it in arguments), **{name: _words_of(field, it) for name, it in options.items()})
         out = options.get("out")
@@ -265,7 +284,7 @@ def _filled(name: str) -> Function:
     """Zeros or ones of an array's field, and of its shape where no other is named; of another type of numbers there are none."""
 
     def filled(a: Any, dtype: Any = None, *, shape: Any = None) -> Any:
-        return getattr(type(a), name)(a.shape if shape is None else shape).astype(dtype or a.dtype)
+        return getattr(type(a), name)(a.shape if shape is None else shape).astype(a.dtype if dtype is None else dtype)
 
     return filled
 
@@ -274,10 +293,10 @@ def _outer_product(a: Any, b: Any, out: Any = None) -> Any:
     return np.multiply.outer(np.ravel(a), np.ravel(b), out=out)
 
 
-FUNCTIONS.update({it: _moving(it) for it in _MOVING})
-FUNCTIONS.update({it: _on_words(it) for it in _ON_WORDS})
-FUNCTIONS.update({it: _on_nonzero(it) for it in _ON_NONZERO})
-FUNCTIONS.update({
+implement({it: _moving(it) for it in _MOVING})
+implement({it: _on_words(it) for it in _ON_WORDS})
+implement({it: _on_nonzero(it) for it in _ON_NONZERO})
+implement({
     np.append: _append,
     np.array_equal: _array_equal,
     np.convolve: _convolve,
@@ -302,6 +321,3 @@ FUNCTIONS.update({
     np.where: _where,
     np.zeros_like: _filled("zeros"),
 })
-# What a wrong argument is told of has the name that the caller knows.
-for _known, _own in FUNCTIONS.items():
-    _own.__name__ = _own.__qualname__ = _known.__name__

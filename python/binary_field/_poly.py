@@ -7,7 +7,7 @@ from typing import Any, Iterable, Union
 
 import numpy as np
 
-from . import _factors
+from . import _factors, _primitive
 from ._arrays import FieldArray
 from ._fields import Gf2
 
@@ -330,14 +330,38 @@ class Poly:
 
     # ---- values and roots
 
-    def __call__(self, at: Any) -> Any:
-        """The value at each element of an array, of which integers are representations; of a polynomial, the composition."""
+    def __call__(self, at: Any, elementwise: bool = True) -> Any:
+        """The value at each element of an array, of which integers are representations; of a polynomial, the composition; and not
+        elementwise, the value at a square matrix.
+
+        >>> bf.Poly.Int(0b111)(bf.Gf2([[1, 1], [1, 0]]), elementwise=False)
+        Gf2([[0x0, 0x0], [0x0, 0x0]])
+        """
+        if not elementwise:
+            return self._at_matrix(self.field._operand(at))
         if not isinstance(at, Poly):
             return self.field.evaluate(self._low, at)
         result = self.Zero(self.field)
         for coefficient in self._low[::-1]:
             result = result * at + coefficient
         return result
+
+    def _at_matrix(self, matrix: Any) -> Any:
+        if matrix.ndim != 2 or matrix.shape[0] != matrix.shape[1]:
+            raise ValueError(f"a square matrix is wanted, and the shape is {matrix.shape}")
+        one = matrix.Identity(len(matrix))
+        result = one * self._low[-1]
+        for coefficient in self._low[-2::-1]:
+            result = result @ matrix + one * coefficient
+        return result
+
+    def reverse(self) -> Poly:
+        """The polynomial with the coefficients in the opposite order, x**degree times the value at 1 / x.
+
+        >>> bf.Poly.Int(0b1011).reverse()
+        Poly(x^3 + x^2 + 1, Gf2)
+        """
+        return self._of(self._low[::-1].copy())
 
     def derivative(self, k: int = 1) -> Poly:
         """The derivative, or the k-th one.
@@ -371,7 +395,6 @@ class Poly:
                 rest //= self._of(self.field([int(root), 1]))
                 times[at] += 1
         return found, times
-
 
     # ---- factors
 
@@ -407,6 +430,15 @@ class Poly:
         (True, False)
         """
         return self.degree > 0 and _factors.is_irreducible(self)
+
+    def is_primitive(self) -> bool:
+        """Whether the powers of x modulo this polynomial are all polynomials of lower degree but 0. Its degree times that of the field is at
+        most 128.
+
+        >>> bf.Poly.Int(0x11D).is_primitive(), bf.Poly.Int(0x11B).is_primitive()
+        (True, False)
+        """
+        return _primitive.is_primitive(self)
 
     def is_square_free(self) -> bool:
         """Whether no factor but a constant is there twice.
@@ -483,13 +515,78 @@ def gcd(a: Poly, b: Poly) -> Poly:
     return a.__mul__(a._low[-1].inverse_or_zero())
 
 
+def _field(field: Any) -> Any:
+    """The field that the second argument of a function names."""
+    if isinstance(field, type) and issubclass(field, FieldArray) and field is not FieldArray:
+        return field
+    raise TypeError(f"the arguments are a degree, and a field as bf.Rijndael8b, by default Gf2; and {field!r} is no field")
+
+
 def irreducible_poly(degree: int, field: type[FieldArray] = Gf2) -> Poly:
     """The monic irreducible polynomial of a degree whose integer, as `Poly.Int` takes it, is the least.
 
     >>> bf.irreducible_poly(8)
     Poly(x^8 + x^4 + x^3 + x + 1, Gf2)
     """
-    return _factors.first_irreducible(degree, field)
+    return _factors.first_irreducible(degree, _field(field))
+
+
+def primitive_poly(degree: int, field: type[FieldArray] = Gf2) -> Poly:
+    """The monic primitive polynomial of a degree whose integer, as `Poly.Int` takes it, is the least. The degree times that of the field
+    is at most 128.
+
+    >>> bf.primitive_poly(8), bf.primitive_poly(2, bf.BinaryField4)
+    (Poly(x^8 + x^4 + x^3 + x^2 + 1, Gf2), Poly(x^2 + x + 0x5, BinaryField4))
+    """
+    return _primitive.first_primitive(degree, _field(field))
+
+
+def conway_poly(characteristic: int, degree: int) -> Poly:
+    """The Conway polynomial over GF(2) of a degree from 1 to 64; the characteristic is 2. It is the least of the primitive polynomials for
+    which, of a root r, the power of r by (2**degree - 1) / (2**d - 1) is a root of the Conway polynomial of each d that divides the degree.
+
+    >>> bf.conway_poly(2, 8)
+    Poly(x^8 + x^4 + x^3 + x^2 + 1, Gf2)
+    """
+    return Poly.Int(_primitive.conway(characteristic, degree))
+
+
+def lcm(*polys: Poly) -> Poly:
+    """The monic least common multiple of polynomials, 0 where one is 0.
+
+    >>> F = bf.Rijndael8b
+    >>> bf.lcm(bf.Poly.Roots(F([1, 2])), bf.Poly.Roots(F([2]))) == bf.Poly.Roots(F([1, 2]))
+    True
+    """
+    if not polys:
+        raise ValueError("a polynomial is wanted at least")
+    result = gcd(polys[0], polys[0])
+    for it in polys[1:]:
+        common = gcd(result, it)
+        product = result * it // common if common else common
+        result = gcd(product, product)
+    return result
+
+
+def crt(remainders: Iterable[Poly], moduli: Iterable[Poly]) -> Poly:
+    """The polynomial of least degree that has each of some remainders modulo a polynomial, of which no two have a common factor.
+
+    >>> F = bf.Rijndael8b
+    >>> p = bf.crt([bf.Poly(F([1])), bf.Poly(F([7]))], [bf.Poly.Roots(F([2])), bf.Poly.Roots(F([3]))])
+    >>> p(F([2, 3]))
+    Rijndael8b([0x1, 0x7])
+    """
+    rests, divisors = list(remainders), list(moduli)
+    if not rests or len(rests) != len(divisors):
+        raise ValueError("expected as many remainders as moduli, and one at least")
+    result, product = rests[0] % divisors[0], divisors[0]
+    for rest, divisor in zip(rests[1:], divisors[1:]):
+        common, inverse, _ = egcd(product, divisor)
+        if common.degree:
+            raise ValueError("two of the moduli have a common factor")
+        result = result + (rest - result) * inverse % divisor * product
+        product = product * divisor
+    return result
 
 
 def egcd(a: Poly, b: Poly) -> tuple[Poly, Poly, Poly]:

@@ -8,7 +8,7 @@ from typing import Any, Sequence
 import numpy as np
 
 from . import _matrices
-from ._arrays import FUNCTIONS, FieldArray
+from ._arrays import FieldArray, implement
 
 
 def _both(a: Any, b: Any) -> tuple[Any, Any]:
@@ -101,11 +101,11 @@ def _fill_diagonal(a: Any, val: Any, wrap: bool = False) -> None:
 
 def _polyval(p: Any, x: Any) -> Any:
     """The value of the polynomial whose coefficients begin with the highest power."""
-    points, coefficients = (x, type(x)._operand(p)) if isinstance(x, FieldArray) else (p._operand(x), p)
+    coefficients, points = _both(p, x)
     return coefficients.evaluate(coefficients[::-1], points)
 
 
-FUNCTIONS.update({
+implement({
     np.copyto: _copyto,
     np.diff: _diff,
     np.fill_diagonal: _fill_diagonal,

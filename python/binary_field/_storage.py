@@ -10,7 +10,9 @@ from typing import Any, Callable, Final, Iterator, Sequence, TypeVar, Union
 
 import numpy as np
 
+from . import _tables
 from ._library import WORDS, Words, call
+from ._views import Views
 
 S = TypeVar("S", bound="Stored")
 Shape = Union[int, Sequence[int]]
@@ -41,29 +43,35 @@ class _Constants(type):
         return 2
 
     @property
-    def primitive_element(cls) -> Any:
+    def properties(cls) -> str:
+        """The name, the numbers and the modulus of the field, a line each."""
+        return _tables.properties(cls)
+
+    @property
+    def primitive_element(cls: type[S]) -> S:  # type: ignore[misc]
         """The generator of the multiplicative group that the library names."""
-        result = cls.zeros(())  # type: ignore[attr-defined]
+        result = cls.zeros(())
         call(f"{result._name}_generator", result._words)
         return result
 
     @property
-    def elements(cls) -> Any:
+    def elements(cls: type[S]) -> S:  # type: ignore[misc]
         """All elements by their representations, in fields of up to 16 bits."""
         if cls.degree > 16:
             raise ValueError(f"{cls.__name__} has too many elements for an array of them: 2**{cls.degree}")
         return cls(np.arange(cls.order))
 
     @property
-    def units(cls) -> Any:
+    def units(cls: type[S]) -> S:  # type: ignore[misc]
         """All elements but 0, in fields of up to 16 bits."""
         return cls.elements[1:]
 
     @property
-    def primitive_elements(cls) -> Any:
+    def primitive_elements(cls: type[S]) -> S:  # type: ignore[misc]
         """The elements of which each but 0 is a power, in fields of up to 16 bits."""
-        units = cls.units
-        return units[units.multiplicative_order() == cls.order - 1]
+        units: Any = cls.units
+        found: S = units[units.multiplicative_order() == cls.order - 1]
+        return found
 
     @property
     def irreducible_poly(cls) -> Any:
@@ -86,7 +94,7 @@ def _of_words(name: str) -> Any:
 class Stored(metaclass=_Constants):
     """What arrays of elements are but for arithmetic, which FieldArray adds."""
 
-    __slots__ = ("__weakref__", "_words")
+    __slots__ = ("__weakref__", "_views", "_words")
 
     degree: int
     _name: str
@@ -98,6 +106,8 @@ class Stored(metaclass=_Constants):
     # Whether inverses one by one cost more than three products an element.
     _is_batched = False
     _words: Words
+    # What it gave out as views, once it did.
+    _views: Views
 
     def __init_subclass__(cls) -> None:
         if "_name" in vars(cls):
@@ -107,11 +117,11 @@ class Stored(metaclass=_Constants):
 
     def __init__(self, values: Any) -> None:
         """Makes an array, whose memory is its own, of the representations of elements, of which each is from 0 to 2**degree - 1: an
-        integer, a text of hexadecimal digits, lists of them, or an array of numpy. Elements of a field that this one contains, or is
-        isomorphic to, become their images.
+        integer, a text of hexadecimal digits or of a polynomial over GF(2) where elements are such, lists of them, or an array of numpy.
+        Elements of a field that this one contains, or is isomorphic to, become their images.
 
-        >>> bf.Ghash128([3, "ff"])
-        Ghash128([0x3, 0xff])
+        >>> bf.Ghash128([3, "ff", "x^2 + 1"])
+        Ghash128([0x3, 0xff, 0x5])
         >>> bf.Ghash128(bf.BinaryField128([1, 2]))
         Ghash128([0x1, 0x295ac0b1f4731af9676aac9fa4b20b08])
         """
@@ -144,10 +154,29 @@ class Stored(metaclass=_Constants):
             if value._name != cls._name:
                 raise TypeError(f"cannot make an array of {cls.__name__} from a list of elements of {type(value).__name__}")
             return int(value)
-        number = int(value, 16) if isinstance(value, str) else operator.index(value)
+        number = cls._read(value) if isinstance(value, str) else operator.index(value)
         if not 0 <= number < cls.order:
             raise ValueError(f"{number:#x} is not an element of {cls.__name__}: it must be from 0 to 2**{cls.degree} - 1")
         return number
+
+    @classmethod
+    def _has_polynomials(cls) -> bool:
+        """Whether elements are polynomials over GF(2), of which bit i of a representation is the coefficient of x**i."""
+        return not cls._is_in_tower() and cls.degree < 192
+
+    @classmethod
+    def _read(cls, text: str) -> int:
+        """The representation of a text: hexadecimal digits or, in a field of polynomials over GF(2), one of these."""
+        from ._poly import Poly
+
+        try:
+            return int(text, 16)
+        except ValueError:
+            if "x" not in text:
+                raise ValueError(f"{text!r} is no text of hexadecimal digits") from None
+        if not cls._has_polynomials():
+            raise ValueError(f"{text!r}: elements of {cls.__name__} are no polynomials over GF(2), and a text is hexadecimal there")
+        return int(Poly.Str(text))
 
     @classmethod
     def _dtype(cls) -> np.dtype[Any]:
@@ -173,6 +202,15 @@ class Stored(metaclass=_Constants):
         return cls._of(np.zeros(shape, cls._dtype()))
 
     @classmethod
+    def Zeros(cls: type[S], shape: Shape) -> S:
+        """`zeros`, as `galois` names it.
+
+        >>> bf.Gf2.Zeros(2)
+        Gf2([0x0, 0x0])
+        """
+        return cls.zeros(shape)
+
+    @classmethod
     def ones(cls: type[S], shape: Shape) -> S:
         """Ones.
 
@@ -184,17 +222,31 @@ class Stored(metaclass=_Constants):
         return result
 
     @classmethod
-    def random(cls: type[S], shape: Shape = (), seed: int | np.random.Generator | None = None) -> S:
-        """Elements drawn by numpy's generator, which is none for secrets.
+    def Ones(cls: type[S], shape: Shape) -> S:
+        """`ones`, as `galois` names it.
 
-        >>> bf.BinaryField8.random(3, seed=1)
-        BinaryField8([0xff, 0xe4, 0x22])
+        >>> bf.Gf2.Ones(2)
+        Gf2([0x1, 0x1])
         """
-        result = cls.zeros(shape)
-        words = result._words["words"] if cls._dtype().names else result._words
-        high = min(cls.order, 1 << 8 * words.dtype.itemsize) - 1
-        words[...] = np.random.default_rng(seed).integers(0, high, words.shape, words.dtype, endpoint=True)
-        return result
+        return cls.ones(shape)
+
+    @classmethod
+    def Range(cls: type[S], start: int, stop: int | None = None, step: int = 1) -> S:
+        """`range`, as `galois` names it.
+
+        >>> bf.Ghash128.Range(2, 9, 3)
+        Ghash128([0x2, 0x5, 0x8])
+        """
+        return cls(list(range(start) if stop is None else range(start, stop, step)))
+
+    @classmethod
+    def range(cls: type[S], start: int, stop: int | None = None, step: int = 1) -> S:
+        """The elements with the representations of Python's `range`: from 0 or a start on, to one before the stop.
+
+        >>> bf.Ghash128.range(3), bf.Ghash128.range(2, 9, 3)
+        (Ghash128([0x0, 0x1, 0x2]), Ghash128([0x2, 0x5, 0x8]))
+        """
+        return cls.Range(start, stop, step)
 
     @classmethod
     def from_words(cls: type[S], words: Words, copy: bool = True) -> S:
@@ -243,6 +295,23 @@ class Stored(metaclass=_Constants):
         """
         words: Words = self._words["words"] if self._words.dtype.names else self._words
         return words.copy() if copy else words
+
+    def view(self: S, kind: Any = None) -> Any:
+        """The same memory as an array of a subclass of the field, or with `np.ndarray` as integers, the representations, in fields of up to
+        64 bits. The words of larger ones are `to_words(copy=False)`.
+
+        >>> a = bf.Rijndael8b([1, 2])
+        >>> a.view(np.ndarray)[0] = 7
+        >>> a
+        Rijndael8b([0x7, 0x2])
+        """
+        if kind is None or kind is np.ndarray:
+            if kind and self._dtype().names:
+                raise TypeError(f"elements of {type(self).__name__} are no integers of numpy: to_words(copy=False) has their words")
+            return self._words.view() if kind else self._of(self._words.view())
+        if not (isinstance(kind, type) and issubclass(kind, Stored) and getattr(kind, "_name", None) == self._name):
+            raise TypeError(f"the same memory holds elements of {type(self).__name__} alone, or integers: take to(field), or view(np.ndarray)")
+        return kind._of(self._words.view())
 
     def to(self, field: type[S]) -> S:
         """The images in a field: this one, the isomorphic one in the other basis, or one that contains either.
@@ -314,6 +383,13 @@ class Stored(metaclass=_Constants):
         return (self[at] for at in range(len(self)))
 
     @staticmethod
+    def _numbers_of(given: Any) -> Any:
+        """Numbers and conditions, which elements are not."""
+        if isinstance(given, Stored):
+            raise TypeError(f"elements of {type(given).__name__} are no integers: take view(np.ndarray), or np.asarray(a, int)")
+        return given
+
+    @staticmethod
     def _place(key: Any) -> Any:
         """An index that is none of a structure's names."""
         if isinstance(key, str) or isinstance(key, list) and any(isinstance(it, str) for it in key):
@@ -328,10 +404,20 @@ class Stored(metaclass=_Constants):
         >>> a
         BinaryField8([0x1, 0x9, 0x3])
         """
-        return self._of(self._words[self._place(key)])
+        result = self._of(self._words[self._place(key)])
+        if result._words.ndim and result._words.base is not None:
+            try:
+                views = self._views
+            except AttributeError:
+                views = self._views = Views()
+            views.give(result)
+        return result
 
     def __setitem__(self, key: Any, value: Any) -> None:
-        self._words[self._place(key)] = self._operand(value)._words
+        place, elements = self._place(key), self._operand(value)
+        if elements is value and hasattr(self, "_views"):
+            self._views.assign(self._words, place, elements)
+        self._words[place] = elements._words
 
     def __int__(self) -> int:
         if self.size != 1:
@@ -384,11 +470,13 @@ class Stored(metaclass=_Constants):
         return self._numbers().tolist()
 
     def __array__(self, dtype: Any = None, copy: bool | None = None) -> Words:
-        """Elements as objects, so that what numpy computes of them is computed in the field. Where a type of numbers is named,
-        the representations. A copy in both cases; `to_words` makes none."""
+        """Elements as objects, so that what numpy and other libraries compute of them is computed in the field. Where a type of integers is
+        named, the representations. A copy in both cases; `to_words` and `view` make none."""
         if copy is False:
             raise ValueError("cannot make an array of numpy without a copy; to_words(copy=False) makes none")
         if dtype is not None and np.dtype(dtype) != object:
+            if np.dtype(dtype).kind not in "biu":
+                raise TypeError(f"representations of elements of {type(self).__name__} are integers, and no {np.dtype(dtype)}")
             return np.array(self._numbers() if self._dtype().names else self._words, dtype=dtype)
         flat = np.empty(self.size, dtype=object)
         for at, it in enumerate(self.ravel()):
@@ -418,7 +506,7 @@ class Stored(metaclass=_Constants):
         'x^6 + x^4 + x + 1'
         """
         spec = _completed(spec, self._spec)
-        if spec[-1] == "p" and (self._is_in_tower() or self.degree == 192):
+        if spec[-1] == "p" and not self._has_polynomials():
             raise ValueError(f"elements of {type(self).__name__} are no polynomials over GF(2)")
         if self.size <= _PRINTED:
             return _shown(self._exponents() if spec[-1] == "g" else self.tolist(), spec)
@@ -532,7 +620,7 @@ class Stored(metaclass=_Constants):
         >>> bf.BinaryField8([5, 6, 7]).take([2, 0])
         BinaryField8([0x7, 0x5])
         """
-        return self._of(self._words.take(indices, axis))
+        return self._of(self._words.take(self._numbers_of(indices), axis))
 
     def repeat(self: S, repeats: Any, axis: int | None = None) -> S:
         """Each element as often as it is said.
@@ -540,7 +628,7 @@ class Stored(metaclass=_Constants):
         >>> bf.BinaryField8([5, 6]).repeat([1, 2])
         BinaryField8([0x5, 0x6, 0x6])
         """
-        return self._of(self._words.repeat(repeats, axis))
+        return self._of(self._words.repeat(self._numbers_of(repeats), axis))
 
     def compress(self: S, condition: Any, axis: int | None = None) -> S:
         """The elements at which a condition holds, of all or along an axis.
@@ -548,7 +636,7 @@ class Stored(metaclass=_Constants):
         >>> bf.BinaryField8([5, 6]).compress([False, True])
         BinaryField8([0x6])
         """
-        return self._of(self._words.compress(condition, axis))
+        return self._of(self._words.compress(self._numbers_of(condition), axis))
 
     def fill(self, value: Any) -> None:
         """Makes each element the one that is given.
