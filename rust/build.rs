@@ -8,7 +8,9 @@ const ARCHIVE: &str = "libbinary_field.a";
 
 fn main() {
     println!("cargo::rerun-if-env-changed=BINARY_FIELD_LIBRARY");
-    println!("cargo::rustc-check-cfg=cfg(feature, values(\"serde\", \"rand\", \"num-traits\", \"hardware\"))");
+    println!(
+        "cargo::rustc-check-cfg=cfg(feature, values(\"serde\", \"rand\", \"num-traits\", \"hardware\"))"
+    );
     println!("cargo::rustc-link-lib=static=binary_field");
     let folders = folders();
     let Some(folder) = folders.iter().find(|it| it.join(ARCHIVE).is_file()) else {

@@ -106,9 +106,11 @@ def rust_declared(parameters):
 
 
 def rust_function(name, parameters, bits, text):
-    """A function that Rust declares, with its comment. A doc comment reads an index in brackets as a link."""
-    comment = told(name, parameters, bits, text).replace("[", "\\[").replace("]", "\\]")
-    out = [f"    /// {line}\n" for line in textwrap.wrap(comment, 110, break_long_words=False)]
+    """A function that Rust declares, with its comment. A doc comment reads an index in brackets as a link, and a line that begins with a
+    star as that of a list, so that no line does."""
+    comment = told(name, parameters, bits, text).replace("[", "\\[").replace("]", "\\]").replace(" * ", "\N{NO-BREAK SPACE}* ")
+    lines = textwrap.wrap(comment, 110, break_long_words=False)
+    out = [f"    /// {line}\n".replace("\N{NO-BREAK SPACE}", " ") for line in lines]
     rows = "".join(f"        {it},\n" for it in rust_declared(parameters))
     return "".join([*out, f"    pub fn bf_{name}(\n{rows}    ) -> u32;\n"])
 
@@ -148,6 +150,13 @@ use crate::functions;
 use core::fmt;
 
 /// Why a call did nothing: everything that it could write is as before, but for the space and places in which it works.
+///
+/// ```
+/// use binary_field::{{Error, Field, Poly64}};
+///
+/// let error = Poly64::square_slice(&[Poly64::new(3)], &mut []).unwrap_err();
+/// assert_eq!((error, error.to_string().as_str()), (Error::Length, "mismatched or invalid lengths"));
+/// ```
 #[derive(Clone, Copy, Debug, PartialEq, Eq, Hash)]
 pub enum Error {{
 {variants}}}
@@ -163,10 +172,16 @@ impl Error {{
 }}
 
 /// A call that returns no status but BF_OK: its slices have lengths that fit, and its words are elements.
+#[inline]
 pub(crate) fn succeed(status: u32) {{
-    if let Err(error) = Error::of(status) {{
-        panic!("{{error}}");
+    if status != functions::BF_OK {{
+        refused(status);
     }}
+}}
+
+#[cold]
+fn refused(status: u32) {{
+    Error::of(status).unwrap_or_else(|error| panic!("{{error}}"));
 }}
 
 impl fmt::Display for Error {{
@@ -196,8 +211,19 @@ def rust_field(field):
     functions = "".join(f"    {name}: bf_{field.name}_{name},\n" for name, _, _ in c_library.FIELD_FUNCTIONS if name in RUST_FUNCTIONS)
     if field.is_batched:
         functions += f"    one_inverse_in: {field.partner.type_name},\n"
+    if field.bits <= 8:
+        functions += f"    tables: {'Aes' if field.modulus else 'Tower'},\n"
     about = field.about.replace("[", "\\[").replace("]", "\\]")
-    return f"field! {{\n    /// {about}.\n    {field.type_name}({HELD[field.word]}), {field.bits}, {numbers},\n{functions}}}\n"
+    return f"field! {{\n    /// {about}.\n{rust_example(field)}    {field.type_name}({HELD[field.word]}), {field.bits}, {numbers},\n{functions}}}\n"
+
+
+def rust_example(field):
+    """A product as an example, of the generator and the element of the highest bit."""
+    name, left, right = field.type_name, field.generator, 1 << field.bits - 1
+    made, used = (f"{name}::from", "") if field.word == "u192" else (f"{name}::from_repr", ", TowerLevel")
+    x, y, product = (f"{made}({rust_word(field, it)})" for it in (left, right, field.multiply(left, right)))
+    lines = ["```", f"use binary_field::{{{name}{used}}};", "", f"let x = {x};", f"let y = {y};", f"assert_eq!(x * y, {product});", "```"]
+    return "".join(f"    /// {it}".rstrip() + "\n" for it in ["", *lines])
 
 
 def rust_levels():
@@ -220,6 +246,13 @@ def image_of(field, number):
     for place, column in enumerate(field.columns):
         image ^= column * (number >> place & 1)
     return image
+
+
+def algebra_name(below, field):
+    """What transcripts call a field as a space over a smaller one: the text that p3-binary-field has for it."""
+    if field.level is None:
+        return f"p3-binary-cubic-v1:y^3+y+1:{below.bits}:{field.bits}"
+    return f"p3-Wiedemann-tower-v1:chunk-basis:{below.bits}:{field.bits}"
 
 
 def rust_embeddings():
@@ -249,11 +282,12 @@ def rust_fields():
         embeddings += f"    {below.type_name} => {field.type_name} by |it| {image};\n"
         subfields += f"    {below.type_name} => {field.type_name};\n"
         if below.bits >= 8 and (field.level is not None or field.word == "u192"):
-            extensions += f"    {below.type_name} => {field.type_name}, {field.bits // below.bits};\n"
+            extensions += f'    {below.type_name} => {field.type_name}, {field.bits // below.bits}, b"{algebra_name(below, field)}";\n'
     return "\n".join([
         f"//! The fields. {WRITTEN}\n",
         "use crate::error::succeed;\nuse crate::functions::*;\nuse crate::space::sealed::Sealed;\nuse crate::words::Word;\n"
-        "use crate::{\n    Algebra, BasedVectorSpace, Error, ExtensionField, Field, ParseError, PrimeCharacteristicRing, RawDataSerializable, TowerLevel,\n};\nuse core::fmt;\n"
+        "use crate::{\n    Algebra, AlgebraIdentity, BasedVectorSpace, Error, ExtensionField, Field, HasFrobenius, PACKING, Packable, Packed,\n"
+        "    ParseError, PrimeCharacteristicRing, RawDataSerializable, TowerLevel,\n};\nuse alloc::vec::Vec;\nuse core::fmt;\n"
         "use core::iter::{Product, Sum};\nuse core::ops::{Add, AddAssign, Div, DivAssign, Mul, MulAssign, Neg, Sub, SubAssign};\n"
         "use core::str::FromStr;\n",
         *map(rust_field, fields.FIELDS),

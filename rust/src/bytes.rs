@@ -1,23 +1,9 @@
-//! Elements as bytes, hashes of authentication tags, and Reed-Solomon codes over bytes.
+//! Hashes of authentication tags, and Reed-Solomon codes over bytes.
 
+use crate::Error;
 use crate::error::succeed;
 use crate::functions::*;
-use crate::{Error, Field};
 use core::fmt;
-
-/// Elements as bytes, the lowest first; of `Poly192` those of each coefficient, that of 1 first.
-pub trait RawDataSerializable: Field {
-    /// How many bytes an element has.
-    const NUM_BYTES: usize;
-
-    /// Its bytes.
-    fn into_bytes(self) -> impl IntoIterator<Item = u8>;
-
-    /// The bytes of elements, one element behind the other.
-    fn into_byte_stream(elements: impl IntoIterator<Item = Self>) -> impl IntoIterator<Item = u8> {
-        elements.into_iter().flat_map(Self::into_bytes)
-    }
-}
 
 // A hash of a message under a key.
 type Hash = unsafe extern "C" fn(*const u8, usize, *const u8, usize, *mut u8, usize) -> u32;
@@ -29,16 +15,44 @@ fn hashed(function: Hash, key: &[u8; 16], message: &[u8]) -> [u8; 16] {
 }
 
 /// GHASH of the message (NIST SP 800-38D), with zeros added to whole blocks.
+///
+/// ```
+/// use binary_field::{Ghash128, ghash};
+///
+/// // The hash of one block is its product with the key, with the bits of every byte reversed.
+/// let element = |bytes: [u8; 16]| Ghash128::new(u128::from_be_bytes(bytes).reverse_bits());
+/// let (key, block) = ([0x35; 16], [0x9c; 16]);
+/// assert_eq!(element(ghash(&key, &block)), element(key) * element(block));
+/// ```
 pub fn ghash(key: &[u8; 16], message: &[u8]) -> [u8; 16] {
     hashed(bf_tag_ghash, key, message)
 }
 
 /// POLYVAL of the message (RFC 8452), with zeros added to whole blocks.
+///
+/// ```
+/// use binary_field::polyval;
+///
+/// // A message that is no whole number of blocks ends in zeros.
+/// assert_eq!(polyval(&[7; 16], &[1]), polyval(&[7; 16], &[1, 0, 0]));
+/// assert_eq!(polyval(&[7; 16], &[0; 40]), [0; 16]);
+/// ```
 pub fn polyval(key: &[u8; 16], message: &[u8]) -> [u8; 16] {
     hashed(bf_tag_polyval, key, message)
 }
 
 /// The hash of GCM over associated data and ciphertext, with the block of their lengths.
+///
+/// ```
+/// use binary_field::{gcm_ghash, ghash};
+///
+/// // The last block has both lengths in bits, the highest byte first.
+/// let mut blocks = [0; 48];
+/// blocks[..2].copy_from_slice(&[1, 2]);
+/// blocks[16] = 3;
+/// (blocks[39], blocks[47]) = (16, 8);
+/// assert_eq!(gcm_ghash(&[7; 16], &[1, 2], &[3]), ghash(&[7; 16], &blocks));
+/// ```
 pub fn gcm_ghash(key: &[u8; 16], associated: &[u8], ciphertext: &[u8]) -> [u8; 16] {
     let mut hash = [0; 16];
     succeed(call!(bf_tag_gcm_ghash: [key], [associated], [ciphertext], [mut hash]));
@@ -96,11 +110,29 @@ macro_rules! in_pieces {
 
 in_pieces! {
     /// GHASH (NIST SP 800-38D) of a message that comes in pieces of any length, as [`ghash`] is that of a whole one.
+    ///
+    /// ```
+    /// use binary_field::{Ghash, ghash};
+    ///
+    /// let mut hash = Ghash::new(&[7; 16]);
+    /// hash.update(b"a message in ");
+    /// hash.update(b"two pieces");
+    /// assert_eq!(hash.finalize(), ghash(&[7; 16], b"a message in two pieces"));
+    /// ```
     Ghash, bf_tag_ghash_init, bf_tag_ghash_update, bf_tag_ghash_pad, bf_tag_ghash_final
 }
 
 in_pieces! {
     /// POLYVAL (RFC 8452) of a message that comes in pieces of any length, as [`polyval`] is that of a whole one.
+    ///
+    /// ```
+    /// use binary_field::{Polyval, polyval};
+    ///
+    /// let of_key = Polyval::new(&[7; 16]);
+    /// let mut hash = of_key.clone();
+    /// hash.update(b"one of many messages");
+    /// assert_eq!(hash.finalize(), polyval(&[7; 16], b"one of many messages"));
+    /// ```
     Polyval, bf_tag_polyval_init, bf_tag_polyval_update, bf_tag_polyval_pad, bf_tag_polyval_final
 }
 
@@ -121,6 +153,10 @@ impl Ghash {
 }
 
 /// Whether the two have the same bytes. Nothing is claimed on the time that it takes.
+///
+/// ```
+/// assert!(binary_field::tags_are_equal(&[1, 2], &[1, 2]) && !binary_field::tags_are_equal(&[1, 2], &[1]));
+/// ```
 pub fn tags_are_equal(left: &[u8], right: &[u8]) -> bool {
     let mut equal = 0;
     succeed(call!(bf_tags_are_equal: [left], [right], &raw mut equal));
@@ -132,6 +168,21 @@ type Restoring = unsafe extern "C" fn(usize, usize, *mut u8, usize, *const u8, u
 
 /// The code with so many shards of data and of parity, over bytes modulo x^8 + x^4 + x^3 + x^2 + 1. Shards of one size, which is not
 /// 0, stand one after the other, those of data first.
+///
+/// ```
+/// use binary_field::ReedSolomon;
+///
+/// let code = ReedSolomon::new(3, 2)?;
+/// let mut shards = *b"abcdef....";
+/// code.encode(&mut shards)?;
+/// let whole = shards;
+/// // Two of five shards of two bytes are lost.
+/// shards[2..4].fill(0);
+/// shards[8..].fill(0);
+/// code.reconstruct(&mut shards, &[true, false, true, true, false])?;
+/// assert_eq!(shards, whole);
+/// # Ok::<(), binary_field::Error>(())
+/// ```
 #[derive(Clone, Copy, Debug, PartialEq, Eq)]
 pub struct ReedSolomon {
     data: usize,
@@ -262,6 +313,19 @@ fn two_of<S: AsRef<[u8]> + AsMut<[u8]>>(
 }
 
 /// A code with its tables, made once, so that a call makes none: that counts where shards are small.
+///
+/// ```
+/// use binary_field::ReedSolomon;
+///
+/// let code = ReedSolomon::new(3, 2)?;
+/// let mut tables = vec![0; code.tables_length()];
+/// let prepared = code.prepare(&mut tables)?;
+/// let (mut shards, mut parity) = (*b"abcdef....", [[0; 2]; 2]);
+/// prepared.encode(&mut shards)?;
+/// prepared.encode_shards(&[b"ab", b"cd", b"ef"], &mut parity)?;
+/// assert_eq!(shards[6..], parity.concat());
+/// # Ok::<(), binary_field::Error>(())
+/// ```
 #[derive(Clone, Copy, Debug)]
 pub struct Prepared<'a> {
     code: ReedSolomon,

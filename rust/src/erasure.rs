@@ -7,6 +7,20 @@ use crate::functions::*;
 /// The code with so many shards of data and of parity, over `BinaryField16`, by additive transforms. A word is an element, by its
 /// representation. Shards have one size, which is not 0; those of data stand one after the other, and so do those of parity. A call
 /// works in `space`, of `space_length` words or more: what that has before does not matter, and behind the call nothing is said of it.
+///
+/// ```
+/// use binary_field::TransformCode;
+///
+/// let code = TransformCode::new(3, 2)?;
+/// let mut space = vec![0; code.space_length()];
+/// let (mut data, mut parity) = ([1, 2, 3], [0; 2]);
+/// code.encode(&data, &mut parity, &mut space)?;
+/// // Two of five shards of one word are lost.
+/// data[..2].fill(0);
+/// code.reconstruct(&mut data, &mut parity, &[false, false, true, true, true], &mut space)?;
+/// assert_eq!(data, [1, 2, 3]);
+/// # Ok::<(), binary_field::Error>(())
+/// ```
 #[derive(Clone, Copy, Debug, PartialEq, Eq)]
 pub struct TransformCode {
     data: usize,

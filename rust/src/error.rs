@@ -4,6 +4,13 @@ use crate::functions;
 use core::fmt;
 
 /// Why a call did nothing: everything that it could write is as before, but for the space and places in which it works.
+///
+/// ```
+/// use binary_field::{Error, Field, Poly64};
+///
+/// let error = Poly64::square_slice(&[Poly64::new(3)], &mut []).unwrap_err();
+/// assert_eq!((error, error.to_string().as_str()), (Error::Length, "mismatched or invalid lengths"));
+/// ```
 #[derive(Clone, Copy, Debug, PartialEq, Eq, Hash)]
 pub enum Error {
     /// Mismatched or invalid lengths.
@@ -37,10 +44,16 @@ impl Error {
 }
 
 /// A call that returns no status but BF_OK: its slices have lengths that fit, and its words are elements.
+#[inline]
 pub(crate) fn succeed(status: u32) {
-    if let Err(error) = Error::of(status) {
-        panic!("{error}");
+    if status != functions::BF_OK {
+        refused(status);
     }
+}
+
+#[cold]
+fn refused(status: u32) {
+    Error::of(status).unwrap_or_else(|error| panic!("{error}"));
 }
 
 impl fmt::Display for Error {

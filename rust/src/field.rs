@@ -1,25 +1,43 @@
 //! What every field has.
 
-use crate::{Error, PrimeCharacteristicRing};
+use crate::{Algebra, Error, Order, Packable, PackedField, RawDataSerializable};
 use core::fmt::{Display, LowerHex};
 use core::hash::Hash;
 use core::ops::{Div, DivAssign};
 use core::str::FromStr;
 
 /// A field of characteristic two. The functions over slices take slices of one length, and return `Error::Length` otherwise.
+///
+/// ```
+/// use binary_field::{BinaryField32, Error, Field};
+///
+/// /// The sum of the quotients at each place.
+/// fn sum_of_quotients<F: Field>(left: &[F], right: &[F]) -> Result<F, Error> {
+///     let mut inverses = right.to_vec();
+///     F::invert_assign_slice(&mut inverses);
+///     F::dot_product_of_slices(left, &inverses)
+/// }
+/// let (x, y) = ([7, 9].map(BinaryField32::new), [2, 3].map(BinaryField32::new));
+/// assert_eq!(sum_of_quotients(&x, &y)?, x[0] / y[0] + x[1] / y[1]);
+/// assert_eq!(sum_of_quotients(&x, &y[..1]), Err(Error::Length));
+/// # Ok::<(), Error>(())
+/// ```
 pub trait Field:
-    PrimeCharacteristicRing
+    Algebra<Self>
+    + RawDataSerializable
+    + Packable
     + Display
     + LowerHex
     + FromStr
-    + Eq
     + Ord
     + Hash
-    + Send
-    + Sync
     + Div<Output = Self>
     + DivAssign
 {
+    /// Several elements as one value, in generic code: [`Packed`](crate::Packed) of sixteen. A product of them is one
+    /// call of the library.
+    type Packing: PackedField<Scalar = Self>;
+
     /// How many bits a representation has: the field has 2^DEGREE elements.
     const DEGREE: u32;
 
@@ -59,6 +77,11 @@ pub trait Field:
     /// How many bits a representation has.
     fn bits() -> usize {
         Self::DEGREE as usize
+    }
+
+    /// How many elements the field has.
+    fn order() -> Order {
+        Order::power_of_two(Self::DEGREE)
     }
 
     /// The element whose representation is the number `index`.

@@ -109,6 +109,16 @@ macro_rules! on_one {
     }};
 }
 
+/// What tables of the crate give where the field has them, and otherwise what a call of the library gives.
+macro_rules! by_tables {
+    ($field:ident $product:ident: $method:ident($($word:expr),*); $call:expr) => {
+        $field($field::TABLES.$method($($word),*))
+    };
+    ($field:ident: $method:ident($($word:expr),*); $call:expr) => {
+        $call
+    };
+}
+
 /// A field, by its word, its degree, its zero, its one and its generator, and the function of the library for each name.
 macro_rules! field {
     (
@@ -133,6 +143,7 @@ macro_rules! field {
         square_root_in_place: $square_root_in_place:ident,
         power_in_place: $power_in_place:ident,
         $(one_inverse_in: $tower:ident,)?
+        $(tables: $product_of:ident,)?
     ) => {
         $(#[$about])*
         #[repr(transparent)]
@@ -140,7 +151,13 @@ macro_rules! field {
         pub struct $field($word);
 
         impl $field {
+            $(
+                pub(crate) const TABLES: &$crate::small::Tables =
+                    &$crate::small::Tables::new($crate::small::Product::$product_of, $degree, $generator);
+            )?
+
             /// The representation.
+            #[inline]
             pub const fn to_bits(self) -> $word {
                 self.0
             }
@@ -153,12 +170,20 @@ macro_rules! field {
 
             const ONE: $field = $field($one);
 
+            #[inline]
             fn square(&self) -> $field {
-                on_one!($square: *self => $field)
+                by_tables!($field $($product_of)?: square(self.0); on_one!($square: *self => $field))
             }
 
+            #[inline]
             fn exp_u64(&self, exponent: u64) -> $field {
                 on_one!($power: *self; exponent => $field)
+            }
+
+            // As many squarings as bits leave every element.
+            #[inline]
+            fn exp_power_of_2(&self, log: usize) -> $field {
+                (0..log % $degree).fold(*self, |power, _| power.square())
             }
 
             fn dot_product<const N: usize>(left: &[$field; N], right: &[$field; N]) -> $field {
@@ -166,11 +191,16 @@ macro_rules! field {
             }
         }
 
+        impl Packable for $field {}
+
         impl Field for $field {
+            type Packing = Packed<$field, PACKING>;
+
             const DEGREE: u32 = $degree;
 
             const GENERATOR: $field = $field($generator);
 
+            #[inline]
             fn try_inverse(&self) -> Option<$field> {
                 if self.is_zero() {
                     return None;
@@ -178,11 +208,12 @@ macro_rules! field {
                 // One inverse in the isomorphic field of the tower takes less than one here.
                 $(return Some($field::from($tower::from(*self).inverse()));)?
                 #[allow(unreachable_code)]
-                Some(on_one!($inverse: *self => $field))
+                Some(by_tables!($field $($product_of)?: inverse(self.0); on_one!($inverse: *self => $field)))
             }
 
+            #[inline]
             fn try_sqrt(&self) -> Option<$field> {
-                Some(on_one!($square_root: *self => $field))
+                Some(by_tables!($field $($product_of)?: square_root(self.0); on_one!($square_root: *self => $field)))
             }
 
             fn interpolation_node(index: usize) -> $field {
@@ -294,8 +325,9 @@ macro_rules! field {
         impl Mul for $field {
             type Output = $field;
 
+            #[inline]
             fn mul(self, other: $field) -> $field {
-                on_one!($multiply: self, other => $field)
+                by_tables!($field $($product_of)?: multiply(self.0, other.0); on_one!($multiply: self, other => $field))
             }
         }
 
@@ -303,6 +335,7 @@ macro_rules! field {
         impl Div for $field {
             type Output = $field;
 
+            #[inline]
             #[allow(clippy::suspicious_arithmetic_impl)]
             fn div(self, other: $field) -> $field {
                 self * other.try_inverse().expect("a division by 0")
@@ -558,6 +591,7 @@ macro_rules! levels {
 macro_rules! bases {
     ($($from:ident $to:ident $function:ident;)*) => {$(
         impl From<$from> for $to {
+            #[inline]
             fn from(value: $from) -> $to {
                 on_one!($function: value => $to)
             }
@@ -595,7 +629,13 @@ macro_rules! subfields {
 
 /// Extensions whose elements are arrays of those of the field below.
 macro_rules! extensions {
-    ($($from:ident => $to:ident, $dimension:literal;)*) => {$(
+    ($($from:ident => $to:ident, $dimension:literal, $name:literal;)*) => {$(
+        impl AlgebraIdentity<$from> for $to {
+            fn algebra_id() -> Vec<u8> {
+                $name.to_vec()
+            }
+        }
+
         impl BasedVectorSpace<$from> for $to {
             const DIMENSION: usize = $dimension;
 
@@ -614,7 +654,11 @@ macro_rules! extensions {
             }
         }
 
+        impl HasFrobenius<$from> for $to {}
+
         impl ExtensionField<$from> for $to {
+            type ExtensionPacking = Packed<$to, PACKING>;
+
             fn as_base(&self) -> Option<$from> {
                 let coefficients: &[$from] = self.as_basis_coefficients_slice();
                 coefficients[1..].iter().all(Field::is_zero).then(|| coefficients[0])
@@ -637,9 +681,37 @@ macro_rules! cubic {
                 [$below(self.0[0]), $below(self.0[1]), $below(self.0[2])]
             }
 
+            /// The product, by nine products of coefficients, where y^3 = y + 1: to compare with.
+            pub fn composed_mul(self, other: $field) -> $field {
+                let mut products = [$below::ZERO; 5];
+                for (i, a) in self.coefficients().into_iter().enumerate() {
+                    for (j, b) in other.coefficients().into_iter().enumerate() {
+                        products[i + j] += a * b;
+                    }
+                }
+                let [c0, c1, c2, c3, c4] = products;
+                $field::new([c0 + c3, c1 + c3 + c4, c2 + c4])
+            }
+
             /// The bytes of the coefficients, that of 1 first, the lowest byte of each first.
             pub fn into_bytes(self) -> [u8; 24] {
                 core::array::from_fn(|place| self.0[place / 8].to_le_bytes()[place % 8])
+            }
+        }
+
+        /// It panics where the divisor is 0.
+        impl Div<$below> for $field {
+            type Output = $field;
+
+            #[inline]
+            fn div(self, divisor: $below) -> $field {
+                self / $field::from(divisor)
+            }
+        }
+
+        impl DivAssign<$below> for $field {
+            fn div_assign(&mut self, divisor: $below) {
+                *self = *self / divisor;
             }
         }
 

@@ -5,8 +5,10 @@ use crate::functions::*;
 use crate::space::sealed::Sealed;
 use crate::words::Word;
 use crate::{
-    Algebra, BasedVectorSpace, Error, ExtensionField, Field, ParseError, PrimeCharacteristicRing, RawDataSerializable, TowerLevel,
+    Algebra, AlgebraIdentity, BasedVectorSpace, Error, ExtensionField, Field, HasFrobenius, PACKING, Packable, Packed,
+    ParseError, PrimeCharacteristicRing, RawDataSerializable, TowerLevel,
 };
+use alloc::vec::Vec;
 use core::fmt;
 use core::iter::{Product, Sum};
 use core::ops::{Add, AddAssign, Div, DivAssign, Mul, MulAssign, Neg, Sub, SubAssign};
@@ -14,6 +16,14 @@ use core::str::FromStr;
 
 field! {
     /// GF(2).
+    ///
+    /// ```
+    /// use binary_field::{Gf2, TowerLevel};
+    ///
+    /// let x = Gf2::from_repr(0x1);
+    /// let y = Gf2::from_repr(0x1);
+    /// assert_eq!(x * y, Gf2::from_repr(0x1));
+    /// ```
     Gf2(u8), 1, 0x0, 0x1, 0x1,
     add: bf_gf2_add,
     multiply: bf_gf2_multiply,
@@ -34,10 +44,19 @@ field! {
     inverse_in_place: bf_gf2_inverse_in_place,
     square_root_in_place: bf_gf2_square_root_in_place,
     power_in_place: bf_gf2_power_in_place,
+    tables: Tower,
 }
 
 field! {
     /// GF(2^2), a level of the tower.
+    ///
+    /// ```
+    /// use binary_field::{BinaryField2, TowerLevel};
+    ///
+    /// let x = BinaryField2::from_repr(0x2);
+    /// let y = BinaryField2::from_repr(0x2);
+    /// assert_eq!(x * y, BinaryField2::from_repr(0x3));
+    /// ```
     BinaryField2(u8), 2, 0x0, 0x1, 0x2,
     add: bf_t2_add,
     multiply: bf_t2_multiply,
@@ -58,10 +77,19 @@ field! {
     inverse_in_place: bf_t2_inverse_in_place,
     square_root_in_place: bf_t2_square_root_in_place,
     power_in_place: bf_t2_power_in_place,
+    tables: Tower,
 }
 
 field! {
     /// GF(2^4), a level of the tower.
+    ///
+    /// ```
+    /// use binary_field::{BinaryField4, TowerLevel};
+    ///
+    /// let x = BinaryField4::from_repr(0x5);
+    /// let y = BinaryField4::from_repr(0x8);
+    /// assert_eq!(x * y, BinaryField4::from_repr(0x6));
+    /// ```
     BinaryField4(u8), 4, 0x0, 0x1, 0x5,
     add: bf_t4_add,
     multiply: bf_t4_multiply,
@@ -82,10 +110,19 @@ field! {
     inverse_in_place: bf_t4_inverse_in_place,
     square_root_in_place: bf_t4_square_root_in_place,
     power_in_place: bf_t4_power_in_place,
+    tables: Tower,
 }
 
 field! {
     /// GF(2^8), a level of the tower.
+    ///
+    /// ```
+    /// use binary_field::{BinaryField8, TowerLevel};
+    ///
+    /// let x = BinaryField8::from_repr(0x13);
+    /// let y = BinaryField8::from_repr(0x80);
+    /// assert_eq!(x * y, BinaryField8::from_repr(0xa8));
+    /// ```
     BinaryField8(u8), 8, 0x0, 0x1, 0x13,
     add: bf_t8_add,
     multiply: bf_t8_multiply,
@@ -106,10 +143,19 @@ field! {
     inverse_in_place: bf_t8_inverse_in_place,
     square_root_in_place: bf_t8_square_root_in_place,
     power_in_place: bf_t8_power_in_place,
+    tables: Tower,
 }
 
 field! {
     /// GF(2^16), a level of the tower.
+    ///
+    /// ```
+    /// use binary_field::{BinaryField16, TowerLevel};
+    ///
+    /// let x = BinaryField16::from_repr(0x102);
+    /// let y = BinaryField16::from_repr(0x8000);
+    /// assert_eq!(x * y, BinaryField16::from_repr(0x2880));
+    /// ```
     BinaryField16(u16), 16, 0x0, 0x1, 0x102,
     add: bf_t16_add,
     multiply: bf_t16_multiply,
@@ -134,6 +180,14 @@ field! {
 
 field! {
     /// GF(2^32), a level of the tower.
+    ///
+    /// ```
+    /// use binary_field::{BinaryField32, TowerLevel};
+    ///
+    /// let x = BinaryField32::from_repr(0x10005);
+    /// let y = BinaryField32::from_repr(0x80000000);
+    /// assert_eq!(x * y, BinaryField32::from_repr(0x88808000));
+    /// ```
     BinaryField32(u32), 32, 0x0, 0x1, 0x10005,
     add: bf_t32_add,
     multiply: bf_t32_multiply,
@@ -158,6 +212,14 @@ field! {
 
 field! {
     /// GF(2^64), a level of the tower.
+    ///
+    /// ```
+    /// use binary_field::{BinaryField64, TowerLevel};
+    ///
+    /// let x = BinaryField64::from_repr(0x100000004);
+    /// let y = BinaryField64::from_repr(0x8000000000000000);
+    /// assert_eq!(x * y, BinaryField64::from_repr(0x880800080000000));
+    /// ```
     BinaryField64(u64), 64, 0x0, 0x1, 0x100000004,
     add: bf_t64_add,
     multiply: bf_t64_multiply,
@@ -182,6 +244,14 @@ field! {
 
 field! {
     /// GF(2^128), a level of the tower.
+    ///
+    /// ```
+    /// use binary_field::{BinaryField128, TowerLevel};
+    ///
+    /// let x = BinaryField128::from_repr(0x10000000000000005);
+    /// let y = BinaryField128::from_repr(0x80000000000000000000000000000000);
+    /// assert_eq!(x * y, BinaryField128::from_repr(0x88808000800000008000000000000000));
+    /// ```
     BinaryField128(u128), 128, 0x0, 0x1, 0x10000000000000005,
     add: bf_t128_add,
     multiply: bf_t128_multiply,
@@ -206,6 +276,14 @@ field! {
 
 field! {
     /// GF(2)\[x\] modulo x^8 + x^4 + x^3 + x + 1, the bytes of AES (FIPS 197).
+    ///
+    /// ```
+    /// use binary_field::{Rijndael8b, TowerLevel};
+    ///
+    /// let x = Rijndael8b::from_repr(0x88);
+    /// let y = Rijndael8b::from_repr(0x80);
+    /// assert_eq!(x * y, Rijndael8b::from_repr(0xf6));
+    /// ```
     Rijndael8b(u8), 8, 0x0, 0x1, 0x88,
     add: bf_r8_add,
     multiply: bf_r8_multiply,
@@ -226,10 +304,19 @@ field! {
     inverse_in_place: bf_r8_inverse_in_place,
     square_root_in_place: bf_r8_square_root_in_place,
     power_in_place: bf_r8_power_in_place,
+    tables: Aes,
 }
 
 field! {
     /// GF(2)\[x\] modulo x^64 + x^4 + x^3 + x + 1.
+    ///
+    /// ```
+    /// use binary_field::{Poly64, TowerLevel};
+    ///
+    /// let x = Poly64::from_repr(0xc313d8d1bfae2150);
+    /// let y = Poly64::from_repr(0x8000000000000000);
+    /// assert_eq!(x * y, Poly64::from_repr(0xb64b917263b0be4f));
+    /// ```
     Poly64(u64), 64, 0x0, 0x1, 0xc313d8d1bfae2150,
     add: bf_p64_add,
     multiply: bf_p64_multiply,
@@ -255,6 +342,14 @@ field! {
 
 field! {
     /// GF(2)\[x\] modulo x^128 + x^7 + x^2 + x + 1, the field of GHASH (NIST SP 800-38D), bit i for x^i.
+    ///
+    /// ```
+    /// use binary_field::{Ghash128, TowerLevel};
+    ///
+    /// let x = Ghash128::from_repr(0xe5a5755ad217f07d1da70a747203d630);
+    /// let y = Ghash128::from_repr(0x80000000000000000000000000000000);
+    /// assert_eq!(x * y, Ghash128::from_repr(0x356073f69acff7fec1f806ba2ff001e0));
+    /// ```
     Ghash128(u128), 128, 0x0, 0x1, 0xe5a5755ad217f07d1da70a747203d630,
     add: bf_g128_add,
     multiply: bf_g128_multiply,
@@ -280,6 +375,14 @@ field! {
 
 field! {
     /// GF(2^64)\[y\] modulo y^3 + y + 1 over p64, the coefficient of 1 first.
+    ///
+    /// ```
+    /// use binary_field::{Poly192};
+    ///
+    /// let x = Poly192::from([0x5, 0x3, 0x1]);
+    /// let y = Poly192::from([0x0, 0x0, 0x8000000000000000]);
+    /// assert_eq!(x * y, Poly192::from([0x800000000000001b, 0x1b, 0x36]));
+    /// ```
     Poly192([u64; 3]), 192, [0x0, 0x0, 0x0], [0x1, 0x0, 0x0], [0x5, 0x3, 0x1],
     add: bf_p192_add,
     multiply: bf_p192_multiply,
@@ -555,15 +658,15 @@ subfields! {
 }
 
 extensions! {
-    BinaryField8 => BinaryField16, 2;
-    BinaryField8 => BinaryField32, 4;
-    BinaryField16 => BinaryField32, 2;
-    BinaryField8 => BinaryField64, 8;
-    BinaryField16 => BinaryField64, 4;
-    BinaryField32 => BinaryField64, 2;
-    BinaryField8 => BinaryField128, 16;
-    BinaryField16 => BinaryField128, 8;
-    BinaryField32 => BinaryField128, 4;
-    BinaryField64 => BinaryField128, 2;
-    Poly64 => Poly192, 3;
+    BinaryField8 => BinaryField16, 2, b"p3-Wiedemann-tower-v1:chunk-basis:8:16";
+    BinaryField8 => BinaryField32, 4, b"p3-Wiedemann-tower-v1:chunk-basis:8:32";
+    BinaryField16 => BinaryField32, 2, b"p3-Wiedemann-tower-v1:chunk-basis:16:32";
+    BinaryField8 => BinaryField64, 8, b"p3-Wiedemann-tower-v1:chunk-basis:8:64";
+    BinaryField16 => BinaryField64, 4, b"p3-Wiedemann-tower-v1:chunk-basis:16:64";
+    BinaryField32 => BinaryField64, 2, b"p3-Wiedemann-tower-v1:chunk-basis:32:64";
+    BinaryField8 => BinaryField128, 16, b"p3-Wiedemann-tower-v1:chunk-basis:8:128";
+    BinaryField16 => BinaryField128, 8, b"p3-Wiedemann-tower-v1:chunk-basis:16:128";
+    BinaryField32 => BinaryField128, 4, b"p3-Wiedemann-tower-v1:chunk-basis:32:128";
+    BinaryField64 => BinaryField128, 2, b"p3-Wiedemann-tower-v1:chunk-basis:64:128";
+    Poly64 => Poly192, 3, b"p3-binary-cubic-v1:y^3+y+1:64:192";
 }

@@ -1805,8 +1805,8 @@ unsafe extern "C" {
     ) -> u32;
     /// solution: a solution x of matrix * x = right, of rows equations in columns unknowns, in space for rows times
     /// columns + 1 elements and rows places, which may be written whatever the status; an unknown that the others
-    /// leave open is 0. BF_LENGTH unless matrix has rows * columns elements, right rows, solution columns, space rows
-    /// * (columns + 1), and places rows places. BF_NOT_AN_ELEMENT unless each word that is read is below 2.
+    /// leave open is 0. BF_LENGTH unless matrix has rows * columns elements, right rows, solution columns, space
+    /// rows * (columns + 1), and places rows places. BF_NOT_AN_ELEMENT unless each word that is read is below 2.
     /// BF_UNSOLVABLE unless there is a solution.
     pub fn bf_gf2_matrix_solve(
         matrix: *const u8,
@@ -1891,8 +1891,8 @@ unsafe extern "C" {
     ) -> u32;
     /// solution: a solution x of matrix * x = right, of rows equations in columns unknowns, in space for rows times
     /// columns + 1 elements and rows places, which may be written whatever the status; an unknown that the others
-    /// leave open is 0. BF_LENGTH unless matrix has rows * columns elements, right rows, solution columns, space rows
-    /// * (columns + 1), and places rows places. BF_NOT_AN_ELEMENT unless each word that is read is below 4.
+    /// leave open is 0. BF_LENGTH unless matrix has rows * columns elements, right rows, solution columns, space
+    /// rows * (columns + 1), and places rows places. BF_NOT_AN_ELEMENT unless each word that is read is below 4.
     /// BF_UNSOLVABLE unless there is a solution.
     pub fn bf_t2_matrix_solve(
         matrix: *const u8,
@@ -1977,8 +1977,8 @@ unsafe extern "C" {
     ) -> u32;
     /// solution: a solution x of matrix * x = right, of rows equations in columns unknowns, in space for rows times
     /// columns + 1 elements and rows places, which may be written whatever the status; an unknown that the others
-    /// leave open is 0. BF_LENGTH unless matrix has rows * columns elements, right rows, solution columns, space rows
-    /// * (columns + 1), and places rows places. BF_NOT_AN_ELEMENT unless each word that is read is below 16.
+    /// leave open is 0. BF_LENGTH unless matrix has rows * columns elements, right rows, solution columns, space
+    /// rows * (columns + 1), and places rows places. BF_NOT_AN_ELEMENT unless each word that is read is below 16.
     /// BF_UNSOLVABLE unless there is a solution.
     pub fn bf_t4_matrix_solve(
         matrix: *const u8,
@@ -2059,8 +2059,8 @@ unsafe extern "C" {
     ) -> u32;
     /// solution: a solution x of matrix * x = right, of rows equations in columns unknowns, in space for rows times
     /// columns + 1 elements and rows places, which may be written whatever the status; an unknown that the others
-    /// leave open is 0. BF_LENGTH unless matrix has rows * columns elements, right rows, solution columns, space rows
-    /// * (columns + 1), and places rows places. BF_UNSOLVABLE unless there is a solution.
+    /// leave open is 0. BF_LENGTH unless matrix has rows * columns elements, right rows, solution columns, space
+    /// rows * (columns + 1), and places rows places. BF_UNSOLVABLE unless there is a solution.
     pub fn bf_t8_matrix_solve(
         matrix: *const u8,
         matrix_length: usize,
@@ -2140,8 +2140,8 @@ unsafe extern "C" {
     ) -> u32;
     /// solution: a solution x of matrix * x = right, of rows equations in columns unknowns, in space for rows times
     /// columns + 1 elements and rows places, which may be written whatever the status; an unknown that the others
-    /// leave open is 0. BF_LENGTH unless matrix has rows * columns elements, right rows, solution columns, space rows
-    /// * (columns + 1), and places rows places. BF_UNSOLVABLE unless there is a solution.
+    /// leave open is 0. BF_LENGTH unless matrix has rows * columns elements, right rows, solution columns, space
+    /// rows * (columns + 1), and places rows places. BF_UNSOLVABLE unless there is a solution.
     pub fn bf_t16_matrix_solve(
         matrix: *const u16,
         matrix_length: usize,
@@ -2221,8 +2221,8 @@ unsafe extern "C" {
     ) -> u32;
     /// solution: a solution x of matrix * x = right, of rows equations in columns unknowns, in space for rows times
     /// columns + 1 elements and rows places, which may be written whatever the status; an unknown that the others
-    /// leave open is 0. BF_LENGTH unless matrix has rows * columns elements, right rows, solution columns, space rows
-    /// * (columns + 1), and places rows places. BF_UNSOLVABLE unless there is a solution.
+    /// leave open is 0. BF_LENGTH unless matrix has rows * columns elements, right rows, solution columns, space
+    /// rows * (columns + 1), and places rows places. BF_UNSOLVABLE unless there is a solution.
     pub fn bf_t32_matrix_solve(
         matrix: *const u32,
         matrix_length: usize,
@@ -2302,8 +2302,8 @@ unsafe extern "C" {
     ) -> u32;
     /// solution: a solution x of matrix * x = right, of rows equations in columns unknowns, in space for rows times
     /// columns + 1 elements and rows places, which may be written whatever the status; an unknown that the others
-    /// leave open is 0. BF_LENGTH unless matrix has rows * columns elements, right rows, solution columns, space rows
-    /// * (columns + 1), and places rows places. BF_UNSOLVABLE unless there is a solution.
+    /// leave open is 0. BF_LENGTH unless matrix has rows * columns elements, right rows, solution columns, space
+    /// rows * (columns + 1), and places rows places. BF_UNSOLVABLE unless there is a solution.
     pub fn bf_t64_matrix_solve(
         matrix: *const u64,
         matrix_length: usize,
@@ -2383,8 +2383,8 @@ unsafe extern "C" {
     ) -> u32;
     /// solution: a solution x of matrix * x = right, of rows equations in columns unknowns, in space for rows times
     /// columns + 1 elements and rows places, which may be written whatever the status; an unknown that the others
-    /// leave open is 0. BF_LENGTH unless matrix has rows * columns elements, right rows, solution columns, space rows
-    /// * (columns + 1), and places rows places. BF_UNSOLVABLE unless there is a solution.
+    /// leave open is 0. BF_LENGTH unless matrix has rows * columns elements, right rows, solution columns, space
+    /// rows * (columns + 1), and places rows places. BF_UNSOLVABLE unless there is a solution.
     pub fn bf_t128_matrix_solve(
         matrix: *const [u64; 2],
         matrix_length: usize,
@@ -2464,8 +2464,8 @@ unsafe extern "C" {
     ) -> u32;
     /// solution: a solution x of matrix * x = right, of rows equations in columns unknowns, in space for rows times
     /// columns + 1 elements and rows places, which may be written whatever the status; an unknown that the others
-    /// leave open is 0. BF_LENGTH unless matrix has rows * columns elements, right rows, solution columns, space rows
-    /// * (columns + 1), and places rows places. BF_UNSOLVABLE unless there is a solution.
+    /// leave open is 0. BF_LENGTH unless matrix has rows * columns elements, right rows, solution columns, space
+    /// rows * (columns + 1), and places rows places. BF_UNSOLVABLE unless there is a solution.
     pub fn bf_r8_matrix_solve(
         matrix: *const u8,
         matrix_length: usize,
@@ -2545,8 +2545,8 @@ unsafe extern "C" {
     ) -> u32;
     /// solution: a solution x of matrix * x = right, of rows equations in columns unknowns, in space for rows times
     /// columns + 1 elements and rows places, which may be written whatever the status; an unknown that the others
-    /// leave open is 0. BF_LENGTH unless matrix has rows * columns elements, right rows, solution columns, space rows
-    /// * (columns + 1), and places rows places. BF_UNSOLVABLE unless there is a solution.
+    /// leave open is 0. BF_LENGTH unless matrix has rows * columns elements, right rows, solution columns, space
+    /// rows * (columns + 1), and places rows places. BF_UNSOLVABLE unless there is a solution.
     pub fn bf_p64_matrix_solve(
         matrix: *const u64,
         matrix_length: usize,
@@ -2626,8 +2626,8 @@ unsafe extern "C" {
     ) -> u32;
     /// solution: a solution x of matrix * x = right, of rows equations in columns unknowns, in space for rows times
     /// columns + 1 elements and rows places, which may be written whatever the status; an unknown that the others
-    /// leave open is 0. BF_LENGTH unless matrix has rows * columns elements, right rows, solution columns, space rows
-    /// * (columns + 1), and places rows places. BF_UNSOLVABLE unless there is a solution.
+    /// leave open is 0. BF_LENGTH unless matrix has rows * columns elements, right rows, solution columns, space
+    /// rows * (columns + 1), and places rows places. BF_UNSOLVABLE unless there is a solution.
     pub fn bf_g128_matrix_solve(
         matrix: *const [u64; 2],
         matrix_length: usize,
@@ -2707,8 +2707,8 @@ unsafe extern "C" {
     ) -> u32;
     /// solution: a solution x of matrix * x = right, of rows equations in columns unknowns, in space for rows times
     /// columns + 1 elements and rows places, which may be written whatever the status; an unknown that the others
-    /// leave open is 0. BF_LENGTH unless matrix has rows * columns elements, right rows, solution columns, space rows
-    /// * (columns + 1), and places rows places. BF_UNSOLVABLE unless there is a solution.
+    /// leave open is 0. BF_LENGTH unless matrix has rows * columns elements, right rows, solution columns, space
+    /// rows * (columns + 1), and places rows places. BF_UNSOLVABLE unless there is a solution.
     pub fn bf_p192_matrix_solve(
         matrix: *const [u64; 3],
         matrix_length: usize,

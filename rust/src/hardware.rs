@@ -25,6 +25,19 @@ use crate::{BinaryField64, BinaryField128, Error, Field, Ghash, Ghash128, Poly64
 pub struct Hardware(());
 
 /// A field whose slices `Hardware` computes on: `Ghash128` and `Poly64`.
+///
+/// ```
+/// use binary_field::{Carryless, Hardware, PrimeCharacteristicRing};
+///
+/// /// The product of each element with itself, by the instruction where there is one.
+/// fn products<F: Carryless>(values: &[F]) -> Vec<F> {
+///     let mut products = vec![F::ZERO; values.len()];
+///     let by = Hardware::begin().map(|it| it.multiply(values, values, &mut products));
+///     by.unwrap_or_else(|| F::multiply_slices(values, values, &mut products)).unwrap();
+///     products
+/// }
+/// assert_eq!(products(&[binary_field::Poly64::new(3)]), [binary_field::Poly64::new(5)]);
+/// ```
 pub trait Carryless: Field {
     #[doc(hidden)]
     fn each_product(left: &[Self], right: &[Self], products: &mut [Self]) -> u32;
@@ -92,6 +105,17 @@ carryless! {
 
 /// A hash of a message in pieces that `Hardware` goes on with: `Ghash` and `Polyval`. What their own methods left and what `Hardware` left
 /// is the same, so that a message may go by both.
+///
+/// ```
+/// use binary_field::{Ghash, Hardware, ghash};
+///
+/// if let Some(hardware) = Hardware::begin() {
+///     let mut hash: Ghash = hardware.new_hash(&[7; 16]);
+///     hardware.update(&mut hash, b"one piece, ");
+///     hash.update(b"and another");
+///     assert_eq!(hardware.finalize(hash), ghash(&[7; 16], b"one piece, and another"));
+/// }
+/// ```
 pub trait HashInPieces: Sized {
     #[doc(hidden)]
     fn of_key(key: &[u8; 16]) -> Self;

@@ -1,11 +1,15 @@
-//! Binary fields, computed by a library whose functions are proved. Trusted and not proved are this crate, rustc and the linker.
+//! Binary fields, computed by a library whose functions are proved. Trusted and not proved are this crate, rustc and the linker. What the
+//! crate computes without the library is tested: operators of single elements of at most a byte, which look up tables, sums, rows of bits,
+//! challengers and transcripts.
 //!
 //! An element is an unsigned number, its representation, and a sum is the exclusive or. In the tower the low half of the bits is
 //! the part without the root; in a polynomial basis bit i is the coefficient of x^i. Nothing is claimed on timing. The names are those
-//! of p3-binary-field and of the traits of p3-field; SWAP.md says what a program over those changes.
+//! of p3-binary-field and of the traits of p3-field, which are traits of this crate and not those; SWAP.md says what a program over those
+//! changes.
 //!
 //! `scripts/build-library FOLDER` makes the library, and cargo finds it by `BINARY_FIELD_LIBRARY=FOLDER/lib`. A sum is computed in
-//! place; every other operator is a call of the library over slices of one element, and the functions over slices cost less an element.
+//! place; every other operator of a field above a byte is a call of the library over slices of one element, and the functions over slices
+//! cost less an element.
 //!
 //! Three features are off by default, and stand in the manifest `features/Cargo.toml`. With `serde` an element is the number of its
 //! representation (`Poly192` the array of its coefficients), and a number above the field is refused. With `rand` the distribution
@@ -28,10 +32,15 @@
 #![no_std]
 #![warn(missing_docs)]
 
+extern crate alloc;
+
 #[macro_use]
 mod field_macros;
 
+mod aes;
+mod bits;
 mod bytes;
+pub mod challenger;
 mod erasure;
 #[rustfmt::skip]
 mod error;
@@ -50,16 +59,22 @@ mod maps;
 mod matrices;
 mod packed;
 pub mod poly_basis;
+mod prime;
 mod processor;
+mod raw_data;
 mod ring;
+mod small;
 mod space;
 mod text;
 mod words;
 
-pub use bytes::{
-    Ghash, Polyval, Prepared, RawDataSerializable, ReedSolomon, gcm_ghash, ghash, polyval,
-    tags_are_equal,
+pub use aes::{ByteMatrix, LinearizedPoly8b};
+pub use bits::{
+    Divisible, M128, M256, M512, PackedGf2, PackedGf2x8, PackedGf2x16, PackedGf2x32, PackedGf2x64,
+    PackedGf2x128, PackedGf2x256, PackedGf2x512, Underlier, Word,
 };
+pub use bytes::{Ghash, Polyval, Prepared, ReedSolomon, gcm_ghash, ghash, polyval, tags_are_equal};
+pub use challenger::BinaryChallenger;
 pub use erasure::TransformCode;
 pub use error::Error;
 pub use field::Field;
@@ -74,8 +89,17 @@ pub use maps::{
     linear_map_of_bytes, low_stages, transform,
 };
 pub use matrices::Matrices;
-pub use packed::{Packed, PackedGhash128, PackedRijndael8b, PackedValue};
+use packed::PACKING;
+pub use packed::{
+    Packable, Packed, PackedField, PackedFieldExtension, PackedFieldPow2, PackedGhash128,
+    PackedRijndael8b, PackedValue,
+};
+pub use prime::{Order, PrimeField, PrimeField32, PrimeField64, QuotientMap};
 pub use processor::processor;
+pub use raw_data::RawDataSerializable;
 pub use ring::{Powers, PrimeCharacteristicRing};
-pub use space::{Algebra, BasedVectorSpace, ExtensionField, HasFrobenius, HasSubfield, TowerLevel};
+pub use space::{
+    Algebra, AlgebraIdentity, BasedVectorSpace, ExtensionField, HasFrobenius, HasSubfield,
+    TowerLevel,
+};
 pub use text::{Answer, ParseError, answer};

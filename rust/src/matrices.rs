@@ -8,6 +8,17 @@ use crate::{
 
 /// Matrices over a field. A call fails with `Error::Length` where a slice has another length than it says, and then changes nothing. What it
 /// works in, `space` and `places`, may have anything before; behind the call nothing is said of it.
+///
+/// ```
+/// use binary_field::{Error, Matrices, Poly64};
+///
+/// let matrix = [1, 2, 3, 4].map(Poly64::new);
+/// let (mut inverse, mut product) = ([Poly64::new(0); 4], [Poly64::new(0); 4]);
+/// Poly64::matrix_inverse(&matrix, 2, &mut inverse, &mut [Poly64::new(0); 8], &mut [0; 2])?;
+/// Poly64::matrix_multiply(&matrix, &inverse, &mut product, 2, 2, 2)?;
+/// assert_eq!(product, [1, 0, 0, 1].map(Poly64::new));
+/// # Ok::<(), Error>(())
+/// ```
 pub trait Matrices: Field {
     /// Writes the product of `left`, of `rows` rows of `inner` elements, and `right`, of `inner` rows of `columns` elements.
     fn matrix_multiply(

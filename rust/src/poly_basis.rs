@@ -4,9 +4,17 @@ use crate::functions::{bf_g128_multiply_by, bf_g128_to_t128, bf_t128_to_g128};
 use crate::{BinaryField128, Error, Ghash128, PrimeCharacteristicRing, maps};
 
 /// Whether products use an instruction of the processor: none does.
+///
+/// ```
+/// assert!(!binary_field::poly_basis::HAS_HARDWARE_CLMUL);
+/// ```
 pub const HAS_HARDWARE_CLMUL: bool = false;
 
 /// How many stages `LowStageTwiddles::forward` runs.
+///
+/// ```
+/// assert_eq!(1 << binary_field::poly_basis::LOW_STAGES, 16);
+/// ```
 pub const LOW_STAGES: usize = 4;
 
 // How many numbers are changed in place at once.
@@ -16,16 +24,43 @@ const BLOCK: usize = 64;
 const LONGEST_BASIS: usize = 128;
 
 /// The image of an element of the tower.
+///
+/// ```
+/// use binary_field::BinaryField128;
+/// use binary_field::poly_basis::{from_tower, mul, to_tower};
+///
+/// let (x, y) = (BinaryField128::new(1 << 64), BinaryField128::new(1 << 100));
+/// assert_eq!(to_tower(mul(from_tower(x), from_tower(y))), x * y);
+/// ```
 pub fn from_tower(element: BinaryField128) -> u128 {
     Ghash128::from(element).to_bits()
 }
 
 /// The element of the tower whose image it is.
+///
+/// ```
+/// use binary_field::BinaryField128;
+/// use binary_field::poly_basis::{from_tower, mul, to_tower};
+///
+/// let (x, y) = (BinaryField128::new(1 << 64), BinaryField128::new(1 << 100));
+/// assert_eq!(to_tower(mul(from_tower(x), from_tower(y))), x * y);
+/// ```
 pub fn to_tower(number: u128) -> BinaryField128 {
     BinaryField128::from(Ghash128::new(number))
 }
 
 /// Leaves the image of each element of the tower.
+///
+/// ```
+/// use binary_field::BinaryField128;
+/// use binary_field::poly_basis::{from_tower, from_tower_slice, to_tower_slice};
+///
+/// let mut values = [1 << 64, 1];
+/// from_tower_slice(&mut values);
+/// assert_eq!(values, [from_tower(BinaryField128::new(1 << 64)), 1]);
+/// to_tower_slice(&mut values);
+/// assert_eq!(values, [1 << 64, 1]);
+/// ```
 pub fn from_tower_slice(values: &mut [u128]) {
     in_place(
         values,
@@ -34,6 +69,17 @@ pub fn from_tower_slice(values: &mut [u128]) {
 }
 
 /// Leaves the element of the tower whose image each number is.
+///
+/// ```
+/// use binary_field::BinaryField128;
+/// use binary_field::poly_basis::{from_tower, from_tower_slice, to_tower_slice};
+///
+/// let mut values = [1 << 64, 1];
+/// from_tower_slice(&mut values);
+/// assert_eq!(values, [from_tower(BinaryField128::new(1 << 64)), 1]);
+/// to_tower_slice(&mut values);
+/// assert_eq!(values, [1 << 64, 1]);
+/// ```
 pub fn to_tower_slice(values: &mut [u128]) {
     in_place(
         values,
@@ -42,16 +88,30 @@ pub fn to_tower_slice(values: &mut [u128]) {
 }
 
 /// The product.
+///
+/// ```
+/// assert_eq!(binary_field::poly_basis::mul(1 << 127, 2), 0x87);
+/// ```
 pub fn mul(left: u128, right: u128) -> u128 {
     (Ghash128::new(left) * Ghash128::new(right)).to_bits()
 }
 
 /// The square.
+///
+/// ```
+/// assert_eq!(binary_field::poly_basis::square(1 << 64), 0x87);
+/// ```
 pub fn square(value: u128) -> u128 {
     Ghash128::new(value).square().to_bits()
 }
 
 /// Multiplies each number by the scalar.
+///
+/// ```
+/// let mut values = [1 << 127, 3];
+/// binary_field::poly_basis::mul_slice(&mut values, 2);
+/// assert_eq!(values, [0x87, 6]);
+/// ```
 pub fn mul_slice(values: &mut [u128], scalar: u128) {
     let scalar = (&raw const scalar).cast();
     in_place(
@@ -65,6 +125,16 @@ pub fn mul_slice(values: &mut [u128], scalar: u128) {
 /// # Panics
 ///
 /// Where the lengths differ.
+///
+/// ```
+/// use binary_field::poly_basis::{butterfly_forward, butterfly_inverse};
+///
+/// let (mut low, mut high) = ([5], [3]);
+/// butterfly_forward(&mut low, &mut high, 2);
+/// assert_eq!((low, high), ([3], [0]));
+/// butterfly_inverse(&mut low, &mut high, 2);
+/// assert_eq!((low, high), ([5], [3]));
+/// ```
 pub fn butterfly_forward(low: &mut [u128], high: &mut [u128], scalar: u128) {
     let scalar = Ghash128::new(scalar);
     maps::butterfly_forward(elements(low), elements(high), scalar)
@@ -76,6 +146,16 @@ pub fn butterfly_forward(low: &mut [u128], high: &mut [u128], scalar: u128) {
 /// # Panics
 ///
 /// Where the lengths differ.
+///
+/// ```
+/// use binary_field::poly_basis::{butterfly_forward, butterfly_inverse};
+///
+/// let (mut low, mut high) = ([5], [3]);
+/// butterfly_forward(&mut low, &mut high, 2);
+/// assert_eq!((low, high), ([3], [0]));
+/// butterfly_inverse(&mut low, &mut high, 2);
+/// assert_eq!((low, high), ([5], [3]));
+/// ```
 pub fn butterfly_inverse(low: &mut [u128], high: &mut [u128], scalar: u128) {
     let scalar = Ghash128::new(scalar);
     maps::butterfly_inverse(elements(low), elements(high), scalar)
@@ -83,6 +163,16 @@ pub fn butterfly_inverse(low: &mut [u128], high: &mut [u128], scalar: u128) {
 }
 
 /// The factors of the four lowest stages of an additive transform.
+///
+/// ```
+/// use binary_field::poly_basis::LowStageTwiddles;
+///
+/// let twiddles = LowStageTwiddles::new(&[0; 4], &[2, 4, 8]);
+/// let mut values = [0; 16];
+/// values[0] = 9;
+/// twiddles.forward(&mut values, 0);
+/// assert_eq!(values, [9; 16]);
+/// ```
 #[derive(Clone, Debug)]
 pub struct LowStageTwiddles {
     shifts: [Ghash128; LOW_STAGES],

@@ -1,12 +1,14 @@
 //! What elements and packings share: rings of characteristic two.
 
+use crate::{Field, PrimeField};
+use alloc::vec::Vec;
 use core::fmt::Debug;
 use core::iter::{Product, Sum};
 use core::ops::{Add, AddAssign, Mul, MulAssign, Neg, Sub, SubAssign};
 
 macro_rules! integers {
-    ($($(#[$about:meta])* $name:ident($integer:ty);)*) => {$(
-        $(#[$about])*
+    ($($name:ident($integer:ty);)*) => {$(
+        /// The image of an integer: ONE of an odd one, ZERO of an even one.
         fn $name(number: $integer) -> Self {
             Self::from_bool(number & 1 == 1)
         }
@@ -14,6 +16,16 @@ macro_rules! integers {
 }
 
 /// A ring in which x + x = 0, so that a difference is a sum. The integers are those modulo two: n is ONE where n is odd, else ZERO.
+///
+/// ```
+/// use binary_field::{Ghash128, Packed, PrimeCharacteristicRing};
+///
+/// fn polynomial<R: PrimeCharacteristicRing>(x: R) -> R {
+///     x.cube() + x.double() + R::from_u8(7)
+/// }
+/// assert_eq!(polynomial(Ghash128::new(2)), Ghash128::new(9));
+/// assert_eq!(polynomial(Packed([Ghash128::new(2); 4])).0, [Ghash128::new(9); 4]);
+/// ```
 pub trait PrimeCharacteristicRing:
     Copy
     + Debug
@@ -30,8 +42,8 @@ pub trait PrimeCharacteristicRing:
     + Sum
     + Product
 {
-    /// GF(2).
-    type PrimeSubfield: Copy + Into<u8>;
+    /// The integers modulo two.
+    type PrimeSubfield: PrimeField;
 
     /// The sum of none.
     const ZERO: Self;
@@ -47,7 +59,7 @@ pub trait PrimeCharacteristicRing:
 
     /// The image of a bit.
     fn from_prime_subfield(bit: Self::PrimeSubfield) -> Self {
-        Self::from_bool(bit.into() == 1)
+        Self::from_bool(bit.is_one())
     }
 
     /// ONE of true, ZERO of false.
@@ -56,35 +68,48 @@ pub trait PrimeCharacteristicRing:
     }
 
     integers! {
-        /// The image of an integer. So it is below.
         from_u8(u8);
-        #[allow(missing_docs)]
         from_u16(u16);
-        #[allow(missing_docs)]
         from_u32(u32);
-        #[allow(missing_docs)]
         from_u64(u64);
-        #[allow(missing_docs)]
         from_u128(u128);
-        #[allow(missing_docs)]
         from_usize(usize);
-        #[allow(missing_docs)]
         from_i8(i8);
-        #[allow(missing_docs)]
         from_i16(i16);
-        #[allow(missing_docs)]
         from_i32(i32);
-        #[allow(missing_docs)]
         from_i64(i64);
-        #[allow(missing_docs)]
         from_i128(i128);
-        #[allow(missing_docs)]
         from_isize(isize);
     }
 
     /// x + x, which is ZERO.
     fn double(&self) -> Self {
         Self::ZERO
+    }
+
+    /// The y with y + y = x, of which there is none, or every y where x is ZERO.
+    ///
+    /// # Panics
+    ///
+    /// Always.
+    #[track_caller]
+    fn halve(&self) -> Self {
+        panic!("in characteristic two nothing is halved")
+    }
+
+    /// 2^`exponent` · x: x itself to the exponent 0, and else ZERO.
+    fn mul_2exp_u64(&self, exponent: u64) -> Self {
+        if exponent == 0 { *self } else { Self::ZERO }
+    }
+
+    /// x divided by 2^`exponent`.
+    ///
+    /// # Panics
+    ///
+    /// Always, also for the exponent 0.
+    #[track_caller]
+    fn div_2exp_u64(&self, exponent: u64) -> Self {
+        panic!("in characteristic two nothing is divided by 2^{exponent}")
     }
 
     /// x · x.
@@ -125,7 +150,7 @@ pub trait PrimeCharacteristicRing:
         power
     }
 
-    /// x to the power 2^`log`: so many squarings.
+    /// x to the power 2^`log`: so many squarings, which in a field depend on `log` modulo its bits alone.
     fn exp_power_of_2(&self, log: usize) -> Self {
         (0..log).fold(*self, |power, _| power.square())
     }
@@ -147,9 +172,21 @@ pub trait PrimeCharacteristicRing:
     fn dot_product<const N: usize>(left: &[Self; N], right: &[Self; N]) -> Self {
         left.iter().zip(right).map(|(&x, &y)| x * y).sum()
     }
+
+    /// ZERO so many times.
+    fn zero_vec(length: usize) -> Vec<Self> {
+        alloc::vec![Self::ZERO; length]
+    }
 }
 
 /// The powers of an element, from a first value on.
+///
+/// ```
+/// use binary_field::{Poly64, PrimeCharacteristicRing};
+///
+/// let powers: Vec<u64> = Poly64::new(2).powers().take(4).map(Poly64::to_bits).collect();
+/// assert_eq!(powers, [1, 2, 4, 8]);
+/// ```
 #[derive(Clone, Copy, Debug)]
 pub struct Powers<R> {
     /// The factor from each value to the next.

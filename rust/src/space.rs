@@ -1,6 +1,11 @@
 //! Levels of the tower, and fields as spaces and extensions of smaller ones.
 
-use crate::{BinaryField2, BinaryField128, Field, PrimeCharacteristicRing};
+use crate::{
+    BinaryField2, BinaryField128, Field, PACKING, Packed, PackedFieldExtension,
+    PrimeCharacteristicRing,
+};
+use alloc::vec::Vec;
+use core::ops::{Add, AddAssign, Mul, MulAssign, Sub, SubAssign};
 
 pub(crate) mod sealed {
     /// It keeps other types from being levels.
@@ -8,6 +13,14 @@ pub(crate) mod sealed {
 }
 
 /// A level of the tower GF(2), GF(2^2), GF(2^4), .. GF(2^128), or a field in a polynomial basis that is isomorphic to one.
+///
+/// ```
+/// use binary_field::{BinaryField16, TowerLevel};
+///
+/// let x = BinaryField16::from_repr(0x0100);
+/// assert_eq!((BinaryField16::LOG_BITS, x.mul_alpha().to_repr()), (4, 0x1001));
+/// assert_eq!(BinaryField16::cantor_basis(1), BinaryField16::from_repr(2));
+/// ```
 pub trait TowerLevel: Field + sealed::Sealed {
     /// The number that an element is stored as.
     type Repr: Copy;
@@ -39,12 +52,54 @@ pub trait TowerLevel: Field + sealed::Sealed {
     fn cantor_basis(index: usize) -> Self;
 }
 
-/// A ring that has the elements of F, by `From`.
-pub trait Algebra<F>: PrimeCharacteristicRing + From<F> {}
+/// A ring that has the elements of F, by `From`, which may stand on the right of its operators.
+///
+/// ```
+/// use binary_field::{Algebra, BinaryField8, BinaryField128, Field, PrimeCharacteristicRing};
+///
+/// fn line<F: Field, A: Algebra<F>>(slope: F, first: F, x: A) -> A {
+///     x * slope + first
+/// }
+/// let (slope, x) = (BinaryField8::new(3), BinaryField128::new(1 << 64));
+/// assert_eq!(line(slope, BinaryField8::ONE, x), BinaryField128::new(3 << 64 | 1));
+/// ```
+pub trait Algebra<F>:
+    PrimeCharacteristicRing
+    + From<F>
+    + Add<F, Output = Self>
+    + AddAssign<F>
+    + Sub<F, Output = Self>
+    + SubAssign<F>
+    + Mul<F, Output = Self>
+    + MulAssign<F>
+{
+}
+
+/// A name of the algebra, by which transcripts tell two of them apart.
+///
+/// ```
+/// use binary_field::{AlgebraIdentity, BinaryField8, BinaryField128};
+///
+/// let name = <BinaryField128 as AlgebraIdentity<BinaryField8>>::algebra_id();
+/// assert_eq!(name, b"p3-Wiedemann-tower-v1:chunk-basis:8:128");
+/// ```
+pub trait AlgebraIdentity<F>: Algebra<F> {
+    /// The name, in ASCII.
+    fn algebra_id() -> Vec<u8>;
+}
 
 impl<F: Field> Algebra<F> for F {}
 
 /// A space over F whose elements are stored as their coefficients, one behind the other.
+///
+/// ```
+/// use binary_field::{BasedVectorSpace, BinaryField32, BinaryField128};
+///
+/// let x = BinaryField128::from_basis_coefficients_fn(|place| BinaryField32::new(place as u32 + 1));
+/// assert_eq!(x, BinaryField128::new(0x00000004_00000003_00000002_00000001));
+/// let coefficients: &[BinaryField32] = x.as_basis_coefficients_slice();
+/// assert_eq!(coefficients[3], BinaryField32::new(4));
+/// ```
 pub trait BasedVectorSpace<F: Field>: Sized {
     /// How many coefficients an element has.
     const DIMENSION: usize;
@@ -71,6 +126,27 @@ pub trait BasedVectorSpace<F: Field>: Sized {
             })
         })
     }
+
+    /// The coefficients of elements, one element behind the other.
+    fn flatten_to_base(elements: Vec<Self>) -> Vec<F> {
+        let coefficients = |it: &Self| it.as_basis_coefficients_slice().to_vec();
+        elements.iter().flat_map(coefficients).collect()
+    }
+
+    /// The elements that have these coefficients.
+    ///
+    /// # Panics
+    ///
+    /// Where they are no whole number of elements.
+    fn reconstitute_from_base(coefficients: Vec<F>) -> Vec<Self> {
+        let elements = coefficients.chunks_exact(Self::DIMENSION);
+        assert!(
+            elements.remainder().is_empty(),
+            "coefficients of whole elements"
+        );
+        let element = |it: &[F]| Self::from_basis_coefficients_fn(|place| it[place]);
+        elements.map(element).collect()
+    }
 }
 
 impl<F: Field> BasedVectorSpace<F> for F {
@@ -85,8 +161,21 @@ impl<F: Field> BasedVectorSpace<F> for F {
     }
 }
 
-/// A field that has F as a subfield, of which its elements are coefficients.
+/// A field that has F as a subfield, whose elements are the coefficients of its own.
+///
+/// ```
+/// use binary_field::{BinaryField8, BinaryField64, ExtensionField, Field};
+///
+/// fn scaled<F: Field, E: ExtensionField<F>>(x: E, y: F) -> E {
+///     x * y
+/// }
+/// let x = scaled(BinaryField64::from(BinaryField8::new(7)), BinaryField8::new(2));
+/// assert_eq!(x.as_base(), Some(BinaryField8::new(7) * BinaryField8::new(2)));
+/// ```
 pub trait ExtensionField<F: Field>: Field + Algebra<F> + BasedVectorSpace<F> {
+    /// As many elements as a packing of F has.
+    type ExtensionPacking: PackedFieldExtension<F, Self>;
+
     /// Whether it is an element of F.
     fn is_in_basefield(&self) -> bool {
         self.as_base().is_some()
@@ -97,12 +186,22 @@ pub trait ExtensionField<F: Field>: Field + Algebra<F> + BasedVectorSpace<F> {
 }
 
 impl<F: Field> ExtensionField<F> for F {
+    type ExtensionPacking = Packed<F, PACKING>;
+
     fn as_base(&self) -> Option<F> {
         Some(*self)
     }
 }
 
 /// The automorphisms of an extension that leave F as it is.
+///
+/// ```
+/// use binary_field::{HasFrobenius, Poly192};
+///
+/// let y = Poly192::from([0, 1, 0]);
+/// assert_eq!(y.frobenius(), Poly192::from([0, 0, 1]));
+/// assert_eq!(y.repeated_frobenius(3), y);
+/// ```
 pub trait HasFrobenius<F: Field>: ExtensionField<F> {
     /// The element to the power of as many as F has elements.
     fn frobenius(&self) -> Self {
@@ -113,11 +212,21 @@ pub trait HasFrobenius<F: Field>: ExtensionField<F> {
     fn repeated_frobenius(&self, count: usize) -> Self {
         self.exp_power_of_2(F::bits() * (count % Self::DIMENSION))
     }
+
+    /// The inverse, and ZERO of ZERO.
+    fn pseudo_inv(&self) -> Self {
+        self.invert_or_zero()
+    }
 }
 
-impl<F: Field, E: ExtensionField<F>> HasFrobenius<F> for E {}
-
 /// A field that has F as a subfield, of which it is no space of stored coefficients.
+///
+/// ```
+/// use binary_field::{BinaryField2, BinaryField128, HasSubfield};
+///
+/// assert_eq!(BinaryField128::new(3).as_subfield(), BinaryField2::new(3));
+/// assert_eq!(BinaryField128::new(4).as_subfield(), None);
+/// ```
 pub trait HasSubfield<F>: Algebra<F> {
     /// The element of F that it is.
     fn as_subfield(&self) -> Option<F>;

@@ -5,6 +5,12 @@ use crate::functions::bf_answer;
 use core::fmt;
 
 /// A text, or a number, that is no element of the field.
+///
+/// ```
+/// use binary_field::{BinaryField4, ParseError};
+///
+/// assert_eq!(("0xf".parse(), "16".parse::<BinaryField4>()), (Ok(BinaryField4::new(15).unwrap()), Err(ParseError)));
+/// ```
 #[derive(Clone, Copy, Debug, PartialEq, Eq, Hash)]
 pub struct ParseError;
 

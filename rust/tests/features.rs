@@ -62,6 +62,21 @@ fn drawn_elements_return_from_their_numbers() {
 }
 
 #[test]
+fn packings_and_rows_are_drawn_place_by_place() {
+    let (mut source, mut again) = (Source(5), Source(5));
+    let packing: Packed<Ghash128, 4> = source.r#gen();
+    assert_eq!(packing.0, [(); 4].map(|_| again.r#gen::<Ghash128>()));
+    let row: PackedGf2x256 = source.r#gen();
+    assert_eq!(row.words(), [(); 4].map(|_| again.next_u64()));
+    let polynomial = LinearizedPoly8b::new([7; 8].map(Rijndael8b::new));
+    let text = serde_json::to_string(&polynomial).unwrap();
+    assert_eq!(
+        (text.as_str(), serde_json::from_str(&text).ok()),
+        ("[7,7,7,7,7,7,7,7]", Some(polynomial))
+    );
+}
+
+#[test]
 fn numbers_are_those_of_representations() {
     let text = |value: &dyn Fn() -> serde_json::Result<String>| value().unwrap();
     assert_eq!(

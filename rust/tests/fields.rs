@@ -200,6 +200,8 @@ fn texts_are_read_back() {
     assert_eq!(ParseError.to_string(), "not an element of the field");
 }
 
+// The references are what is tried.
+#[allow(clippy::op_ref)]
 #[test]
 fn operators_take_references() {
     let (mut a, b) = (Ghash128::new(1 << 127), Ghash128::new(3));

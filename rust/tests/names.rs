@@ -108,14 +108,11 @@ fn of_level<F: TowerLevel + RawDataSerializable>(make: impl Fn(u128) -> F) -> u6
 // What an element as a vector over a smaller field gives.
 fn of_extension<
     F: Field + RawDataSerializable,
-    E: ExtensionField<F> + HasFrobenius<F> + Algebra<F>,
+    E: ExtensionField<F> + HasFrobenius<F> + Algebra<F> + RawDataSerializable,
 >(
     x: E,
     y: F,
-) -> u64
-where
-    E: RawDataSerializable,
-{
+) -> u64 {
     let coefficients = x.as_basis_coefficients_slice();
     assert_eq!(coefficients.len(), <E as BasedVectorSpace<F>>::DIMENSION);
     let mut hash = EMPTY;
