@@ -13,6 +13,7 @@ from typing import Any, TypeVar
 
 import numpy as np
 
+from . import _bits
 from ._facts import Facts
 from ._library import PLACE, Words, call, packed
 
@@ -235,7 +236,10 @@ def product(left: M, right: M) -> M:
         shape_of_each = rows.shape[1], inner, columns.shape[2]
         rows, columns = packed(rows._words), packed(columns._words)
         for at in range(size):
-            call(f"{left._name}_matrix_multiply", rows[at], columns[at], result._words[at], *shape_of_each)
+            if _bits.are_many(left._name, *shape_of_each):
+                result._words[at] = _bits.multiply(rows[at], columns[at])
+            else:
+                call(f"{left._name}_matrix_multiply", rows[at], columns[at], result._words[at], *shape_of_each)
     else:
         for at in range(inner):
             _add_multiples(result, rows[:, :, at], columns[:, at])
@@ -270,7 +274,10 @@ def echelon(matrices: M) -> tuple[M, Any]:
     result, ranks, pivots = matrices.copy(), np.zeros(count, PLACE), np.empty(rows, PLACE)
     stack: Any = result.reshape(count, rows, columns)
     for at in range(count):
-        call(f"{matrices._name}_matrix_row_reduce", stack._words[at], rows, columns, pivots, ranks[at : at + 1])
+        if _bits.are_many(matrices._name, rows, rows, columns):
+            stack._words[at] = _bits.row_reduce(stack._words[at], ranks[at : at + 1])
+        else:
+            call(f"{matrices._name}_matrix_row_reduce", stack._words[at], rows, columns, pivots, ranks[at : at + 1])
     return result, ranks.astype(np.intp).reshape(shape)[()]
 
 
