@@ -1,9 +1,9 @@
 #!/usr/bin/env python3
-"""Writes the index of the scripts, scripts/README.md, and that of the tests, tests/README.md, from the first sentence of each file. With --check
-it compares instead.
+"""Writes the index of the scripts, scripts/README.md, and that of the tests, tests/README.md, from the first sentence of
+each file. With --check it compares instead.
 
-A command is a file that may be executed; what has no such right is a module or a table that commands read. The first sentence is that of the
-text of a module of Python, of the comment at the head of a script, or of its USAGE.
+A command is a file that may be executed; what has no such right is a module or a table that commands read. The first
+sentence is that of the text of a module of Python, of the comment at the head of a script, or of its USAGE.
 """
 
 import ast
@@ -21,10 +21,15 @@ GROUPS = [
     ("Commands", r".*"),
 ]
 HEADS = {
-    "scripts": "# Scripts\n\nEach command answers `--help`, and does nothing then. A writer is called by the name that the files which it writes have in their first "
-    "lines. Programs\nare run by `./binfield`, `./tag`, `./shards` and `./prove_sums` at the top, which are links to run-program.",
-    "tests": "# Tests\n\nWhat callers of the library and users of the programs do. scripts/test-library, scripts/test-hardware, scripts/test-release and .ci/run "
-    "run these;\ntests of Rattle stand in the crates.",
+    "scripts": """# Scripts
+
+Each command answers `--help`, and does nothing then. A writer is called by the name that the files which it writes have
+in their first lines. Programs are run by `./binfield`, `./tag`, `./shards` and `./prove_sums` at the top, which are
+links to run-program.""",
+    "tests": """# Tests
+
+What callers of the library and users of the programs do. The commands test-.. of scripts/ and .ci/run run these; tests
+of Rattle stand in the crates.""",
 }
 
 
