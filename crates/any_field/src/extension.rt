@@ -13,9 +13,11 @@ mod values;
 pub use crate::extension::embeddings::Embedding;
 use crate::irreducible::is_irreducible;
 use crate::reduction::{low_bits, multiply, ratio_of};
+use thiserror::Error;
 
 /// That no field has the modulus: it is no irreducible polynomial of degree 1 to 128.
-#[derive(Clone, Copy, Debug, PartialEq, Eq)]
+#[derive(Clone, Copy, Debug, PartialEq, Eq, Error)]
+#[error("the modulus is no irreducible polynomial of degree 1 to 128")]
 pub struct NotIrreducible;
 
 /// A field of 2^degree elements: the binary polynomials modulo x^degree + tail, an irreducible one of degree 1 to 128. An element is a word
