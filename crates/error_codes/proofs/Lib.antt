@@ -2,6 +2,7 @@ pub mod Marks
 pub mod ByteTables
 pub mod CodeValues
 pub mod Encoding
+pub mod Orders
 pub mod Products
 pub mod Agreement
 pub mod Lists

@@ -6,6 +6,7 @@ mod code;
 mod encoder;
 mod error;
 pub mod laws;
+mod standards;
 #[cfg(test)]
 mod tests;
 

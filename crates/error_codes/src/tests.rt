@@ -11,7 +11,7 @@ const SYMBOL: [u8; 26] = [
 
 #[test]
 fn a_symbol_is_encoded(rt: HostRuntime) -> Result<(), Fail> {
-    let code = CorrectingCode::new(ByteField::Qr, 26, 16, 0, 1)?;
+    let code = CorrectingCode::qr(26, 16)?;
     let mut word = SYMBOL;
     for i in 16..26 {
         word[i] = 0;
@@ -27,13 +27,14 @@ fn a_symbol_is_encoded(rt: HostRuntime) -> Result<(), Fail> {
 
 #[test]
 fn codes_of_telemetry_and_of_too_many_symbols(rt: HostRuntime) -> Result<(), Fail> {
-    let code = CorrectingCode::new(ByteField::Ccsds, 255, 223, 112, 11)?;
+    let code = CorrectingCode::ccsds_223();
     assert_eq!(rt; (code.word_length(), code.dimension()), (255, 223));
     let mut word = [7; 255];
     code.encode(&mut word);
     assert!(rt; code.is_code_word(&word));
     word[254] ^= 1;
     assert!(rt; !code.is_code_word(&word));
+    assert_eq!(rt; CorrectingCode::dvb_188().word_length(), 204);
     assert!(rt; CorrectingCode::new(ByteField::Rijndael, 256, 9, 0, 1).is_err());
     assert!(rt; CorrectingCode::new(ByteField::Rijndael, 9, 9, 0, 1).is_err());
     assert!(rt; CorrectingCode::new(ByteField::Rijndael, 86, 9, 0, 3).is_err());
