@@ -55,8 +55,9 @@ fn shift_rest(
 }
 
 impl CorrectingCode {
-    /// Writes the symbols behind the data, so that the word is a code word. What stood there is not read, and there is
-    /// one code word with these data.
+    /// Writes the symbols behind the data, so that the polynomial of the word is 0 at every root. What stood there is
+    /// not read. No other word of the code has these data: it would differ at no more places than there are roots
+    /// (`laws::sent_is_unique`).
     pub fn encode(&self, word: &mut [u8])
         requires { length word.old ≡ self.now.word_length }
         ensures long { length word.new ≡ length word.old }
