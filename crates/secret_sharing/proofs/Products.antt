@@ -1,4 +1,5 @@
--- Products by doubling: each column is twice the one before, and the sum of the columns at the bits of a byte is its product.
+-- Products by doubling: each column is twice the one before, and the sum of the columns at the bits of a byte is its
+-- product.
 use Rattle.std.proofs.Common.{◌≡◌, ℕ, zero, suc, ◌+◌, ◌*◌, ◌/◌, ◌%◌, ◌^◌, ◌<◌, inl, inr, Bool, true, ◌&&◌, eqb, List, [], ◌∷◌, refl, sym, ◌∙◌, ap, subst, arith, lit<}
 use Rattle.std.specs.Prelude.{bit_xor, slice_index}
 use Rattle.std.proofs.lemmas.Bool.{eqb-true, and_parts}

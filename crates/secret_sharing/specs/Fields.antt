@@ -1,4 +1,5 @@
--- The two fields of bytes over which secrets are shared. A byte is a binary polynomial, of which bit i is the coefficient of x^i.
+-- The two fields of bytes over which secrets are shared. A byte is a binary polynomial, of which bit i is the
+-- coefficient of x^i.
 use Rattle.std.specs.Prelude.{ℕ}
 use Rattle.field_base.specs.Remainder.{aes_modulus, mul_mod}
 use Rattle.reed_solomon.specs.ErasureField.{erasure_modulus}

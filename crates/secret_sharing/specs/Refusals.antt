@@ -6,7 +6,8 @@ use Rattle.secret_sharing.specs.declared.error.SharingError.{SharingError}
 use Rattle.secret_sharing.specs.declared.error.SharingError.TheVariants.{EmptySecret, EqualIndexes, TooFewNeeded, TooFewShares, TooManyShares, UnequalLengths, WrongDraws, WrongShare, ZeroIndex}
 use Rattle.secret_sharing.specs.declared.field.ShareField.{ShareField}
 
--- a secret of `size` bytes can be split, by so many drawn bytes, into shares of so many bytes in all: k of `count` shares are needed
+-- a secret of `size` bytes can be split, by so many drawn bytes, into shares of so many bytes in all: k of `count`
+-- shares are needed
 pub record CanSplit (k count size drawn bytes : ℕ) : Type 0 where
   pub two : 2 ≤ k
   pub enough : k ≤ count

@@ -1,6 +1,6 @@
--- What shares are good for: any k of them restore the secret, and k - 1 say nothing of it, since each secret has exactly one choice of
--- drawn bytes that gives them (A. Shamir, How to share a secret, 1979; perfect secrecy as C. E. Shannon has it, Communication theory of
--- secrecy systems, 1949).
+-- What shares are good for: any k of them restore the secret, and k - 1 say nothing of it, since each secret has
+-- exactly one choice of drawn bytes that gives them (A. Shamir, How to share a secret, 1979; perfect secrecy as C. E.
+-- Shannon has it, Communication theory of secrecy systems, 1949).
 use Rattle.std.specs.Prelude.{◌≡◌, ℕ, ◌+◌, ◌-◌, ◌*◌, ◌^◌, ◌<◌, ◌≤◌, List, ◌∷◌, cond, length, slice_index}
 use Rattle.proximity.specs.Openings.{sum_lists}
 use Rattle.error_codes.specs.Secrets.{are_shares}
@@ -18,7 +18,8 @@ abbrev pub AreChosen : ℕ → List ℕ → List ℕ → List ℕ → Type 0
 AreChosen size shares indexes chosen =
     (i j : ℕ) → i < length indexes → j < size → share_at size chosen j i ≡ share_at size shares j (slice_index indexes i - 1)
 
--- any k = others + 1 or more of the shares of a secret lie on polynomials of k coefficients, and what they combine to is the secret
+-- any k = others + 1 or more of the shares of a secret lie on polynomials of k coefficients, and what they combine to
+-- is the secret
 abbrev pub SplitSharesCombine : Type 0
 SplitSharesCombine = (field : ShareField) (others count : ℕ) (secret draws shares indexes chosen restored : List ℕ)
     → FitBytes secret → AreSplit field others count secret draws shares
@@ -41,8 +42,8 @@ SharesHideString = (field : ShareField) (others : ℕ) (indexes secret shares : 
     → (draws : List ℕ) × GiveShares field others indexes secret shares draws
     × ((other : List ℕ) → GiveShares field others indexes secret shares other → other ≡ draws)
 
--- of all choices of the k - 1 bytes that are drawn for one byte of a secret, equally many give the same `known` shares whatever the byte is:
--- 256 ^ (k - 1 - known), and so one where k - 1 shares are known
+-- of all choices of the k - 1 bytes that are drawn for one byte of a secret, equally many give the same `known`
+-- shares whatever the byte is: 256 ^ (k - 1 - known), and so one where k - 1 shares are known
 abbrev pub ByteSharesAreCounted : Type 0
 ByteSharesAreCounted = (field : ShareField) (others more known : ℕ) (indexes : List ℕ) (share : ℕ → ℕ)
     → more + known ≡ others → length indexes ≡ others → AreNonzero indexes → AreDistinct indexes

@@ -1,6 +1,7 @@
--- Shares of a secret (A. Shamir, How to share a secret, Communications of the ACM 22, 1979), byte by byte: each byte of the secret is
--- the lowest coefficient of a polynomial of k coefficients whose others are drawn, and a share has the values of all these polynomials
--- at its index. Rows of one size stand one after the other in a list: those of the drawn coefficients, and the shares.
+-- Shares of a secret (A. Shamir, How to share a secret, Communications of the ACM 22, 1979), byte by byte: each byte
+-- of the secret is the lowest coefficient of a polynomial of k coefficients whose others are drawn, and a share has
+-- the values of all these polynomials at its index. Rows of one size stand one after the other in a list: those of
+-- the drawn coefficients, and the shares.
 use Rattle.std.specs.Prelude.{◌≡◌, ℕ, ◌+◌, ◌*◌, ◌<◌, List, ◌∷◌, length, map, slice_index}
 use Rattle.std.specs.List.{range_with_len}
 use Rattle.field_base.specs.Powers.{value_of}

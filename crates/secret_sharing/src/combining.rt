@@ -12,9 +12,10 @@ use crate::factors::factors_at;
 use crate::field::{ShareField, is_field};
 use crate::product::multiply;
 
-/// Restores a secret of which `needed` shares are needed, from these or more. Share i stands at i · (length of `secret`) in `shares`, and
-/// `indexes[i]` is its index. Whether the bytes of shares are right cannot be told from `needed` of them; of more it is told whether all
-/// agree, and not which is wrong. The error is the first that applies, and leaves `secret` as it was.
+/// Restores a secret of which `needed` shares are needed, from these or more. Share i stands at i · (length of
+/// `secret`) in `shares`, and `indexes[i]` is its index. Whether the bytes of shares are right cannot be told from
+/// `needed` of them; of more it is told whether all agree, and not which is wrong. The error is the first that
+/// applies, and leaves `secret` as it was.
 pub fn combine(
     field: ShareField,
     needed: usize,
@@ -53,8 +54,8 @@ fn restore(field: ShareField, needed: usize, indexes: &[u8], shares: &[u8], secr
     }
 }
 
-// Whether the shares behind the first `needed` have the values of the polynomials through these. All bytes of them are looked at,
-// and one test comes at the end.
+// Whether the shares behind the first `needed` have the values of the polynomials through these. All bytes of them
+// are looked at, and one test comes at the end.
 fn agree(field: ShareField, needed: usize, indexes: &[u8], shares: &[u8], size: usize) -> bool
     requires checked { AreShares needed indexes.now size (length shares.now) }
     ensures { (result ≡ true) ↔ LieOnPolynomials field needed indexes.now size shares.now }
@@ -67,7 +68,8 @@ fn agree(field: ShareField, needed: usize, indexes: &[u8], shares: &[u8], size: 
     difference == 0
 }
 
-// A byte that is 0 where the bytes of a share are the values at its index of the polynomials through the first `needed` shares.
+// A byte that is 0 where the bytes of a share are the values at its index of the polynomials through the first
+// `needed` shares.
 fn difference_of_share(
     field: ShareField,
     needed: usize,

@@ -1,4 +1,5 @@
-// The factors by which shares are summed: Lagrange's interpolation through the points of the first shares. They follow from indexes.
+// The factors by which shares are summed: Lagrange's interpolation through the points of the first shares. They
+// follow from indexes.
 ghost use Rattle.std.specs.Prelude.{◌≡◌, ◌-◌, ◌<◌, ◌≤◌, ◌^◌, ℕ, length, slice_index};
 ghost use Rattle.field_base.specs.Interpolation.{lagrange, other_factors};
 ghost use Rattle.secret_sharing.specs.Fields.{product_in};

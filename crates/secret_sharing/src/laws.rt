@@ -3,22 +3,23 @@ ghost use Rattle.secret_sharing.specs.Secrecy.{ByteSharesAreCounted, SharesHideS
 
 use crate::field::share_fields;
 
-/// States that any shares of a secret, as many as are needed or more, are combined to it: `combine` accepts them, and what it leaves is
-/// what `split` was given.
+/// States that any shares of a secret, as many as are needed or more, are combined to it: `combine` accepts them, and
+/// what it leaves is what `split` was given.
 pub fn split_shares_combine()
     ensures { SplitSharesCombine }
 {}
 
-/// States that shares, one fewer than are needed, say nothing of a secret: for each secret of their length there is exactly one choice of
-/// drawn bytes that gives them. So all secrets are behind them equally often. That a drawn byte may be 0 is a part of it.
+/// States that shares, one fewer than are needed, say nothing of a secret: for each secret of their length there is
+/// exactly one choice of drawn bytes that gives them. So all secrets are behind them equally often. That a drawn byte
+/// may be 0 is a part of it.
 pub fn shares_hide_string()
     ensures { SharesHideString }
 {
     share_fields();
 }
 
-/// States the same of one byte by counting, and of fewer shares too: how many choices of drawn bytes give them does not depend on the
-/// secret.
+/// States the same of one byte by counting, and of fewer shares too: how many choices of drawn bytes give them does
+/// not depend on the secret.
 pub fn byte_shares_are_counted()
     ensures { ByteSharesAreCounted }
 {

@@ -1,11 +1,13 @@
-//! Shares of a secret: any k of n restore it, and k - 1 of them say nothing of it (A. Shamir, How to share a secret, 1979).
+//! Shares of a secret: any k of n restore it, and k - 1 of them say nothing of it (A. Shamir, How to share a secret,
+//! 1979).
 //!
-//! Each byte of the secret is the lowest coefficient of a polynomial over a field of 256 elements; its other k - 1 coefficients are bytes
-//! that the caller draws. A share has the values of these polynomials at its index, a byte other than 0. The value at 0 is the secret.
-//! No call takes memory, so that nothing is left in any but the caller's.
+//! Each byte of the secret is the lowest coefficient of a polynomial over a field of 256 elements; its other k - 1
+//! coefficients are bytes that the caller draws. A share has the values of these polynomials at its index, a byte
+//! other than 0. The value at 0 is the secret. No call takes memory, so that nothing is left in any but the caller's.
 //!
-//! The bytes of the secret, of the draws and of the shares are masked, shifted and added: no branch and no address goes by them, unless
-//! a compiler makes one. Products are by indexes and by factors that follow from indexes, which need not be kept secret.
+//! The bytes of the secret, of the draws and of the shares are masked, shifted and added: no branch and no address
+//! goes by them, unless a compiler makes one. Products are by indexes and by factors that follow from indexes, which
+//! need not be kept secret.
 #![tactic(auto)]
 
 mod check;

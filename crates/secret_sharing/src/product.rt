@@ -1,5 +1,5 @@
-// Products of a byte by a scalar, without a look-up and without a branch by the byte: it is the sum, over the bits of the byte, of the
-// products of the scalar by powers of x.
+// Products of a byte by a scalar, without a look-up and without a branch by the byte: it is the sum, over the bits of
+// the byte, of the products of the scalar by powers of x.
 ghost use Rattle.std.specs.Prelude.{◌≡◌, ◌<◌, ◌^◌, ℕ, slice_index};
 ghost use Rattle.field_base.specs.LinearMaps.{linear_image};
 ghost use Rattle.field_base.specs.Powers.{power};

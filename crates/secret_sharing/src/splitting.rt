@@ -7,12 +7,13 @@ use crate::error::SharingError;
 use crate::field::ShareField;
 use crate::product::{columns_of, image};
 
-/// Splits a secret into `count` shares, any `needed` of which restore it. Share i, counted from 0, has the index i + 1, stands at
-/// i · (length of the secret) in `shares` and is as long as the secret.
+/// Splits a secret into `count` shares, any `needed` of which restore it. Share i, counted from 0, has the index i +
+/// 1, stands at i · (length of the secret) in `shares` and is as long as the secret.
 ///
-/// `draws` has `needed` - 1 rows, each as long as the secret: the coefficients of x, x^2, .. They have to be drawn anew for each secret,
-/// each byte from all 256 with equal chances, 0 among them, and be kept from everybody; then what the laws of this crate count is how
-/// likely shares are. The error is the first that applies, and leaves `shares` as they were.
+/// `draws` has `needed` - 1 rows, each as long as the secret: the coefficients of x, x^2, .. They have to be drawn
+/// anew for each secret, each byte from all 256 with equal chances, 0 among them, and be kept from everybody; then
+/// what the laws of this crate count is how likely shares are. The error is the first that applies, and leaves
+/// `shares` as they were.
 pub fn split(
     field: ShareField,
     needed: usize,
@@ -77,7 +78,8 @@ pub(crate) fn is_product(bytes: usize, count: usize, size: usize) -> bool
     bytes / size == count && bytes % size == 0
 }
 
-// One byte of the share at an index, by Horner's rule: the drawn coefficients come from the highest down, and the secret last.
+// One byte of the share at an index, by Horner's rule: the drawn coefficients come from the highest down, and the
+// secret last.
 fn share_byte(
     field: ShareField,
     others: usize,
