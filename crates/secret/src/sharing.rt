@@ -1,0 +1,202 @@
+// Text of shares from a secret, and a secret from text of shares.
+ghost use Rattle.std.specs.Prelude.{◌≡◌, ◌≢◌, ◌-◌, ◌*◌, ℕ, List, length, slice_index, string_bytes, IfOk, MatchOption};
+ghost use Rattle.secret.specs.Records.{lines_of, number_of};
+ghost use Rattle.secret_sharing.specs.Refusals.{AreShares};
+ghost use Rattle.secret_sharing.specs.Sharing.{AreSplit, IsCombined};
+ghost use Rattle.secret_sharing.specs.declared.field.ShareField.{ShareField};
+
+use crate::bytes::wipe;
+use crate::fault::Fault;
+use crate::lines::{HEAD, LineFault, push_line, read_record, record_of};
+use crate::sets::{Choice, Drawn};
+use memchr::memchr;
+use secret_sharing::{ShareField, combine, split};
+use std::alloc::{AllocError, Global};
+
+/// The lines of the shares of a secret.
+pub(crate) fn split_text(
+    alloc: Global,
+    choice: &Choice,
+    secret: &[u8],
+    drawn: &Drawn,
+) -> Result<String, Fault>
+    ensures { IfOk result (λ text. (shares : List ℕ)
+        × AreSplit choice.now.field (choice.now.needed - 1) choice.now.count secret.now drawn.now.coefficients.items shares
+        × (length shares ≡ choice.now.count * length secret.now)
+        × (string_bytes text ≡ lines_of choice.now.field choice.now.needed drawn.now.identity (length secret.now) shares choice.now.count)) }
+{
+    let mut shares = rows_of_zeros(alloc, choice.count as usize, secret.len())?;
+    let done = split(
+        choice.field,
+        choice.needed as usize,
+        secret,
+        drawn.coefficients.as_slice(),
+        choice.count as usize,
+        shares.as_mut_slice(),
+    );
+    if let Err(error) = done {
+        return Err(Fault::Sharing(error));
+    }
+    let text = text_of(
+        alloc,
+        choice,
+        &drawn.identity,
+        shares.as_slice(),
+        secret.len(),
+    );
+    wipe(&mut shares);
+    Ok(text?)
+}
+
+// So many rows of so many zeros.
+fn rows_of_zeros(alloc: Global, count: usize, size: usize) -> Result<Vec<u8>, AllocError>
+    ensures { IfOk result (λ zeros. length zeros.items ≡ count * size) }
+{
+    let mut zeros = Vec::new(alloc);
+    'rows: for _ in 0..count {
+        'places: for _ in 0..size {
+            zeros.push(0)?;
+        }
+    }
+    Ok(zeros)
+}
+
+// The lines of shares that stand one after the other.
+fn text_of(
+    alloc: Global,
+    choice: &Choice,
+    identity: &[u8; 8],
+    shares: &[u8],
+    size: usize,
+) -> Result<String, AllocError>
+    requires { length shares.now ≡ choice.now.count * size }
+    ensures { IfOk result (λ text. string_bytes text
+        ≡ lines_of choice.now.field choice.now.needed identity.now size shares.now choice.now.count) }
+{
+    let mut text = String::new(alloc);
+    for i in 0..choice.count {
+        let start = i as usize * size;
+        let share = &shares[start..start + size];
+        let entry = record_of(alloc, choice.field, choice.needed, i + 1, identity, share)?;
+        push_line(alloc, &mut text, entry.as_slice())?;
+    }
+    Ok(text)
+}
+
+/// The secret of the shares that the lines of a text say. Empty lines are passed over.
+pub(crate) fn combine_text(alloc: Global, text: &[u8]) -> Result<Vec<u8>, Fault> {
+    let mut shares = Gathered {
+        first: Vec::new(alloc),
+        indexes: Vec::new(alloc),
+        bytes: Vec::new(alloc),
+    };
+    let said = gather(alloc, text, &mut shares).and_then(|()| combined(alloc, &shares));
+    wipe(&mut shares.first);
+    wipe(&mut shares.bytes);
+    said
+}
+
+// Shares of one set: the record of the first, and the indexes and the bytes of all.
+#[derive(Drop)]
+struct Gathered {
+    first: Vec<u8>,
+    indexes: Vec<u8>,
+    bytes: Vec<u8>,
+}
+
+// Gathers the shares of a text. An error names the line, counted from 1.
+fn gather(alloc: Global, text: &[u8], shares: &mut Gathered) -> Result<(), Fault> {
+    let mut rest = text;
+    let mut number = 0;
+    'lines: while !rest.is_empty() {
+        let end = memchr(b'\n', rest).unwrap_or(rest.len());
+        let line = &rest[..end];
+        rest = if end < rest.len() {
+            &rest[end + 1..]
+        } else {
+            &rest[end..]
+        };
+        number += 1;
+        if !line.is_empty() {
+            let mut entry = match read_record(alloc, line) {
+                Ok(entry) => entry,
+                Err(fault) => return Err(fault_in(fault, number)),
+            };
+            let put = put_record(entry.as_slice(), number, shares);
+            wipe(&mut entry);
+            put?;
+        }
+    }
+    Ok(())
+}
+
+// What is wrong with a line.
+fn fault_in(fault: LineFault, number: usize) -> Fault {
+    match fault {
+        LineFault::NoShare => Fault::NoShare(number),
+        LineFault::Mistyped => Fault::Mistyped(number),
+        LineFault::Memory => Fault::Memory,
+    }
+}
+
+// Puts the share of a record to the others, if it is of their set.
+fn put_record(entry: &[u8], number: usize, shares: &mut Gathered) -> Result<(), Fault> {
+    if entry.len() <= HEAD || field_of(entry[0]).is_none() {
+        return Err(Fault::NoShare(number));
+    }
+    if shares.first.is_empty() {
+        shares.first.extend_from_slice(entry)?;
+    }
+    if !is_of_set(shares.first.as_slice(), entry) {
+        return Err(Fault::OtherSet(number));
+    }
+    shares.indexes.push(entry[2])?;
+    shares.bytes.extend_from_slice(&entry[HEAD..])?;
+    Ok(())
+}
+
+// Whether two records are of one set: all but the index and the share is the same, and the shares are of one length.
+fn is_of_set(first: &[u8], entry: &[u8]) -> bool {
+    first.len() == entry.len()
+        && HEAD <= entry.len()
+        && &first[..2] == &entry[..2]
+        && &first[3..HEAD] == &entry[3..HEAD]
+}
+
+// The field with that number.
+fn field_of(number: u8) -> Option<ShareField>
+    ensures { MatchOption result ((field : ShareField) → number_of field ≢ number) (λ field. number_of field ≡ number) }
+{
+    match number {
+        0x1b => Some(ShareField::Rijndael),
+        0x1d => Some(ShareField::Gfshare),
+        _ => None,
+    }
+}
+
+// The secret of shares.
+fn combined(alloc: Global, shares: &Gathered) -> Result<Vec<u8>, Fault>
+    ensures { IfOk result (λ secret. (field : ShareField) × (number_of field ≡ slice_index shares.now.first.items 0)
+        × AreShares (slice_index shares.now.first.items 1) shares.now.indexes.items (length secret.items) (length shares.now.bytes.items)
+        × IsCombined field (slice_index shares.now.first.items 1) shares.now.indexes.items shares.now.bytes.items secret.items) }
+{
+    let first = shares.first.as_slice();
+    if first.len() <= HEAD {
+        return Err(Fault::Nothing);
+    }
+    let Some(field) = field_of(first[0]) else {
+        return Err(Fault::Nothing);
+    };
+    let mut secret = rows_of_zeros(alloc, 1, first.len() - HEAD)?;
+    let done = combine(
+        field,
+        first[1] as usize,
+        shares.indexes.as_slice(),
+        shares.bytes.as_slice(),
+        secret.as_mut_slice(),
+    );
+    match done {
+        Ok(()) => Ok(secret),
+        Err(error) => Err(Fault::Sharing(error)),
+    }
+}
