@@ -1,8 +1,9 @@
-//! Times single operators: `cargo run --release --example operators [SAMPLES]` prints nanoseconds an operation, the least of so many
-//! samples. The code is one over p3-binary-field but for the lines of `use`, so that both are timed alike.
+//! Times single operators: `cargo run --release --example operators [SAMPLES]` prints nanoseconds an operation, the
+//! least of so many samples. The code is one over p3-binary-field but for the lines of `use`, so that both are
+//! timed alike.
 //!
-//! A product, a square and an inverse are over 1,024 elements that do not wait for each other; in the last column each product is a
-//! factor of the next.
+//! A product, a square and an inverse are over 1,024 elements that do not wait for each other; in the last column
+//! each product is a factor of the next.
 
 use binary_field::{
     BinaryField8, BinaryField16, BinaryField32, BinaryField64, BinaryField128, Ghash128, Poly64,
@@ -56,20 +57,24 @@ fn row<F: Field>(name: &str, samples: usize, x: &[F]) {
     println!("| `{name}` | {products:.2} | {squares:.2} | {inverses:.2} | {chain:.2} |");
 }
 
-fn main() {
-    let samples = std::env::args()
-        .nth(1)
-        .map_or(2000, |it| it.parse().expect("a number of samples"));
-    // Numbers from a fixed seed, none of which is 0 in a byte.
+// Numbers from a fixed seed, none of which is 0 in a byte.
+fn numbers() -> Vec<u128> {
     let mut state = 0x9e37_79b9_7f4a_7c15_f39c_c060_5ced_c835_u128;
-    let words: Vec<u128> = (0..LENGTH)
+    (0..LENGTH)
         .map(|_| {
             state = state
                 .wrapping_mul(0x2360_ed05_1fc6_5da4_4385_df64_9fcc_f645)
                 .wrapping_add(1);
             state ^ state >> 61 | 1
         })
-        .collect();
+        .collect()
+}
+
+fn main() {
+    let samples = std::env::args()
+        .nth(1)
+        .map_or(2000, |it| it.parse().expect("a number of samples"));
+    let words = numbers();
     let poly64 = |shift: u32| {
         words
             .iter()

@@ -122,9 +122,7 @@ fn of_maps(draw: &mut Draw) -> u64 {
         digest.take(x.frobenius_orbit().map(Rijndael8b::to_byte));
         digest.take_words([x.scaling_matrix().to_quadword()]);
     }
-    for log in 0..9 {
-        digest.take_words([Rijndael8b::frobenius_map(log).to_quadword()]);
-    }
+    digest.take_words((0..9).map(|log| Rijndael8b::frobenius_map(log).to_quadword()));
     let x = PackedRijndael8b::<16>::from_fn(|place| Rijndael8b::from_byte(17 * place as u8));
     let scalar = Rijndael8b::from_byte(0x53);
     for it in [
@@ -337,23 +335,39 @@ fn of_blocks(draw: &mut Draw) -> Vec<u64> {
     ]
 }
 
+fn of_protocols(
+    tower: &[BinaryField128],
+    half: &[BinaryField16],
+    poly: &[Ghash128],
+    cubic: &[Poly192],
+) -> [u64; 8] {
+    [
+        of_challenger(BinaryField8::from_repr(9), tower[0]),
+        of_challenger(BinaryField16::from_repr(0x1234), half[0]),
+        of_challenger(Poly64::new(5), cubic[0]),
+        of_challenger(poly[0], poly[1]),
+        of_transcript(BinaryField8::from_repr(0xa5)),
+        of_transcript(BinaryField32::from_repr(0xa5c3_1234)),
+        of_transcript(tower[1]),
+        of_transcript(Poly64::new(0x0123_4567_89ab_cdef)),
+    ]
+}
+
 fn answers() -> Vec<u64> {
     let mut draw = Draw(11);
     let mut found = of_blocks(&mut draw);
     let wides: Vec<u128> = (0..32).map(|_| wide(&mut draw)).collect();
-    let bytes: Vec<Rijndael8b> = wides
-        .iter()
-        .map(|&it| Rijndael8b::from_byte(it as u8))
+    let each = wides.iter().copied();
+    let bytes: Vec<Rijndael8b> = each
+        .clone()
+        .map(|it| Rijndael8b::from_byte(it as u8))
         .collect();
-    let tower: Vec<BinaryField128> = wides
-        .iter()
-        .map(|&it| BinaryField128::from_repr(it))
+    let half: Vec<BinaryField16> = each
+        .clone()
+        .map(|it| BinaryField16::from_repr(it as u16))
         .collect();
-    let poly: Vec<Ghash128> = wides.iter().map(|&it| Ghash128::from_repr(it)).collect();
-    let half: Vec<BinaryField16> = wides
-        .iter()
-        .map(|&it| BinaryField16::from_repr(it as u16))
-        .collect();
+    let tower: Vec<BinaryField128> = each.clone().map(BinaryField128::from_repr).collect();
+    let poly: Vec<Ghash128> = each.map(Ghash128::from_repr).collect();
     let cubic: Vec<Poly192> = wides
         .windows(3)
         .map(|it| Poly192::new([0, 1, 2].map(|i| Poly64::new(it[i] as u64))))
@@ -380,16 +394,7 @@ fn answers() -> Vec<u64> {
         of_streams(&cubic),
         of_streams(&[Gf2::ONE; 3]),
     ]);
-    found.push(of_challenger(BinaryField8::from_repr(9), tower[0]));
-    found.push(of_challenger(BinaryField16::from_repr(0x1234), half[0]));
-    found.push(of_challenger(Poly64::new(5), cubic[0]));
-    found.push(of_challenger(poly[0], poly[1]));
-    found.push(of_transcript(BinaryField8::from_repr(0xa5)));
-    found.push(of_transcript(BinaryField32::from_repr(0xa5c3_1234)));
-    found.extend([
-        of_transcript(tower[1]),
-        of_transcript(Poly64::new(0x0123_4567_89ab_cdef)),
-    ]);
+    found.extend(of_protocols(&tower, &half, &poly, &cubic));
     found.push(of_conversions(&mut draw));
     found
 }
