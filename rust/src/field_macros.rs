@@ -183,7 +183,7 @@ macro_rules! field {
             // As many squarings as bits leave every element.
             #[inline]
             fn exp_power_of_2(&self, log: usize) -> $field {
-                (0..log % $degree).fold(*self, |power, _| power.square())
+                (0..log % Self::bits()).fold(*self, |power, _| power.square())
             }
 
             fn dot_product<const N: usize>(left: &[$field; N], right: &[$field; N]) -> $field {
