@@ -1,5 +1,7 @@
 //! More names of p3-binary-field 0.8.0 and of the crates beside it: the code below is one for both but for the
-//! lines of `use`, and the numbers that it is compared with are the answers of p3-binary-field.
+//! lines of `use`, and the numbers that it is compared with are the answers of p3-binary-field. Streams, powers and hash
+//! challengers, whose code stands in p3-field and p3-challenger, were there those of stand-ins for these crates, written
+//! anew after what their pages say.
 
 mod drawn;
 
@@ -444,3 +446,27 @@ const ANSWERS: [u64; 36] = [
     0x53adca49d211bb65,
     0x5345e00e368041e4,
 ];
+
+// It draws zeros once it observed a byte that is not below the first.
+#[derive(Clone)]
+struct Since(u8, u8);
+
+impl CanObserve<u8> for Since {
+    fn observe(&mut self, value: u8) {
+        self.1 = self.1.max(value);
+    }
+}
+
+impl CanSample<u8> for Since {
+    fn sample(&mut self) -> u8 {
+        if self.1 < self.0 { 255 } else { 0 }
+    }
+}
+
+#[test]
+fn work_ends_with_the_least_witness() {
+    for least in [0, 1, 7, 200] {
+        let mut challenger = BinaryChallenger::<Ghash128, _>::new(Since(least, 0));
+        assert_eq!(challenger.grind(8), Ghash128::from_repr(least.into()));
+    }
+}
