@@ -1,7 +1,8 @@
 // Files split and joined in a worker of a page, which stays alive meanwhile.
 import { ShardsError } from "./shards.mjs";
 
-/** A worker with an instance of the library of its own, made of the compiled module or of the place that `load` takes. */
+/** A worker with an instance of the library of its own, made of the compiled module or of the place that `load`
+ * takes. */
 export class Background {
   #worker;
   #source;
@@ -12,7 +13,9 @@ export class Background {
     this.#source = source;
     this.#worker = new Worker(new URL("worker.mjs", import.meta.url), { type: "module" });
     this.#worker.addEventListener("message", ({ data }) => this.#answered(data));
-    this.#worker.addEventListener("error", (event) => this.#failed(new Error(event.message ?? "the worker was not loaded")));
+    this.#worker.addEventListener(
+      "error", (event) => this.#failed(new Error(event.message ?? "the worker was not loaded"))
+    );
   }
 
   /** As `split` of shards.mjs. */
@@ -59,7 +62,9 @@ export class Background {
     if (!error) return void waiting.resolve(result);
     if (waiting.signal?.aborted) return void waiting.reject(waiting.signal.reason);
     const { name, code, message } = error;
-    waiting.reject(name === "ShardsError" ? new ShardsError(code, message) : Object.assign(new Error(message), { name, code }));
+    waiting.reject(
+      name === "ShardsError" ? new ShardsError(code, message) : Object.assign(new Error(message), { name, code })
+    );
   }
 
   #failed(error) {

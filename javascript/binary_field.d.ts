@@ -1,7 +1,8 @@
 // The types of the package. Those of the fields by their names are in fields.d.ts.
 import type { Fields } from "./fields";
 
-/** The arrays that elements stand in. In a BigUint64Array an element of 128 bits has two words and one of 192 bits three, the lowest first. */
+/** The arrays that elements stand in. In a BigUint64Array an element of 128 bits has two words and one of 192 bits
+ * three, the lowest first. */
 export type Words = Uint8Array | Uint16Array | Uint32Array | BigUint64Array;
 /** A whole number that is not negative. */
 export type Count = number | bigint;
@@ -93,7 +94,9 @@ export type Present = Iterable<boolean | number>;
 export interface ReedSolomon {
   encode(data: Count, parity: Count, shards: Uint8Array): Uint8Array;
   verify(data: Count, parity: Count, shards: Uint8Array): boolean;
-  reconstruct(data: Count, parity: Count, shards: Uint8Array, present: Present, options?: { dataOnly?: boolean }): Uint8Array;
+  reconstruct(
+    data: Count, parity: Count, shards: Uint8Array, present: Present, options?: { dataOnly?: boolean }
+  ): Uint8Array;
 }
 
 /** Erasure codes by transforms, of up to 65,536 shards of words of 16 bits. */

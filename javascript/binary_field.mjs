@@ -16,10 +16,14 @@ export { BinaryFieldError, OutOfMemoryError } from "./memory.mjs";
 /** The version of the package and of the library. */
 export const version = VERSION_TEXT;
 
+// What has memories of 64 bits.
+const HAVE_THEM = "Chromium 133, Firefox 134 and node 24 have them, node 20 by --experimental-wasm-memory64";
+
 // The most that the module's memory may have where nothing else is said: 4 GiB.
 const MOST_BYTES = 2 ** 32;
 
-/** The compiled module of a source: its bytes, a compiled module, or a place; the file beside this one where none is named. */
+/** The compiled module of a source: its bytes, a compiled module, or a place; the file beside this one where none is
+ * named. */
 async function compiled(source) {
   if (source instanceof WebAssembly.Module) return source;
   if (source instanceof ArrayBuffer || ArrayBuffer.isView(source)) return WebAssembly.compile(source);
@@ -43,7 +47,7 @@ export async function load(source, { maximumBytes = MOST_BYTES } = {}) {
     module = await compiled(source);
   } catch (error) {
     if (error instanceof WebAssembly.CompileError && /memory|limits|flag/i.test(error.message)) {
-      throw new Error(`this engine has no memories of 64 bits: Chromium 133, Firefox 134 and node 24 have them, node 20 by --experimental-wasm-memory64 (${error.message})`);
+      throw new Error(`this engine has no memories of 64 bits: ${HAVE_THEM} (${error.message})`);
     }
     throw error;
   }

@@ -66,7 +66,8 @@ export function tagsOf(library) {
   });
 }
 
-/** Reed-Solomon codes over bytes: shards stand one after the other in one array and have one size, those of data first. */
+/** Reed-Solomon codes over bytes: shards stand one after the other in one array and have one size, those of data
+ * first. */
 export function reedSolomonOf(library) {
   return Object.freeze({
     /** Writes the shards of parity, and returns all shards. */
@@ -80,8 +81,8 @@ export function reedSolomonOf(library) {
       library.call("rs_verify", data, parity, shards, whole);
       return whole[0] === 1;
     },
-    /** Writes the missing shards, and returns all shards: shard i is missing where present[i] is false or 0. With `dataOnly` only those of
-     * data are written. */
+    /** Writes the missing shards, and returns all shards: shard i is missing where present[i] is false or 0. With
+     * `dataOnly` only those of data are written. */
     reconstruct(data, parity, shards, present, { dataOnly = false } = {}) {
       library.call(dataOnly ? "rs_reconstruct_data" : "rs_reconstruct", data, parity, shards, flags(present));
       return shards;
@@ -89,7 +90,8 @@ export function reedSolomonOf(library) {
   });
 }
 
-/** Erasure codes by transforms, of up to 65,536 shards of words of 16 bits: those of data and those of parity stand in two arrays. */
+/** Erasure codes by transforms, of up to 65,536 shards of words of 16 bits: those of data and those of parity stand
+ * in two arrays. */
 export function erasureOf(library) {
   const space = (data, parity) => {
     const length = new BigUint64Array(1);
@@ -100,7 +102,9 @@ export function erasureOf(library) {
     /** The shards of parity of shards of data. */
     encode(data, parity, shards) {
       const needed = space(data, parity);
-      if (typeOfArray(shards) !== "Uint16Array") throw new TypeError(`shards is ${describe(shards)}, and not a Uint16Array`);
+      if (typeOfArray(shards) !== "Uint16Array") {
+        throw new TypeError(`shards is ${describe(shards)}, and not a Uint16Array`);
+      }
       const size = Math.floor(lengthOf(shards) / Number(data));
       const result = new Uint16Array(Number(wholeNumber(parity, 32, "parity")) * size);
       library.call("erasure_encode", data, parity, shards, result, needed);
@@ -112,7 +116,8 @@ export function erasureOf(library) {
       library.call("erasure_verify", data, parity, shards, parityShards, space(data, parity), whole);
       return whole[0] === 1;
     },
-    /** Writes the missing shards: shard i, of the data and then of the parity, is missing where present[i] is false or 0. */
+    /** Writes the missing shards: shard i, of the data and then of the parity, is missing where present[i] is false
+     * or 0. */
     reconstruct(data, parity, shards, parityShards, present) {
       library.call("erasure_reconstruct", data, parity, shards, parityShards, flags(present), space(data, parity));
       return { shards, parityShards };
@@ -124,7 +129,9 @@ export function erasureOf(library) {
 export function answerOf(library) {
   const [encoder, decoder] = [new TextEncoder(), new TextDecoder()];
   return (line) => {
-    if (typeof line !== "string" && typeOfArray(line) !== "Uint8Array") throw new TypeError(`a line is ${describe(line)}, and not a text or a Uint8Array`);
+    if (typeof line !== "string" && typeOfArray(line) !== "Uint8Array") {
+      throw new TypeError(`a line is ${describe(line)}, and not a text or a Uint8Array`);
+    }
     const [answer, written] = [new Uint8Array(ANSWER_BYTES), new BigUint64Array(1)];
     library.call("answer", typeof line === "string" ? encoder.encode(line) : line, answer, written);
     return decoder.decode(answer.subarray(0, Number(written[0])));

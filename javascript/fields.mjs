@@ -1,7 +1,8 @@
 // The fields: arithmetic on single elements and on arrays of them.
 //
-// An element is a number up to 32 bits, and a BigInt of 64, 128 and 192. An array of elements is a Uint8Array, Uint16Array, Uint32Array or
-// BigUint64Array; in the last one an element of 128 bits has two words and one of 192 bits three, the lowest first.
+// An element is a number up to 32 bits, and a BigInt of 64, 128 and 192. An array of elements is a Uint8Array,
+// Uint16Array, Uint32Array or BigUint64Array; in the last one an element of 128 bits has two words and one of 192 bits
+// three, the lowest first.
 import { lengthOf, typeOfArray, wholeNumber } from "./memory.mjs";
 import { FIELDS } from "./tables.mjs";
 
@@ -10,8 +11,8 @@ const WORD_BITS = 64n;
 const LOW_WORD = (1n << WORD_BITS) - 1n;
 const isElement = (value) => typeof value === "number" || typeof value === "bigint";
 
-/** A field by its row of the table. All fields have these functions; where a result is an array, `{ out }` is one that it is written to,
- * which may be one of the arrays that are read. */
+/** A field by its row of the table. All fields have these functions; where a result is an array, `{ out }` is one
+ * that it is written to, which may be one of the arrays that are read. */
 export class Field {
   #library;
   #row;
@@ -67,16 +68,21 @@ export class Field {
 
   /** The product of two elements, at each place of two arrays, or of each element of an array and one element. */
   multiply(left, right, options) {
-    if (isElement(left) !== isElement(right)) return isElement(right) ? this.multiplyBy(left, right, options) : this.multiplyBy(right, left, options);
+    if (isElement(left) !== isElement(right)) {
+      return isElement(right) ? this.multiplyBy(left, right, options) : this.multiplyBy(right, left, options);
+    }
     return this.#onTwo("multiply", left, right, options);
   }
 
   /** The product of each element of an array and one element. */
   multiplyBy(values, scalar, options) {
-    return this.#written("multiply_by", lengthOf(this.#known(values)), options, (out) => [values, this.#scalar(scalar), out]);
+    return this.#written(
+      "multiply_by", lengthOf(this.#known(values)), options, (out) => [values, this.#scalar(scalar), out]
+    );
   }
 
-  /** Adds the product of one element and each element of values to the element of sums at its place, and returns sums. */
+  /** Adds the product of one element and each element of values to the element of sums at its place, and returns
+   * sums. */
   addScaled(sums, scalar, values) {
     this.#library.call(`${this.name}_add_scaled`, sums, this.#scalar(scalar), values);
     return sums;
@@ -97,7 +103,8 @@ export class Field {
     return this.#onEach("square_root", values, options);
   }
 
-  /** An element, or each element of an array, to the power of the exponent, which is below 2^64; to the power 0 it is 1. */
+  /** An element, or each element of an array, to the power of the exponent, which is below 2^64; to the power 0 it is
+   * 1. */
   power(values, exponent, options) {
     return this.#onEach("power", values, options, [exponent]);
   }
@@ -112,7 +119,8 @@ export class Field {
     return this.#result("dot_product", (out) => [left, right, out]);
   }
 
-  /** The value of the polynomial with these coefficients, the constant one first, at a point or at each point of an array. */
+  /** The value of the polynomial with these coefficients, the constant one first, at a point or at each point of an
+   * array. */
   evaluate(coefficients, points, options) {
     if (isElement(points)) return this.#get(this.evaluate(coefficients, this.array([points])), 0);
     return this.#written("evaluate", lengthOf(this.#known(points)), options, (out) => [coefficients, points, out]);
@@ -123,8 +131,9 @@ export class Field {
     return this.#result("generator", (out) => [out]);
   }
 
-  /** The values at 2^m points of the polynomial with these coefficients in the basis of subspace polynomials: point p is the shift, and
-   * Cantor vector b for each set bit b of p. The field is g128 or a level of the tower of 16 bits or more. */
+  /** The values at 2^m points of the polynomial with these coefficients in the basis of subspace polynomials: point p
+   * is the shift, and Cantor vector b for each set bit b of p. The field is g128 or a level of the tower of 16 bits
+   * or more. */
   transform(coefficients, shift = 0n, options) {
     return this.#transformed("transform", coefficients, shift, options);
   }
@@ -142,13 +151,17 @@ export class Field {
 
   // The array, where it is one of the field's.
   #known(values, what = "values") {
-    if (typeOfArray(values) !== this.Array.name) throw new TypeError(`${this.type}: ${what} has to be a ${this.Array.name}`);
+    if (typeOfArray(values) !== this.Array.name) {
+      throw new TypeError(`${this.type}: ${what} has to be a ${this.Array.name}`);
+    }
     return values;
   }
 
   #countOf(array, what) {
     const words = lengthOf(this.#known(array, what));
-    if (words % this.words) throw new RangeError(`${this.type}: ${what} has ${words} words, which are not whole elements of ${this.words}`);
+    if (words % this.words) {
+      throw new RangeError(`${this.type}: ${what} has ${words} words, which are not whole elements of ${this.words}`);
+    }
     return words / this.words;
   }
 
@@ -159,7 +172,9 @@ export class Field {
 
   #put(array, at, number) {
     if (this.bits < 64) array[at] = Number(number);
-    else for (let word = 0; word < this.words; word++) array[at * this.words + word] = (number >> (WORD_BITS * BigInt(word))) & LOW_WORD;
+    else for (
+      let word = 0; word < this.words; word++
+    ) array[at * this.words + word] = (number >> (WORD_BITS * BigInt(word))) & LOW_WORD;
   }
 
   #get(array, at) {
@@ -193,14 +208,18 @@ export class Field {
   }
 
   #onTwo(name, left, right, options) {
-    if (isElement(left) && isElement(right)) return this.#get(this.#onTwo(name, this.array([left]), this.array([right])), 0);
+    if (isElement(left) && isElement(right)) {
+      return this.#get(this.#onTwo(name, this.array([left]), this.array([right])), 0);
+    }
     return this.#written(name, lengthOf(this.#known(left, "the first operand")), options, (out) => [left, right, out]);
   }
 
   #transformed(name, values, shift, options) {
     if (!this.#row.isTransformed) throw new TypeError(`the library has no transform over ${this.type}`);
     const out = this.#out(lengthOf(this.#known(values)), options);
-    if (lengthOf(out) !== lengthOf(values)) throw new RangeError(`${this.type}: out has another length than what is transformed`);
+    if (lengthOf(out) !== lengthOf(values)) {
+      throw new RangeError(`${this.type}: out has another length than what is transformed`);
+    }
     // The library works in place, and keeps what it is given where it refuses it.
     const own = this.Array.from(values);
     this.#library.call(`${this.name}_${name}`, own, this.#scalar(shift));
@@ -227,7 +246,8 @@ class Matrices {
     return product;
   }
 
-  /** The reduced row echelon form of a matrix of rows rows of columns elements, and the columns of its leading entries. */
+  /** The reduced row echelon form of a matrix of rows rows of columns elements, and the columns of its leading
+   * entries. */
   rowReduce(matrix, rows, columns) {
     const [form, pivots, rank] = [matrix.slice(), this.#places(rows), new BigUint64Array(1)];
     this.#call("row_reduce", form, rows, columns, pivots, rank);
@@ -255,7 +275,8 @@ class Matrices {
     return inverse;
   }
 
-  /** A solution x of matrix * x = right, of rows equations in columns unknowns; an unknown that the others leave open is 0. */
+  /** A solution x of matrix * x = right, of rows equations in columns unknowns; an unknown that the others leave open
+   * is 0. */
   solve(matrix, rows, columns, right) {
     const solution = this.#field.zeros(columns);
     this.#call("solve", matrix, rows, columns, right, solution, this.#count(rows, Number(columns) + 1), rows);
@@ -267,7 +288,9 @@ class Matrices {
   }
 
   #count(rows, columns) {
-    return Number(wholeNumber(rows, 32, "the number of rows")) * Number(wholeNumber(columns, 32, "the number of columns"));
+    return Number(wholeNumber(rows, 32, "the number of rows")) * Number(
+      wholeNumber(columns, 32, "the number of columns")
+    );
   }
 
   #entries(rows, columns) {

@@ -1,12 +1,22 @@
 // The module and its memory: what a call is passed is copied in, and what it wrote is copied back.
 //
-// The module reads and writes its own memory alone. A call lays what it takes into one room behind the module's own data, and the next call
-// lays it there again, so that nothing is left to free. No code of a caller runs between the first copy and the last: all that was passed
-// is looked at before.
+// The module reads and writes its own memory alone. A call lays what it takes into one room behind the module's own
+// data, and the next call lays it there again, so that nothing is left to free. No code of a caller runs between the
+// first copy and the last: all that was passed is looked at before.
 import { FUNCTIONS, STATE_WORDS, STATUSES, VERSION } from "./tables.mjs";
 
 // How many bytes a word has.
-const BYTES = { u8: 1, u16: 2, u32: 4, u64: 8, u128: 16, u192: 24, usize: 8, ghash_state: 8 * STATE_WORDS, polyval_state: 8 * STATE_WORDS };
+const BYTES = {
+  u8: 1,
+  u16: 2,
+  u32: 4,
+  u64: 8,
+  u128: 16,
+  u192: 24,
+  usize: 8,
+  ghash_state: 8 * STATE_WORDS,
+  polyval_state: 8 * STATE_WORDS
+};
 const ARRAY_OF = { u8: "Uint8Array", u16: "Uint16Array", u32: "Uint32Array" };
 const PAGE = 65536;
 const ALIGNMENT = 16;
@@ -112,7 +122,9 @@ function argumentOf(parameter, value, what) {
   if (parameter.isWideScalar) return { parameter, size: bytes, scalar: wholeNumber(value, 8 * bytes, what) };
   if (kind === "space") return { parameter, size: Number(wholeNumber(value, 40, what)) * bytes };
   const view = bytesOf(value, parameter.type, what);
-  if (view.length % bytes) throw new RangeError(`${what} has ${view.length} bytes, which are not whole elements of ${bytes}`);
+  if (view.length % bytes) {
+    throw new RangeError(`${what} has ${view.length} bytes, which are not whole elements of ${bytes}`);
+  }
   if (!parameter.isArray && view.length !== bytes) throw new RangeError(`${what} has not one element`);
   return { parameter, size: view.length, view };
 }
@@ -128,8 +140,12 @@ export class Library {
   /** An instance of the module, and how many bytes its memory may have at most. */
   constructor(instance, limit) {
     const exported = instance.exports;
-    if (typeof exported.bf_version !== "function") throw new TypeError("the module is not that of the library: it has no bf_version");
-    if (exported.bf_version() !== VERSION) throw new Error(`the module has version ${exported.bf_version()}, but this package needs ${VERSION}`);
+    if (typeof exported.bf_version !== "function") {
+      throw new TypeError("the module is not that of the library: it has no bf_version");
+    }
+    if (exported.bf_version() !== VERSION) {
+      throw new Error(`the module has version ${exported.bf_version()}, but this package needs ${VERSION}`);
+    }
     this.#functions = exported;
     this.#memory = exported.memory;
     const end = Number(exported.__heap_base.value);
@@ -147,8 +163,9 @@ export class Library {
     return this.#memory.buffer.byteLength;
   }
 
-  /** Calls a function by its name without `bf_`. Of an array it is passed a typed array, of space the number of words, of a number or a scalar
-   * that, and of a result an array of one element. What it wrote is in these arrays once it returns; where it throws, they are as before. */
+  /** Calls a function by its name without `bf_`. Of an array it is passed a typed array, of space the number of
+   * words, of a number or a scalar that, and of a result an array of one element. What it wrote is in these arrays
+   * once it returns; where it throws, they are as before. */
   call(name, ...values) {
     const status = this.statusOf(name, values);
     if (status) throw new BinaryFieldError(name, status);

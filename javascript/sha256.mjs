@@ -1,11 +1,13 @@
-// SHA-256 (FIPS 180-4) of bytes that come in pieces. The digests that browsers have take a whole message at once, and only on pages that came
-// by HTTPS or from this machine. This is tested, and not proved.
+// SHA-256 (FIPS 180-4) of bytes that come in pieces. The digests that browsers have take a whole message at once, and
+// only on pages that came by HTTPS or from this machine. This is tested, and not proved.
 
-// The first 32 bits of the fractional parts of the cube roots of the first 64 primes, and of the square roots of the first eight.
+// The first 32 bits of the fractional parts of the cube roots of the first 64 primes, and of the square roots of the
+// first eight.
 const primes = [];
 for (let it = 2; primes.length < 64; it++) if (primes.every((prime) => it % prime)) primes.push(it);
 
-/** The first 32 bits of the fractional part of a root of a number, by whole numbers: the root of number * 2^(32 degree). */
+/** The first 32 bits of the fractional part of a root of a number, by whole numbers: the root of number * 2^(32
+ * degree). */
 function fraction(number, degree) {
   const wanted = BigInt(number) << BigInt(32 * degree);
   let root = 0n;
@@ -55,7 +57,9 @@ export class Sha256 {
 
   #block(bytes, start) {
     const w = this.#schedule;
-    for (let t = 0, at = start; t < 16; t++, at += 4) w[t] = (bytes[at] << 24) | (bytes[at + 1] << 16) | (bytes[at + 2] << 8) | bytes[at + 3];
+    for (let t = 0, at = start; t < 16; t++, at += 4) {
+      w[t] = (bytes[at] << 24) | (bytes[at + 1] << 16) | (bytes[at + 2] << 8) | bytes[at + 3];
+    }
     for (let t = 16; t < 64; t++) {
       const x = w[t - 15];
       const y = w[t - 2];

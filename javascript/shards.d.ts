@@ -22,5 +22,7 @@ export function split(
   parity: number,
   options?: Progress,
 ): Promise<{ identity: string; shards: Blob[] }>;
-export function join(bf: BinaryField, shards: readonly Blob[], options?: Progress): Promise<{ identity: string; file: Blob }>;
+export function join(
+  bf: BinaryField, shards: readonly Blob[], options?: Progress
+): Promise<{ identity: string; file: Blob }>;
 export function inspect(shards: readonly Blob[], options?: Progress): Promise<Found[]>;

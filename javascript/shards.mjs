@@ -1,8 +1,9 @@
-// Files split into shards and joined from them, in the format of the program `shards`, version 3. The shards of parity and the restored ones
-// are computed by the library; the format, the digests and what is read are not proved here, and are tested against the program.
+// Files split into shards and joined from them, in the format of the program `shards`, version 3. The shards of parity
+// and the restored ones are computed by the library; the format, the digests and what is read are not proved here, and
+// are tested against the program.
 //
-// A file of a shard is a head of 104 bytes, the last 32 of which are the SHA-256 of those before, and for each stripe of the file a digest of
-// 32 bytes and the shard's bytes in the stripe.
+// A file of a shard is a head of 104 bytes, the last 32 of which are the SHA-256 of those before, and for each stripe
+// of the file a digest of 32 bytes and the shard's bytes in the stripe.
 import { hex, Sha256, sha256 } from "./sha256.mjs";
 import { piecesOf } from "./streams.mjs";
 
@@ -16,7 +17,8 @@ const MOST_SHARDS = 65536;
 const MATRIX = 1;
 const TRANSFORM = 2;
 
-/** Why a file cannot be split, or shards cannot be joined: `code` is LIMITS, NO_SHARDS, TOO_FEW, SEVERAL_FILES or OTHER_CONTENT. */
+/** Why a file cannot be split, or shards cannot be joined: `code` is LIMITS, NO_SHARDS, TOO_FEW, SEVERAL_FILES or
+ * OTHER_CONTENT. */
 export class ShardsError extends Error {
   constructor(code, message) {
     super(message);
@@ -34,8 +36,11 @@ const stripesOf = (origin) => Math.ceil(origin.length / widthOf(origin));
 // Whether a code has so many shards, and the sizes are those of a file of shards.
 function isPossible({ code, data, parity, length, size }) {
   const padded = 2 ** Math.ceil(Math.log2(data));
-  const hasCode = code === MATRIX ? data + parity <= 256 : code === TRANSFORM && padded + parity <= MOST_SHARDS && size % 2 === 0;
-  return data > 0 && parity > 0 && hasCode && data + parity <= MOST_SHARDS && size > 0 && size <= STRIPE && length <= 2 ** 53;
+  const hasCode = code === MATRIX
+    ? data + parity <= 256
+    : code === TRANSFORM && padded + parity <= MOST_SHARDS && size % 2 === 0;
+  const isSmall = data + parity <= MOST_SHARDS && size <= STRIPE && length <= 2 ** 53;
+  return data > 0 && parity > 0 && size > 0 && hasCode && isSmall;
 }
 
 /** How a file of so many bytes is split: the code, and how many bytes each shard has of a stripe. */
@@ -46,7 +51,10 @@ export function layoutOf(length, data, parity, identity = new Uint8Array(DIGEST)
   if (code === TRANSFORM) size += size % 2;
   const origin = { code, data, parity, length, size, identity };
   if (!Number.isSafeInteger(data) || !Number.isSafeInteger(parity) || !isPossible(origin)) {
-    throw new ShardsError("LIMITS", `no code has ${data} shards of data and ${parity} of parity: both are at least 1, and together they are few`);
+    throw new ShardsError(
+      "LIMITS",
+      `no code has ${data} shards of data and ${parity} of parity: both are at least 1, and together they are few`
+    );
   }
   return origin;
 }
@@ -75,8 +83,12 @@ const isSame = (left, right) => left.length === right.length && left.every((it, 
 /** What the head of a shard's file says, or why it is none. */
 function headRead(head) {
   if (head.length < HEAD || !isSame(head.subarray(0, 7), NAME)) return { reason: "is no shard" };
-  if (head[7] !== 48 + FORMAT) return { reason: `is a shard in format ${String.fromCharCode(head[7])}, and not ${FORMAT}` };
-  if (!isSame(sha256(head.subarray(0, HEAD - DIGEST)), head.subarray(HEAD - DIGEST))) return { reason: "has a damaged head" };
+  if (head[7] !== 48 + FORMAT) {
+    return { reason: `is a shard in format ${String.fromCharCode(head[7])}, and not ${FORMAT}` };
+  }
+  if (!isSame(sha256(head.subarray(0, HEAD - DIGEST)), head.subarray(HEAD - DIGEST))) {
+    return { reason: "has a damaged head" };
+  }
   const view = new DataView(head.buffer, head.byteOffset);
   const [code, data, parity, index] = [8, 12, 16, 20].map((at) => view.getUint32(at, true));
   const [length, size] = [24, 32].map((at) => Number(view.getBigUint64(at, true)));
@@ -100,16 +112,20 @@ function encode(bf, { code, data, parity, size }, shards) {
 function restore(bf, { code, data, parity, size }, shards, present) {
   if (code === MATRIX) return void bf.ReedSolomon.reconstruct(data, parity, shards, present, { dataOnly: true });
   const middle = (data * size) / 2;
-  bf.erasure.reconstruct(data, parity, new Uint16Array(shards.buffer, 0, middle), new Uint16Array(shards.buffer, 2 * middle), present);
+  bf.erasure.reconstruct(
+    data, parity, new Uint16Array(shards.buffer, 0, middle), new Uint16Array(shards.buffer, 2 * middle), present
+  );
 }
 
-/** Splits a file, which is a Blob, into files of shards, of which any as many as there are of data restore it. `onProgress` is told how much of
- * the work is done, from 0 to 1; an aborted signal ends it. */
+/** Splits a file, which is a Blob, into files of shards, of which any as many as there are of data restore it.
+ * `onProgress` is told how much of the work is done, from 0 to 1; an aborted signal ends it. */
 export async function split(bf, file, data, parity, { signal, onProgress } = {}) {
   layoutOf(file.size, data, parity);
   const hash = new Sha256();
   const total = Math.max(1, file.size);
-  for await (const piece of piecesOf(file, { signal, onProgress: (done) => onProgress?.((0.3 * done) / total) })) hash.update(piece);
+  for await (
+    const piece of piecesOf(file, { signal, onProgress: (done) => onProgress?.((0.3 * done) / total) })
+  ) hash.update(piece);
   const origin = layoutOf(file.size, data, parity, hash.digest());
   const heads = Array.from({ length: totalOf(origin) }, (_, index) => headOf(origin, index));
   const files = heads.map((head) => [head]);
@@ -137,7 +153,9 @@ async function pieceRead(blob, { origin, head }, stripe) {
   const start = HEAD + stripe * (DIGEST + origin.size);
   const piece = await bytesFrom(blob, start, start + DIGEST + origin.size);
   const shard = piece.subarray(DIGEST);
-  return shard.length === origin.size && isSame(pieceDigest(head, stripe, shard), piece.subarray(0, DIGEST)) ? shard : null;
+  return shard.length === origin.size && isSame(pieceDigest(head, stripe, shard), piece.subarray(0, DIGEST))
+    ? shard
+    : null;
 }
 
 // The heads of files, those that are shards by what they have in common.
@@ -167,7 +185,9 @@ export async function inspect(blobs, { signal, onProgress } = {}) {
       signal?.throwIfAborted();
       if (!(await pieceRead(blobs[place], it, stripe))) damaged.push(stripe);
     }
-    found.push({ index: it.index, identity: hex(it.origin.identity), data: it.origin.data, parity: it.origin.parity, damaged });
+    found.push(
+      { index: it.index, identity: hex(it.origin.identity), data: it.origin.data, parity: it.origin.parity, damaged }
+    );
     onProgress?.((place + 1) / blobs.length);
   }
   return found;
@@ -191,7 +211,8 @@ async function gather(blobs, heads, group, origin, stripe) {
   return { shards, present, count };
 }
 
-/** Joins a file from files of its shards, whatever their order. It is given only where its SHA-256 is the one that the shards name. */
+/** Joins a file from files of its shards, whatever their order. It is given only where its SHA-256 is the one that
+ * the shards name. */
 export async function join(bf, blobs, { signal, onProgress } = {}) {
   const { heads, groups } = await headsOf(blobs);
   const [group, second] = groups;
@@ -205,7 +226,9 @@ export async function join(bf, blobs, { signal, onProgress } = {}) {
   for (let stripe = 0; stripe < stripesOf(origin); stripe++) {
     signal?.throwIfAborted();
     const { shards, present, count } = await gather(blobs, heads, group, origin, stripe);
-    if (count < origin.data) throw new ShardsError("TOO_FEW", `${count} shards are whole in stripe ${stripe}, and ${origin.data} are wanted`);
+    if (count < origin.data) {
+      throw new ShardsError("TOO_FEW", `${count} shards are whole in stripe ${stripe}, and ${origin.data} are wanted`);
+    }
     restore(bf, origin, shards, present);
     const content = shards.subarray(0, Math.min(widthOf(origin), origin.length - stripe * widthOf(origin)));
     hash.update(content);
@@ -213,8 +236,12 @@ export async function join(bf, blobs, { signal, onProgress } = {}) {
     onProgress?.((stripe + 1) / stripesOf(origin));
     await turn();
   }
-  if (group.size < origin.data) throw new ShardsError("TOO_FEW", `${group.size} shards are there, and ${origin.data} are wanted`);
+  if (group.size < origin.data) {
+    throw new ShardsError("TOO_FEW", `${group.size} shards are there, and ${origin.data} are wanted`);
+  }
   const identity = hash.digest();
-  if (!isSame(identity, origin.identity)) throw new ShardsError("OTHER_CONTENT", "the shards give another file than the one that they name");
+  if (!isSame(identity, origin.identity)) {
+    throw new ShardsError("OTHER_CONTENT", "the shards give another file than the one that they name");
+  }
   return { identity: hex(identity), file: new Blob(pieces) };
 }

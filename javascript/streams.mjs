@@ -1,7 +1,7 @@
 // Hashes of streams, piece by piece, so that a message need not be in memory.
 
-/** Goes over the pieces of a ReadableStream, a Blob or an iterable, and tells how far it is. An aborted signal ends it, and a stream is then
- * cancelled. */
+/** Goes over the pieces of a ReadableStream, a Blob or an iterable, and tells how far it is. An aborted signal ends
+ * it, and a stream is then cancelled. */
 export async function* piecesOf(source, { signal, onProgress } = {}) {
   signal?.throwIfAborted();
   const stream = typeof source?.stream === "function" ? source.stream() : source;

@@ -404,5 +404,6 @@ export const FIELDS = [
   {"name": "p192", "type": "Poly192", "bits": 192, "word": "u192", "about": "GF(2^64)[y] modulo y^3 + y + 1 over p64, the coefficient of 1 first"},
 ];
 
-// The Cantor vectors of the level of 16 bits, which each larger level has too: the first is 1, and of v^2 + v each other one makes the one before.
+// The Cantor vectors of the level of 16 bits, which each larger level has too: the first is 1, and of v^2 + v each
+// other one makes the one before.
 export const CANTOR_VECTORS = [1, 2, 12, 6, 102, 190, 54, 172, 5188, 10486, 50958, 25008, 26598, 58600, 25332, 52584];

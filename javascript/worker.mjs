@@ -1,4 +1,5 @@
-// A worker of a page: it splits and joins files, so that the page stays alive. `Background` in background.mjs speaks with it.
+// A worker of a page: it splits and joins files, so that the page stays alive. `Background` in background.mjs speaks
+// with it.
 import { load } from "./binary_field.mjs";
 import { inspect, join, split } from "./shards.mjs";
 

@@ -1,10 +1,13 @@
-"""Lays out the module of WebAssembly, the JavaScript package and the page: build_module.py [--no-simd] [--from MODULE] FOLDER.
+"""Lays out the module of WebAssembly, the JavaScript package and the page.
+
+build_module.py [--no-simd] [--from MODULE] FOLDER
 
     FOLDER/lib/binary_field.wasm    the module, with its SHA-256 beside it
     FOLDER/javascript/              the package, with the module in it, as `npm pack` takes it
     FOLDER/web/                     the page, with all that it loads, for any server of files
 
-Without --from the library is proved and compiled (scripts/prove_library.py). build-library calls this for its target wasm64.
+Without --from the library is proved and compiled (scripts/prove_library.py). build-library calls this for its target
+wasm64.
 """
 
 import argparse
@@ -99,7 +102,7 @@ def require_library(module):
 
 def proved(form):
     """The module of a form, which is proved and compiled here."""
-    with tempfile.NamedTemporaryFile(mode="r", encoding="utf-8", prefix="build-library-", suffix=".log", delete=False) as log:
+    with tempfile.NamedTemporaryFile(prefix="build-library-", suffix=".log", delete=False) as log:
         command = [sys.executable, "-B", files.TOP / "scripts/prove_library.py", log.name, form]
         if subprocess.run(command, check=False).returncode:
             sys.exit(f"build-library: {forms.CRATE} was not built; all that rt said is in {log.name}")

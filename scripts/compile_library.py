@@ -1,4 +1,5 @@
-"""Compiles the crate of the C library over libraries that are there, by the kit's `rattle build`, and links modules of WebAssembly."""
+"""Compiles the crate of the C library over libraries that are there, by the kit's `rattle build`, and links modules of
+WebAssembly."""
 
 import os
 import pathlib
@@ -9,8 +10,8 @@ import crates
 import files
 import forms
 
-# What the last line of a proof says that took nothing from earlier checks, but for the kit's own logic, the libraries below, and the folder of
-# this run.
+# What the last line of a proof says that took nothing from earlier checks, but for the kit's own logic, the libraries
+# below, and the folder of this run.
 TRUSTED = {"logic-built=trusted", "libraries-built=trusted", "statements=trusted", "incremental=trusted"}
 
 
@@ -22,7 +23,8 @@ def rlib(name):
 def kit_folder():
     """The folder of the kit: the page that `rt doc` names stands in it."""
     named = os.environ.get("RT", "rt")
-    return pathlib.Path(subprocess.run([named, "doc"], capture_output=True, text=True, check=True).stdout.strip()).resolve().parent
+    page = subprocess.run([named, "doc"], capture_output=True, text=True, check=True).stdout.strip()
+    return pathlib.Path(page).resolve().parent
 
 
 def below():
@@ -40,12 +42,13 @@ def words_of(kit):
         words += ["--extern", f"{name}={rlib(name)}"] if name in known else []
     for name in below():
         words += ["-L", f"dependency={rlib(name).parent}"]
-    words += ["-L", f"dependency={kit}/rlibs", "--antt-project", f"{kit}/rattle/logic/antt-project.json", "--logic-built", f"{kit}/logic_built"]
-    return [*words, "--backend", "llvm", "--jobs", "1"]
+    words += ["-L", f"dependency={kit}/rlibs", "--antt-project", f"{kit}/rattle/logic/antt-project.json"]
+    return [*words, "--logic-built", f"{kit}/logic_built", "--backend", "llvm", "--jobs", "1"]
 
 
 def toolchain(kit, form, folder):
-    """The kit's folder of compilers; for a form of which clang is told more, one in this folder whose clang is the kit's with these words."""
+    """The kit's folder of compilers; for a form of which clang is told more, one in this folder whose clang is the kit's
+    with these words."""
     own = kit / "toolchain"
     if form not in forms.MORE_FOR_CLANG:
         return own
@@ -56,17 +59,23 @@ def toolchain(kit, form, folder):
         if it.name != "clang" and not link.is_symlink():
             link.symlink_to(it)
     clang = made / "bin/clang"
-    clang.write_text(f'#!/bin/sh\nexec {shlex.quote(str(own / "bin/clang"))} "$@" {shlex.join(forms.MORE_FOR_CLANG[form])}\n', encoding="utf-8")
+    named, more = shlex.quote(str(own / "bin/clang")), shlex.join(forms.MORE_FOR_CLANG[form])
+    clang.write_text(f'#!/bin/sh\nexec {named} "$@" {more}\n', encoding="utf-8")
     clang.chmod(0o755)
     return made
 
 
+def run(words, **more):
+    """Runs a command, of which all that it prints is kept."""
+    return subprocess.run(list(map(str, words)), stdin=subprocess.DEVNULL, stdout=subprocess.PIPE,
+                          stderr=subprocess.STDOUT, text=True, errors="replace", check=False, **more)
+
+
 def build(kit, form, archive, checked, says):
-    """Checks the crate and compiles it into the archive, and links the module; whether it is proved over the libraries that are there. What was
-    checked for one form is kept in the folder `checked` for the next."""
-    words = [*words_of(kit), "--toolchain", toolchain(kit, form, checked), "--incremental", checked / "incremental", *forms.FLAGS[form], "-o", archive]
-    ran = subprocess.run(list(map(str, [kit / "bin/rattle", "build", *words])), cwd=files.CRATES / forms.CRATE, stdin=subprocess.DEVNULL,
-                         stdout=subprocess.PIPE, stderr=subprocess.STDOUT, text=True, errors="replace", check=False)
+    """Checks the crate and compiles it into the archive, and links the module; whether it is proved over the libraries
+    that are there. What was checked for one form is kept in the folder `checked` for the next."""
+    words = [*words_of(kit), "--toolchain", toolchain(kit, form, checked), "--incremental", checked / "incremental"]
+    ran = run([kit / "bin/rattle", "build", *words, *forms.FLAGS[form], "-o", archive], cwd=files.CRATES / forms.CRATE)
     verdict = next((it for it in reversed(ran.stdout.splitlines()) if it.startswith("logic=")), "")
     said = {it for it in verdict.split() if it.endswith("=trusted")}
     if ran.returncode or not verdict.startswith("logic=proved ") or said - TRUSTED:
@@ -80,8 +89,7 @@ def build(kit, form, archive, checked, says):
 def link(kit, archive, says):
     """Links an archive for WebAssembly into a module, which stands beside it; whether that went well."""
     module = archive.with_suffix(".wasm")
-    ran = subprocess.run([kit / "bin/rattle-link", *forms.WASM, "--toolchain", kit / "toolchain", "-o", module, archive], stdin=subprocess.DEVNULL,
-                         stdout=subprocess.PIPE, stderr=subprocess.STDOUT, text=True, errors="replace", check=False)
+    ran = run([kit / "bin/rattle-link", *forms.WASM, "--toolchain", kit / "toolchain", "-o", module, archive])
     if ran.returncode:
         says(f"{ran.stdout[-3000:]}{module} was not linked")
     return ran.returncode == 0

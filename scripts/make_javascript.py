@@ -1,6 +1,6 @@
 #!/usr/bin/env python3
-"""Writes what JavaScript calls the C library by, as a module of WebAssembly, from the tables of fields.py and c_library.py. With --check it
-compares instead.
+"""Writes what JavaScript calls the C library by, as a module of WebAssembly, from the tables of fields.py and
+c_library.py. With --check it compares instead.
 
     javascript/tables.mjs       the functions with their parameters, the statuses and the fields
     javascript/fields.d.ts      the type of each field, and the names of the functions
@@ -17,7 +17,8 @@ import files
 
 WRITTEN = files.generated("make_javascript.py")
 # The array of JavaScript that has the words of an element, by the word of the table.
-ARRAYS = {"u8": "Uint8Array", "u16": "Uint16Array", "u32": "Uint32Array", "u64": "BigUint64Array", "u128": "BigUint64Array", "u192": "BigUint64Array"}
+ARRAYS = {"u8": "Uint8Array", "u16": "Uint16Array", "u32": "Uint32Array"}
+ARRAYS |= dict.fromkeys(("u64", "u128", "u192"), "BigUint64Array")
 
 
 def field_row(field):
@@ -59,7 +60,8 @@ export const FUNCTIONS = {{
 export const FIELDS = [
 {rows}];
 
-// The Cantor vectors of the level of 16 bits, which each larger level has too: the first is 1, and of v^2 + v each other one makes the one before.
+// The Cantor vectors of the level of 16 bits, which each larger level has too: the first is 1, and of v^2 + v each
+// other one makes the one before.
 export const CANTOR_VECTORS = {json.dumps(cantor.vectors()[:16])};
 """
 

@@ -1,5 +1,5 @@
-"""The page of theorems as HTML, in which each row of a table has a name that a link can lead to: its first five words, with dashes. Of rows that
-begin alike only the first has it."""
+"""The page of theorems as HTML, in which each row of a table has a name that a link can lead to: its first five words,
+with dashes. Of rows that begin alike only the first has it."""
 
 import html
 import re

@@ -1,4 +1,5 @@
-// The first part: a field, an operation and operands, with the answer as one types, and the multiplication table of the small fields.
+// The first part: a field, an operation and operands, with the answer as one types, and the multiplication table of the
+// small fields.
 const OPERATIONS = {
   add: { says: "sum", operands: 2, theorem: () => "sums-products-squares-powers-dot" },
   mul: { says: "product", operands: 2, theorem: productTheorem },
@@ -49,7 +50,9 @@ export function startAsk(bf) {
     const words = [field.name, operation.value, left.value.trim(), ...(operands === 2 ? [right.value.trim()] : [])];
     const line = words.join(" ");
     const answer = bf.answer(line);
-    find("answer").textContent = answer === "none" ? "none: zero has no inverse" : ERRORS[answer] ? `${answer}: ${ERRORS[answer]}` : answer;
+    find("answer").textContent = answer === "none"
+      ? "none: zero has no inverse"
+      : ERRORS[answer] ? `${answer}: ${ERRORS[answer]}` : answer;
     find("line").textContent = line;
     const row = theorem(field);
     find("theorem").href = `theorems.html#${row}`;
@@ -58,7 +61,9 @@ export function startAsk(bf) {
   const changeField = () => {
     const field = chosen();
     find("field-about").textContent = `${field.about}. An element has ${digitsOf(field)} digits.`;
-    const [x, y] = FIRST[field.name] ?? ["3", "2"].map((it) => (field.bits === 1 ? "1" : it).padStart(digitsOf(field), "0"));
+    const [x, y] = FIRST[field.name] ?? ["3", "2"].map(
+      (it) => (field.bits === 1 ? "1" : it).padStart(digitsOf(field), "0")
+    );
     [left.value, right.value] = [x, y];
     table.draw(field);
     ask();
@@ -112,7 +117,9 @@ class Table {
 
   #under(event) {
     const box = this.#canvas.getBoundingClientRect();
-    const at = (place, start, length) => Math.max(0, Math.min(this.#size - 1, Math.floor(((place - start) / length) * this.#size)));
+    const at = (place, start, length) => Math.max(
+      0, Math.min(this.#size - 1, Math.floor(((place - start) / length) * this.#size))
+    );
     return [at(event.clientX, box.left, box.width), at(event.clientY, box.top, box.height)];
   }
 

@@ -12,7 +12,8 @@ try {
   startAsk(bf);
   startShards(bf);
   startTransform(bf);
-  state.textContent = `The library, version ${bf.version}, was loaded in ${Math.round(performance.now() - began)} milliseconds.`;
+  const spent = Math.round(performance.now() - began);
+  state.textContent = `The library, version ${bf.version}, was loaded in ${spent} milliseconds.`;
   // What tests wait for.
   document.documentElement.dataset.state = "ready";
 } catch (error) {

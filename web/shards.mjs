@@ -1,4 +1,5 @@
-// The second part: a file is split into shards, some are lost or overwritten, and it is restored. The work is done in a worker.
+// The second part: a file is split into shards, some are lost or overwritten, and it is restored. The work is done in a
+// worker.
 import { Background } from "./binary_field/background.mjs";
 
 const find = (id) => document.getElementById(id);
@@ -23,7 +24,11 @@ function save(blob, name) {
   setTimeout(() => URL.revokeObjectURL(link.href), 60_000);
 }
 
-const bytesText = (count) => (count < 10_000 ? `${count} bytes` : count < 10_000_000 ? `${Math.round(count / 1000)} kB` : `${Math.round(count / 1_000_000)} MB`);
+const bytesText = (count) => (
+  count < 10_000
+    ? `${count} bytes`
+    : count < 10_000_000 ? `${Math.round(count / 1000)} kB` : `${Math.round(count / 1_000_000)} MB`
+);
 
 export function startShards(bf) {
   new ShardsPart(new Background(bf.module));
@@ -45,7 +50,9 @@ class ShardsPart {
     find("sample").addEventListener("click", () => this.#take(sampleFile()));
     find("split").addEventListener("click", () => this.#split());
     find("restore").addEventListener("click", () => this.#restore());
-    find("cancel").addEventListener("click", () => this.#controller?.abort(new DOMException("The work was cancelled.", "AbortError")));
+    find("cancel").addEventListener(
+      "click", () => this.#controller?.abort(new DOMException("The work was cancelled.", "AbortError"))
+    );
     find("shard-files").addEventListener("change", (event) => this.#joinFiles([...event.target.files]));
     const drop = find("drop");
     const over = (is) => (event) => {
@@ -99,7 +106,8 @@ class ShardsPart {
     this.#shards = shards.map((whole) => ({ whole, blob: whole, isLost: false, isChanged: false }));
     find("restore").disabled = false;
     this.#show();
-    this.#say(`${shards.length} shards of ${bytesText(shards[0].size)}, made in ${done.seconds} s. Any ${data} of them restore ${this.#name}. Its SHA-256 is ${identity}.`);
+    const made = `${shards.length} shards of ${bytesText(shards[0].size)}, made in ${done.seconds} s`;
+    this.#say(`${made}. Any ${data} of them restore ${this.#name}. Its SHA-256 is ${identity}.`);
   }
 
   #show() {
@@ -111,7 +119,8 @@ class ShardsPart {
         item.className = shard.isLost ? "lost" : shard.isChanged ? "changed" : "";
         const state = document.createElement("span");
         state.className = "state";
-        state.textContent = `Shard ${index}, ${index < data ? "data" : "parity"}: ${shard.isLost ? "lost" : shard.isChanged ? "overwritten" : "whole"}`;
+        const is = shard.isLost ? "lost" : shard.isChanged ? "overwritten" : "whole";
+        state.textContent = `Shard ${index}, ${index < data ? "data" : "parity"}: ${is}`;
         const act = (change) => () => {
           const focused = [...item.querySelectorAll("button")].indexOf(document.activeElement);
           change();
@@ -147,7 +156,11 @@ class ShardsPart {
   // Says what came back, and hands it over.
   #offer({ result: { identity, file }, seconds }) {
     this.#restored = file;
-    const compared = !this.#identity ? "is the one that its shards name" : identity === this.#identity ? "is that of the file that was split" : "is another than that of the file that was split";
+    const compared = !this.#identity
+      ? "is the one that its shards name"
+      : identity === this.#identity
+        ? "is that of the file that was split"
+        : "is another than that of the file that was split";
     this.#say(`${bytesText(file.size)} came back in ${seconds} s. The SHA-256 ${identity} ${compared}. `);
     find("shards-say").append(button(`Download ${this.#name}`, () => save(this.#restored, this.#name)));
   }
@@ -158,7 +171,9 @@ function overwrite(shard) {
   shard.isChanged = !shard.isChanged;
   const middle = Math.floor((shard.whole.size - OVERWRITTEN) / 2);
   const other = new Uint8Array(OVERWRITTEN).fill(0x55);
-  shard.blob = shard.isChanged ? new Blob([shard.whole.slice(0, middle), other, shard.whole.slice(middle + OVERWRITTEN)]) : shard.whole;
+  shard.blob = shard.isChanged
+    ? new Blob([shard.whole.slice(0, middle), other, shard.whole.slice(middle + OVERWRITTEN)])
+    : shard.whole;
 }
 
 /** A file of lines that can be recognised once it is back. */

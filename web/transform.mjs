@@ -1,5 +1,5 @@
-// The third part: the stages of an additive transform, one by one. The library computes each product and sum, and what the last stage leaves is
-// compared with its own whole transform.
+// The third part: the stages of an additive transform, one by one. The library computes each product and sum, and what
+// the last stage leaves is compared with its own whole transform.
 import { CANTOR_VECTORS } from "./binary_field/tables.mjs";
 
 const find = (id) => document.getElementById(id);
@@ -13,10 +13,12 @@ function cantorVectors(bf, field) {
 }
 
 /** The sum of the vectors at the set bits of a number. */
-const sumAt = (field, vectors, number) => vectors.reduce((sum, it, at) => ((number >> at) & 1 ? field.add(sum, it) : sum), 0);
+const sumAt = (field, vectors, number) => vectors.reduce(
+  (sum, it, at) => ((number >> at) & 1 ? field.add(sum, it) : sum), 0
+);
 
-/** The places before the first stage and behind each, and the factors of each stage: factor of a block is s_j of its first point, and s_j takes
- * Cantor vector b to vector b - j. */
+/** The places before the first stage and behind each, and the factors of each stage: factor of a block is s_j of its
+ * first point, and s_j takes Cantor vector b to vector b - j. */
 export function stagesOf(bf, field, coefficients) {
   const m = Math.log2(coefficients.length);
   const vectors = field.elements(cantorVectors(bf, field));
@@ -77,10 +79,14 @@ class TransformPart {
   compute() {
     const [field, m] = [this.#field(), find("exponent").valueAsNumber];
     const words = find("coefficients").value.trim().split(/[\s,]+/).filter(Boolean);
-    const wrong = !(Number.isInteger(m) && m >= 1 && m <= 4) ? "m is a whole number from 1 to 4" : words.find((it) => !/^[0-9a-f]+$/i.test(it) || it.length * 4 > Math.max(field.bits, 4));
+    const wrong = !(Number.isInteger(m) && m >= 1 && m <= 4)
+      ? "m is a whole number from 1 to 4"
+      : words.find((it) => !/^[0-9a-f]+$/i.test(it) || it.length * 4 > Math.max(field.bits, 4));
     if (wrong) {
       this.#stages = [];
-      find("transform-says").textContent = wrong.startsWith("m is") ? `${wrong}.` : `${wrong} is no element of ${field.type}.`;
+      find("transform-says").textContent = wrong.startsWith("m is")
+        ? `${wrong}.`
+        : `${wrong} is no element of ${field.type}.`;
       return;
     }
     const read = (word) => (field.bits < 64 ? Number(`0x${word}`) : BigInt(`0x${word}`));
@@ -109,11 +115,13 @@ class TransformPart {
     const m = this.#stages.length - 1;
     const { j, factors } = this.#stages[at];
     const text = (it) => it.toString(16);
+    const compared = this.#isSame ? "the same as" : "OTHER THAN";
     find("stage").setAttribute("aria-valuetext", at ? `behind stage ${j}` : "before the first stage");
     find("transform-says").textContent = !at
       ? "Before the first stage the places have the coefficients."
-      : `Behind stage ${j}: in each pair that is ${1 << j} apart the lower got the upper times a factor (${factors.map(text).join(", ")}), and the upper then the lower.` +
-        (at < m ? "" : ` These are the values, and ${this.#isSame ? "the same as" : "OTHER THAN"} those of the library's whole transform.`);
+      : `Behind stage ${j}: in each pair that is ${1 << j} apart the lower got the upper times a factor ` +
+        `(${factors.map(text).join(", ")}), and the upper then the lower.` +
+        (at < m ? "" : ` These are the values, and ${compared} those of the library's whole transform.`);
     find("transform-says").dataset.same = this.#isSame;
     this.#draw(at);
     this.#list(at);
@@ -135,8 +143,15 @@ class TransformPart {
       const kind = column < at ? "wire done" : "wire";
       for (let place = 0; place < count; place++) {
         const other = place ^ (1 << j);
-        made.push(svg("line", { class: kind, x1: from, y1: y(place), x2: to, y2: y(place) }), svg("line", { class: kind, x1: from, y1: y(place), x2: to, y2: y(other) }));
-        if (!(place & (1 << j))) made.push(svg("text", { class: "factor", x: from + 4, y: y(place) - 5 }, `× ${short(factors[place >> (j + 1)])}`));
+        made.push(
+          svg("line", { class: kind, x1: from, y1: y(place), x2: to, y2: y(place) }),
+          svg("line", { class: kind, x1: from, y1: y(place), x2: to, y2: y(other) })
+        );
+        if (!(place & (1 << j))) {
+          made.push(
+            svg("text", { class: "factor", x: from + 4, y: y(place) - 5 }, `× ${short(factors[place >> (j + 1)])}`)
+          );
+        }
       }
     }
     for (let column = 0; column <= at; column++) {
@@ -144,7 +159,9 @@ class TransformPart {
         made.push(svg("text", { x: LEFT + column * STEP - 32, y: y(place) + 5 }, short(it)));
       });
     }
-    for (let place = 0; place < count; place++) made.push(svg("text", { class: "factor", x: 4, y: y(place) + 4 }, String(place)));
+    for (let place = 0; place < count; place++) {
+      made.push(svg("text", { class: "factor", x: 4, y: y(place) + 4 }, String(place)));
+    }
     picture.replaceChildren(...made);
   }
 
@@ -164,7 +181,9 @@ class TransformPart {
     const heads = ["place", ...shown.map(({ j }) => (j === undefined ? "coefficient" : `behind stage ${j}`))];
     find("places").tHead.replaceChildren(row(heads.map((it) => cell("th", it))));
     find("places").tBodies[0].replaceChildren(
-      ...shown[0].places.map((_, place) => row([cell("td", place), ...shown.map(({ places }) => cell("td", places[place].toString(16)))])),
+      ...shown[0].places.map(
+        (_, place) => row([cell("td", place), ...shown.map(({ places }) => cell("td", places[place].toString(16)))])
+      ),
     );
   }
 }

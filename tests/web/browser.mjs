@@ -1,11 +1,19 @@
-// A headless browser, driven by the DevTools protocol over a pipe, and a server of files: what tests of pages need, without a package.
+// A headless browser, driven by the DevTools protocol over a pipe, and a server of files: what tests of pages need,
+// without a package.
 import { spawn } from "node:child_process";
 import fs from "node:fs";
 import http from "node:http";
 import os from "node:os";
 import path from "node:path";
 
-const TYPES = { ".html": "text/html", ".css": "text/css", ".mjs": "text/javascript", ".wasm": "application/wasm", ".svg": "image/svg+xml", ".txt": "text/plain" };
+const TYPES = {
+  ".html": "text/html",
+  ".css": "text/css",
+  ".mjs": "text/javascript",
+  ".wasm": "application/wasm",
+  ".svg": "image/svg+xml",
+  ".txt": "text/plain"
+};
 
 // Keys that browsers know by a number.
 const KEY_CODES = { Tab: 9, Enter: 13, " ": 32, ArrowLeft: 37, ArrowUp: 38, ArrowRight: 39, ArrowDown: 40 };
@@ -16,7 +24,9 @@ export async function serve(folder) {
     const place = path.join(folder, path.normalize(decodeURIComponent(new URL(request.url, "http://x").pathname)));
     const file = place.endsWith(path.sep) ? path.join(place, "index.html") : place;
     fs.readFile(file, (error, content) => {
-      response.writeHead(error ? 404 : 200, { "content-type": TYPES[path.extname(file)] ?? "application/octet-stream" });
+      response.writeHead(
+        error ? 404 : 200, { "content-type": TYPES[path.extname(file)] ?? "application/octet-stream" }
+      );
       response.end(content);
     });
   });
@@ -42,8 +52,16 @@ export class Page {
   static async open(program, size = [1000, 900]) {
     const page = new Page();
     page.#folder = fs.mkdtempSync(path.join(os.tmpdir(), "browser-"));
-    const flags = ["--headless=new", "--no-sandbox", "--disable-gpu", "--disable-dev-shm-usage", "--no-first-run", "--disable-background-networking"];
-    page.#process = spawn(program, [...flags, "--remote-debugging-pipe", `--user-data-dir=${page.#folder}`, `--window-size=${size}`, "about:blank"], {
+    const flags = [
+      "--headless=new",
+      "--no-sandbox",
+      "--disable-gpu",
+      "--disable-dev-shm-usage",
+      "--no-first-run",
+      "--disable-background-networking"
+    ];
+    const places = [`--user-data-dir=${page.#folder}`, `--window-size=${size}`, "about:blank"];
+    page.#process = spawn(program, [...flags, "--remote-debugging-pipe", ...places], {
       stdio: ["ignore", "ignore", "ignore", "pipe", "pipe"],
     });
     page.#process.on("exit", () => page.#ended());
@@ -51,14 +69,26 @@ export class Page {
     page.#process.stdio[4].setEncoding("utf8").on("data", (text) => page.#read(text));
     page.#process.stdio[3].on("error", () => {});
     const { targetInfos } = await page.send("Target.getTargets");
-    const { targetId } = targetInfos.find((it) => it.type === "page") ?? (await page.send("Target.createTarget", { url: "about:blank" }));
+    const { targetId } = targetInfos.find((it) => it.type === "page") ?? (
+      await page.send("Target.createTarget", { url: "about:blank" })
+    );
     page.#session = (await page.send("Target.attachToTarget", { targetId, flatten: true })).sessionId;
-    for (const domain of ["Page", "Runtime", "Log", "Network", "DOM", "Accessibility"]) await page.send(`${domain}.enable`);
-    page.on("Runtime.consoleAPICalled", ({ type, args }) => page.messages.push(`${type}: ${args.map((it) => it.value ?? it.description).join(" ")}`));
-    page.on("Runtime.exceptionThrown", ({ exceptionDetails: it }) => page.messages.push(`exception: ${it.exception?.description ?? it.text}`));
+    for (const domain of ["Page", "Runtime", "Log", "Network", "DOM", "Accessibility"]) {
+      await page.send(`${domain}.enable`);
+    }
+    page.on(
+      "Runtime.consoleAPICalled",
+      ({ type, args }) => page.messages.push(`${type}: ${args.map((it) => it.value ?? it.description).join(" ")}`)
+    );
+    page.on(
+      "Runtime.exceptionThrown",
+      ({ exceptionDetails: it }) => page.messages.push(`exception: ${it.exception?.description ?? it.text}`)
+    );
     page.on("Log.entryAdded", ({ entry }) => page.messages.push(`${entry.level}: ${entry.text} ${entry.url ?? ""}`));
     page.on("Network.requestWillBeSent", ({ request }) => page.requests.push(request.url));
-    await page.send("Emulation.setDeviceMetricsOverride", { width: size[0], height: size[1], deviceScaleFactor: 1, mobile: false });
+    await page.send(
+      "Emulation.setDeviceMetricsOverride", { width: size[0], height: size[1], deviceScaleFactor: 1, mobile: false }
+    );
     return page;
   }
 
@@ -106,8 +136,12 @@ export class Page {
 
   /** The value of an expression in the page; a promise is waited for. */
   async value(expression) {
-    const { result, exceptionDetails } = await this.send("Runtime.evaluate", { expression, awaitPromise: true, returnByValue: true });
-    if (exceptionDetails) throw new Error(`${expression}: ${exceptionDetails.exception?.description ?? exceptionDetails.text}`);
+    const { result, exceptionDetails } = await this.send(
+      "Runtime.evaluate", { expression, awaitPromise: true, returnByValue: true }
+    );
+    if (exceptionDetails) {
+      throw new Error(`${expression}: ${exceptionDetails.exception?.description ?? exceptionDetails.text}`);
+    }
     return result.value;
   }
 
@@ -124,28 +158,42 @@ export class Page {
 
   /** Clicks in the middle of the element that a selector names. */
   async click(selector) {
-    const place = await this.value(`(() => { const it = document.querySelector(${JSON.stringify(selector)}); it.scrollIntoView({ block: "center" });
-      const box = it.getBoundingClientRect(); return { x: box.left + box.width / 2, y: box.top + box.height / 2 }; })()`);
-    for (const type of ["mousePressed", "mouseReleased"]) await this.send("Input.dispatchMouseEvent", { type, button: "left", clickCount: 1, ...place });
+    const place = await this.value(`(() => {
+      const it = document.querySelector(${JSON.stringify(selector)});
+      it.scrollIntoView({ block: "center" });
+      const box = it.getBoundingClientRect();
+      return { x: box.left + box.width / 2, y: box.top + box.height / 2 };
+    })()`);
+    for (const type of ["mousePressed", "mouseReleased"]) {
+      await this.send("Input.dispatchMouseEvent", { type, button: "left", clickCount: 1, ...place });
+    }
   }
 
   /** Presses a key, in the element that has the focus. */
   async press(key) {
-    const more = { ...(KEY_CODES[key] && { windowsVirtualKeyCode: KEY_CODES[key] }), ...(key.length === 1 && { text: key }) };
+    const more = {
+      ...(KEY_CODES[key] && { windowsVirtualKeyCode: KEY_CODES[key] }), ...(key.length === 1 && { text: key })
+    };
     await this.send("Input.dispatchKeyEvent", { type: "keyDown", key, code: key, ...more });
     await this.send("Input.dispatchKeyEvent", { type: "keyUp", key, code: key, ...more, text: undefined });
   }
 
   /** Puts a text into a field as a person would: what stands there is selected and replaced. */
   async type(selector, text) {
-    await this.value(`(() => { const it = document.querySelector(${JSON.stringify(selector)}); it.focus(); it.select(); })()`);
+    await this.value(
+      `(() => { const it = document.querySelector(${JSON.stringify(selector)}); it.focus(); it.select(); })()`
+    );
     await this.send("Input.insertText", { text });
   }
 
   /** Chooses an option of a list. */
   choose(selector, value) {
-    return this.value(`(() => { const it = document.querySelector(${JSON.stringify(selector)}); it.value = ${JSON.stringify(value)};
-      for (const name of ["input", "change"]) it.dispatchEvent(new Event(name, { bubbles: true })); return it.value; })()`);
+    return this.value(`(() => {
+      const it = document.querySelector(${JSON.stringify(selector)});
+      it.value = ${JSON.stringify(value)};
+      for (const name of ["input", "change"]) it.dispatchEvent(new Event(name, { bubbles: true }));
+      return it.value;
+    })()`);
   }
 
   /** Gives files to a field for files. */

@@ -14,7 +14,9 @@ const fields = bf.fields.map((type) => bf[type]);
 /** Elements drawn anew, of which one is 0 and one 1. */
 function drawn(field, count) {
   const mask = (1n << BigInt(field.bits)) - 1n;
-  return field.array(Array.from({ length: count }, (_, at) => (at < 2 ? at : BigInt(`0x${randomBytes(24).toString("hex")}`) & mask)));
+  return field.array(
+    Array.from({ length: count }, (_, at) => (at < 2 ? at : BigInt(`0x${randomBytes(24).toString("hex")}`) & mask))
+  );
 }
 
 test("the version is that of the package", () => {
@@ -39,7 +41,10 @@ test("the laws of each field, over arrays and over single elements", () => {
     assert.deepEqual(field.multiply(field.inverse(x), field.square(x)), x);
     assert.deepEqual(field.power(x, 3), field.multiply(field.square(x), x));
     assert.equal(field.dot(x, y), field.elements(products).reduce((sum, it) => field.add(sum, it)));
-    assert.equal(field.product(x.slice(field.words)), field.elements(x).slice(1).reduce((product, it) => field.multiply(product, it)));
+    assert.equal(
+      field.product(x.slice(field.words)),
+      field.elements(x).slice(1).reduce((product, it) => field.multiply(product, it))
+    );
     const [a, b] = [field.elements(x)[5], field.elements(y)[6]];
     assert.equal(field.multiply(a, b), field.multiply(b, a));
     assert.deepEqual(field.multiply(x, a), field.multiplyBy(x, a));
@@ -52,8 +57,15 @@ test("the laws of each field, over arrays and over single elements", () => {
     assert.equal(field.multiply(own, y, { out: own }), own);
     assert.deepEqual(own, products);
     const shared = x.slice();
-    field.multiply(shared.subarray(0, 8 * field.words), shared.subarray(field.words, 9 * field.words), { out: shared.subarray(2 * field.words, 10 * field.words) });
-    assert.deepEqual(shared.slice(2 * field.words, 10 * field.words), field.multiply(x.slice(0, 8 * field.words), x.slice(field.words, 9 * field.words)));
+    field.multiply(
+      shared.subarray(0, 8 * field.words),
+      shared.subarray(field.words, 9 * field.words),
+      { out: shared.subarray(2 * field.words, 10 * field.words) }
+    );
+    assert.deepEqual(
+      shared.slice(2 * field.words, 10 * field.words),
+      field.multiply(x.slice(0, 8 * field.words), x.slice(field.words, 9 * field.words))
+    );
   }
 });
 
@@ -74,7 +86,9 @@ test("transforms, changes of basis and matrices", () => {
     assert.equal(field.matrix.rank(unit, 2, 2), 2);
     assert.equal(Number(field.matrix.determinant(unit, 2)), 1);
     assert.deepEqual(field.matrix.solve(unit, 2, 2, field.array([0, 1])), field.array([1, 1]));
-    assert.deepEqual(field.matrix.rowReduce(field.array([0, 1, 0, 1]), 2, 2), { matrix: field.array([0, 1, 0, 0]), pivots: [1] });
+    assert.deepEqual(
+      field.matrix.rowReduce(field.array([0, 1, 0, 1]), 2, 2), { matrix: field.array([0, 1, 0, 0]), pivots: [1] }
+    );
   }
 });
 
@@ -84,7 +98,11 @@ test("hashes, whole, in pieces and of streams", async () => {
   const text = new Uint8Array(Buffer.from("0388dace60b6a392f328c2b971b2fe78", "hex"));
   assert.equal(hex(bf.tags.gcmGhash(own, new Uint8Array(0), text)), "f38cbb1ad69223dcc3457ae5b6b0f885");
   const message = bytes(5000);
-  for (const [name, Pieces, ofStream] of [["ghash", bf.tags.Ghash, bf.tags.ghashOfStream], ["polyval", bf.tags.Polyval, bf.tags.polyvalOfStream]]) {
+  const hashes = [
+    ["ghash", bf.tags.Ghash, bf.tags.ghashOfStream],
+    ["polyval", bf.tags.Polyval, bf.tags.polyvalOfStream],
+  ];
+  for (const [name, Pieces, ofStream] of hashes) {
     const whole = bf.tags[name](own, message);
     assert.deepEqual(new Pieces(own).update(message.subarray(0, 77)).update(message.subarray(77)).digest(), whole);
     assert.deepEqual(await ofStream(own, new Blob([message])), whole);
@@ -120,7 +138,11 @@ test("codes", () => {
 });
 
 test("lines", () => {
-  for (const [line, answer] of [["t8 mul 10 10", "41"], ["r8 mul 57 83", "c1"], ["t8 inv 00", "none"], ["", "error 1"], ["é", "error 1"]]) assert.equal(bf.answer(line), answer);
+  for (
+    const [line, answer] of [
+      ["t8 mul 10 10", "41"], ["r8 mul 57 83", "c1"], ["t8 inv 00", "none"], ["", "error 1"], ["é", "error 1"],
+    ]
+  ) assert.equal(bf.answer(line), answer);
   assert.equal(bf.answer(Uint8Array.of(0xff)), "error 6");
 });
 
@@ -146,7 +168,11 @@ const MISUSES = [
   ["a detached array", () => T8.square(detached()), TypeError],
   ["a detached array to write to", () => T8.square(eight(), { out: detached() }), TypeError],
   ["arrays of unlike lengths", () => T8.multiply(eight(), new Uint8Array(9)), { code: "BF_LENGTH" }],
-  ["an array to write to of another length", () => T8.square(eight(), { out: new Uint8Array(9) }), { code: "BF_LENGTH" }],
+  [
+    "an array to write to of another length",
+    () => T8.square(eight(), { out: new Uint8Array(9) }),
+    { code: "BF_LENGTH" }
+  ],
   ["an array to write to of another type", () => T8.square(eight(), { out: new Uint16Array(8) }), TypeError],
   ["half an element", () => G128.square(new BigUint64Array(3)), RangeError],
   ["a word that is no element", () => GF2.add(Uint8Array.of(2), Uint8Array.of(1)), { code: "BF_NOT_AN_ELEMENT" }],
@@ -204,7 +230,10 @@ test("memory that may not grow", async () => {
   const small = await load(bf.module, { maximumBytes: 3 << 20 });
   const large = new Uint8Array(2 << 20).fill(3);
   const before = small.memoryBytes();
-  assert.throws(() => small.BinaryField8.square(large), (error) => error instanceof OutOfMemoryError && error.bytes > 3 << 20 && /bytes/.test(error.message));
+  assert.throws(
+    () => small.BinaryField8.square(large),
+    (error) => error instanceof OutOfMemoryError && error.bytes > 3 << 20 && /bytes/.test(error.message)
+  );
   assert.equal(small.memoryBytes(), before);
   assert.deepEqual(small.BinaryField8.square(large.subarray(0, 9)), bf.BinaryField8.square(large.subarray(0, 9)));
 });
@@ -218,26 +247,37 @@ test("no module, and another one", async () => {
 test("SHA-256", () => {
   for (const count of [0, 1, 55, 56, 63, 64, 65, 119, 120, 1000]) {
     const message = bytes(count);
-    assert.equal(hex(sha256(message.subarray(0, 9), message.subarray(9))), createHash("sha256").update(message).digest("hex"));
+    assert.equal(
+      hex(sha256(message.subarray(0, 9), message.subarray(9))), createHash("sha256").update(message).digest("hex")
+    );
   }
 });
 
 test("files of shards", async () => {
-  for (const [length, data, parity] of [[0, 1, 1], [1, 2, 1], [5000, 4, 2], [100_003, 10, 4], [300, 255, 1], [9000, 200, 100], [40_000_000, 4, 2]]) {
+  const shapes = [[0, 1, 1], [1, 2, 1], [5000, 4, 2], [100_003, 10, 4], [300, 255, 1], [9000, 200, 100]];
+  for (const [length, data, parity] of [...shapes, [40_000_000, 4, 2]]) {
     const content = bytes(length);
     const done = [];
-    const { shards, identity } = await split(bf, new Blob([content]), data, parity, { onProgress: (it) => done.push(it) });
+    const { shards, identity } = await split(
+      bf, new Blob([content]), data, parity, { onProgress: (it) => done.push(it) }
+    );
     assert.equal(identity, createHash("sha256").update(content).digest("hex"));
     assert.equal(shards.length, data + parity);
     assert.ok(length === 0 || done.at(-1) === 1);
     // The last ones first, the first ones lost, and the one that is then first overwritten where one more may be lost.
     const left = shards.slice(parity > 1 ? parity - 1 : parity).reverse();
-    if (parity > 1 && length) left[left.length - 1] = new Blob([left.at(-1).slice(0, 120), Uint8Array.of(1, 2, 3), left.at(-1).slice(123)]);
+    if (parity > 1 && length) {
+      left[left.length - 1] = new Blob([left.at(-1).slice(0, 120), Uint8Array.of(1, 2, 3), left.at(-1).slice(123)]);
+    }
     const joined = await join(bf, left);
     assert.equal(joined.identity, identity);
     assert.deepEqual(new Uint8Array(await joined.file.arrayBuffer()), content);
     const few = shards.slice(0, data - 1);
-    if (length) await assert.rejects(join(bf, few), (error) => error instanceof ShardsError && /TOO_FEW|NO_SHARDS/.test(error.code));
+    if (length) {
+      await assert.rejects(
+        join(bf, few), (error) => error instanceof ShardsError && /TOO_FEW|NO_SHARDS/.test(error.code)
+      );
+    }
   }
   const { shards } = await split(bf, new Blob([bytes(50_000)]), 3, 2);
   const other = (await split(bf, new Blob([bytes(50_000)]), 3, 2)).shards;
@@ -249,6 +289,12 @@ test("files of shards", async () => {
   await assert.rejects(split(bf, new Blob(["x"]), 0, 2), { code: "LIMITS" });
   await assert.rejects(split(bf, new Blob(["x"]), 65_000, 1000), { code: "LIMITS" });
   const controller = new AbortController();
-  const cancelled = split(bf, new Blob([bytes(40_000_000)]), 4, 2, { signal: controller.signal, onProgress: (done) => done > 0.3 && controller.abort() });
+  const cancelled = split(
+    bf,
+    new Blob([bytes(40_000_000)]),
+    4,
+    2,
+    { signal: controller.signal, onProgress: (done) => done > 0.3 && controller.abort() }
+  );
   await assert.rejects(cancelled, { name: "AbortError" });
 });

@@ -1,5 +1,6 @@
-// The page in headless Chromium, clicked through as a person would: check_page.mjs BROWSER FOLDER CASES [PICTURE]. FOLDER has web/ and cases/ as
-// scripts/test-web lays them out; CASES is a step for the replay of the cases in the browser. The program `shards` is taken from SHARDS, if there.
+// The page in headless Chromium, clicked through as a person would: check_page.mjs BROWSER FOLDER CASES [PICTURE].
+// FOLDER has web/ and cases/ as scripts/test-web lays them out; CASES is a step for the replay of the cases in the
+// browser. The program `shards` is taken from SHARDS, if there.
 import assert from "node:assert/strict";
 import { spawnSync } from "node:child_process";
 import { createHash, randomBytes } from "node:crypto";
@@ -45,16 +46,24 @@ async function ask() {
   await page.type("#right", "00000000000000000000000000000002");
   assert.equal(await page.text("#answer"), "00000000000000000000000000000087");
   // Every field and operation has an answer, and a row of the theorems.
-  const rows = await page.value(`(async () => (await (await fetch("theorems.html")).text()).match(/id="[^"]+"/g).map((it) => it.slice(4, -1)))()`);
+  const rows = await page.value(
+    `(async () => (await (await fetch("theorems.html")).text()).match(/id="[^"]+"/g).map((it) => it.slice(4, -1)))()`
+  );
   for (const field of await page.value(`[...document.querySelectorAll("#field option")].map((it) => it.value)`)) {
     await page.choose("#field", field);
     for (const operation of ["add", "mul", "square", "inv", "sqrt"]) {
       await page.choose("#operation", operation);
       assert.match(await page.text("#answer"), /^[0-9a-f]+$/, `${field} ${operation}`);
-      assert.ok(rows.includes(await page.value(`document.querySelector("#theorem").dataset.row`)), `${field} ${operation}`);
+      assert.ok(
+        rows.includes(await page.value(`document.querySelector("#theorem").dataset.row`)), `${field} ${operation}`
+      );
     }
   }
-  for (const it of await page.value(`[...document.querySelectorAll('a[href^="theorems.html#"]')].map((it) => it.hash.slice(1))`)) assert.ok(rows.includes(it), it);
+  for (
+    const it of await page.value(
+      `[...document.querySelectorAll('a[href^="theorems.html#"]')].map((it) => it.hash.slice(1))`
+    )
+  ) assert.ok(rows.includes(it), it);
   // The table: a point by the pointer, and one by keys.
   await page.choose("#field", "t4");
   await page.choose("#operation", "add");
@@ -80,7 +89,10 @@ async function shards() {
   await page.click("#shard-list li:nth-child(1) button:nth-of-type(1)");
   await page.value(`document.querySelector("#shard-list li:nth-child(2) button:nth-of-type(2)").focus()`);
   await page.press(" ");
-  assert.deepEqual(await page.value(`[...document.querySelectorAll("#shard-list .state")].slice(0, 3).map((it) => it.textContent)`), ["Shard 0, data: lost", "Shard 1, data: overwritten", "Shard 2, data: whole"]);
+  assert.deepEqual(
+    await page.value(`[...document.querySelectorAll("#shard-list .state")].slice(0, 3).map((it) => it.textContent)`),
+    ["Shard 0, data: lost", "Shard 1, data: overwritten", "Shard 2, data: whole"]
+  );
   await page.click("#restore");
   await page.until(`document.querySelector("#shards-say").textContent.includes("came back")`);
   assert.match(await says(), new RegExp(`${identity} is that of the file that was split`));
@@ -97,7 +109,9 @@ async function shards() {
 async function downloaded(name, act) {
   const file = path.join(work, name);
   await act();
-  for (let tries = 0; tries < 500 && !fs.existsSync(file); tries++) await new Promise((resolve) => setTimeout(resolve, 20));
+  for (let tries = 0; tries < 500 && !fs.existsSync(file); tries++) {
+    await new Promise((resolve) => setTimeout(resolve, 20));
+  }
   return fs.readFileSync(file);
 }
 
@@ -113,7 +127,9 @@ async function bothWays() {
   await page.until(`document.querySelector("#shards-say").textContent.includes("archive.bin. Its SHA-256")`);
   // Four of six, the first one among the lost.
   for (const index of [1, 3, 4, 5]) {
-    const made = await downloaded(`archive.bin.${index}`, () => page.click(`#shard-list li:nth-child(${index + 1}) button:nth-of-type(3)`));
+    const made = await downloaded(
+      `archive.bin.${index}`, () => page.click(`#shard-list li:nth-child(${index + 1}) button:nth-of-type(3)`)
+    );
     assert.equal(made.length, 104 + 32 + Math.ceil(content.length / 4));
   }
   if (!SHARDS) return say("left out: shards of the program `shards`, which is not there");
@@ -135,14 +151,17 @@ async function bothWays() {
   say("the program `shards` joins shards of the page, and the page those of the program");
 }
 
-/** A large file goes through while the page stays alive: how often a timer of 20 ms fires in a second, the fewest and as a rule. A machine with much
- * else to do may starve a page for a second, and only work in the page itself does so all the while. */
+/** A large file goes through while the page stays alive: how often a timer of 20 ms fires in a second, the fewest and
+ * as a rule. A machine with much else to do may starve a page for a second, and only work in the page itself does so
+ * all the while. */
 async function large(megabytes) {
   const file = path.join(work, "large.bin");
   fs.writeFileSync(file, randomBytes(megabytes * 1_000_000));
   await page.give("#file", [file]);
   await page.until(`document.querySelector("#shards-say").textContent.includes("large.bin")`);
-  await page.value(`globalThis.ticks = [performance.now()]; globalThis.timer = setInterval(() => ticks.push(performance.now()), 20); 0`);
+  await page.value(
+    `globalThis.ticks = [performance.now()]; globalThis.timer = setInterval(() => ticks.push(performance.now()), 20); 0`
+  );
   await page.click("#split");
   await page.until(`document.querySelector("#shards-say").textContent.includes("large.bin. Its SHA-256")`, 240);
   const split = await says();
@@ -152,9 +171,12 @@ async function large(megabytes) {
   await page.value(`clearInterval(timer)`);
   const longest = await page.value(`Math.max(...ticks.slice(1).map((it, at) => it - ticks[at]))`);
   // How often the timer fired in the second that began with each of its turns.
-  const counts = await page.value(`ticks.filter((it) => it + 1000 <= ticks.at(-1)).map((from) => ticks.filter((it) => it >= from && it < from + 1000).length).sort((x, y) => x - y)`);
+  const counts = await page.value(`ticks.filter((it) => it + 1000 <= ticks.at(-1))
+    .map((from) => ticks.filter((it) => it >= from && it < from + 1000).length).sort((x, y) => x - y)`);
   const [fewest, middle] = [counts[0], counts[counts.length >> 1]];
-  say(`${megabytes} MB: ${split.match(/made in [^ ]* s/)[0]}, restored in ${(await says()).match(/in ([^ ]* s)\./)[1]}; a timer of the page fired ${middle} times a second and at least ${fewest}, and waited for ${Math.round(longest)} ms at most`);
+  const [made, restored] = [split.match(/made in [^ ]* s/)[0], (await says()).match(/in ([^ ]* s)\./)[1]];
+  const alive = `${middle} times a second and at least ${fewest}, and waited for ${Math.round(longest)} ms at most`;
+  say(`${megabytes} MB: ${made}, restored in ${restored}; a timer of the page fired ${alive}`);
   // Cancelled in the middle, which leaves the page as it was.
   await page.click("#split");
   await page.until(`document.querySelector("#progress").value > 0.02`, 60);
@@ -186,38 +208,79 @@ async function transform() {
 /** Each control has a name, as a screen reader says it, and the focus goes through all of them. */
 async function accessible() {
   const { nodes } = await page.send("Accessibility.getFullAXTree");
-  const controls = nodes.filter((it) => !it.ignored && /^(button|textbox|combobox|spinbutton|slider|link|application|progressbar|img)$/i.test(it.role?.value));
+  const controls = nodes.filter(
+    (it) => !it.ignored && /^(button|textbox|combobox|spinbutton|slider|link|application|progressbar|img)$/i.test(
+      it.role?.value
+    )
+  );
   const unnamed = controls.filter((it) => !it.name?.value?.trim());
   assert.deepEqual(unnamed.map((it) => it.role.value), []);
   assert.ok(controls.length > 20, `${controls.length} controls`);
-  assert.deepEqual(nodes.filter((it) => it.role?.value === "heading").map((it) => it.name.value).slice(0, 4), ["Binary fields, proved", "Ask", "Lose a shard", "See a transform"]);
+  assert.deepEqual(
+    nodes.filter((it) => it.role?.value === "heading").map((it) => it.name.value).slice(0, 4),
+    ["Binary fields, proved", "Ask", "Lose a shard", "See a transform"]
+  );
   await page.value(`document.activeElement.blur(), scrollTo(0, 0), getSelection().collapse(document.body, 0)`);
   const seen = new Set();
   for (let presses = 0; presses < 80; presses++) {
     await page.press("Tab");
     seen.add(await page.value(`document.activeElement.id || document.activeElement.textContent`));
   }
-  for (const it of ["field", "operation", "left", "right", "table", "sample", "data", "parity", "split", "coefficients", "stage", "forth"]) assert.ok(seen.has(it), `${it} has no focus by the keyboard`);
+  for (
+    const it of [
+      "field",
+      "operation",
+      "left",
+      "right",
+      "table",
+      "sample",
+      "data",
+      "parity",
+      "split",
+      "coefficients",
+      "stage",
+      "forth"
+    ]
+  ) assert.ok(seen.has(it), `${it} has no focus by the keyboard`);
   // Texts have the contrast of WCAG's level AA, and nothing is wider than a telephone, in light and in dark.
   for (const scheme of ["light", "dark"]) {
     await page.send("Emulation.setEmulatedMedia", { features: [{ name: "prefers-color-scheme", value: scheme }] });
     const least = await page.value(CONTRAST);
     assert.ok(least.ratio >= 4.5, `${scheme}: ${least.ratio} at ${least.text}`);
   }
-  await page.send("Emulation.setDeviceMetricsOverride", { width: 360, height: 740, deviceScaleFactor: 1, mobile: true });
+  await page.send(
+    "Emulation.setDeviceMetricsOverride", { width: 360, height: 740, deviceScaleFactor: 1, mobile: true }
+  );
   assert.ok((await page.value(`document.documentElement.scrollWidth`)) <= 360, "the page is wider than a telephone");
-  await page.send("Emulation.setDeviceMetricsOverride", { width: 1000, height: 900, deviceScaleFactor: 1, mobile: false });
+  await page.send(
+    "Emulation.setDeviceMetricsOverride", { width: 1000, height: 900, deviceScaleFactor: 1, mobile: false }
+  );
   await page.send("Emulation.setEmulatedMedia", { features: [{ name: "prefers-color-scheme", value: "light" }] });
 }
 
 // The least contrast of a text with what is behind it, by WCAG's formula.
 const CONTRAST = `(() => {
   const numbers = (color) => color.match(/[\\d.]+/g).map(Number);
-  const light = (color) => numbers(color).slice(0, 3).map((it) => it / 255).map((it) => (it <= 0.04045 ? it / 12.92 : ((it + 0.055) / 1.055) ** 2.4)).reduce((sum, it, at) => sum + it * [0.2126, 0.7152, 0.0722][at], 0);
-  const behind = (it) => { for (; it; it = it.parentElement) { const color = getComputedStyle(it).backgroundColor; if (numbers(color)[3] !== 0) return color; }
-    return getComputedStyle(document.body).backgroundColor; };
-  const texts = [...document.querySelectorAll("h1, h2, p, a, label, button:enabled, input, select, output, code, .state, .note, caption, th, td, summary")].filter((it) => it.checkVisibility() && (it.textContent || it.value) && !it.classList.contains("skip"));
-  return texts.map((it) => { const [a, b] = [light(getComputedStyle(it).color), light(behind(it))].sort((x, y) => y - x); return { ratio: (a + 0.05) / (b + 0.05), text: it.outerHTML.slice(0, 60) }; }).reduce((least, it) => (it.ratio < least.ratio ? it : least));
+  const light = (color) => numbers(color).slice(0, 3).map((it) => it / 255).map(
+    (it) => (it <= 0.04045 ? it / 12.92 : ((it + 0.055) / 1.055) ** 2.4)
+  ).reduce((sum, it, at) => sum + it * [0.2126, 0.7152, 0.0722][at], 0);
+  const behind = (it) => {
+    for (; it; it = it.parentElement) {
+      const color = getComputedStyle(it).backgroundColor;
+      if (numbers(color)[3] !== 0) return color;
+    }
+    return getComputedStyle(document.body).backgroundColor;
+  };
+  const texts = [
+    ...document.querySelectorAll(
+      "h1, h2, p, a, label, button:enabled, input, select, output, code, .state, .note, caption, th, td, summary"
+    )
+  ].filter((it) => it.checkVisibility() && (it.textContent || it.value) && !it.classList.contains("skip"));
+  return texts.map(
+    (it) => { const [a, b] = [light(getComputedStyle(it).color), light(behind(it))].sort((x, y) => y - x); return {
+      ratio: (a + 0.05) / (b + 0.05), text: it.outerHTML.slice(0, 60),
+    }; }
+  ).reduce((least, it) => (it.ratio < least.ratio ? it : least));
 })()`;
 
 /** Every function by its definition, in the browser. */
@@ -237,10 +300,14 @@ try {
   if (picture) {
     await page.choose("#field", "t4");
     await page.choose("#operation", "mul");
-    await page.send("Emulation.setDeviceMetricsOverride", { width: 1000, height: 2590, deviceScaleFactor: 1, mobile: false });
+    await page.send(
+      "Emulation.setDeviceMetricsOverride", { width: 1000, height: 2590, deviceScaleFactor: 1, mobile: false }
+    );
     await page.value("document.activeElement.blur(), scrollTo(0, 0)");
     await page.picture(picture);
-    await page.send("Emulation.setDeviceMetricsOverride", { width: 1000, height: 900, deviceScaleFactor: 1, mobile: false });
+    await page.send(
+      "Emulation.setDeviceMetricsOverride", { width: 1000, height: 900, deviceScaleFactor: 1, mobile: false }
+    );
   }
   await bothWays();
   assert.ok((await large(100)) >= 10, "a timer of the page fired less than ten times in a second");

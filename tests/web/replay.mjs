@@ -1,5 +1,5 @@
-// Replays the cases of tests/write_cases.py, in node and in a browser, in two ways: by the module's own functions over its memory, where also
-// what a refused call leaves is looked at, and by the package, with typed arrays.
+// Replays the cases of tests/write_cases.py, in node and in a browser, in two ways: by the module's own functions over
+// its memory, where also what a refused call leaves is looked at, and by the package, with typed arrays.
 import { FUNCTIONS } from "./binary_field/tables.mjs";
 import { Library } from "./binary_field/memory.mjs";
 
@@ -7,7 +7,11 @@ const FILL = 0xa5;
 const PAGE = 65536;
 const ARRAYS = { 1: Uint8Array, 2: Uint16Array, 4: Uint32Array };
 
-const bytesOf = (hex) => (hex === "-" || hex === undefined ? null : Uint8Array.from({ length: hex.length / 2 }, (_, at) => parseInt(hex.slice(2 * at, 2 * at + 2), 16)));
+const bytesOf = (hex) => (
+  hex === "-" || hex === undefined
+    ? null
+    : Uint8Array.from({ length: hex.length / 2 }, (_, at) => parseInt(hex.slice(2 * at, 2 * at + 2), 16))
+);
 
 /** Reads a line; a case is given once all of its parameters were read. */
 export class Reader {
@@ -22,7 +26,16 @@ export class Reader {
     if (/^(in|out|inout|scalar|number|result|state|space|count)$/.test(words[0]) && words.length === 6) {
       const [kind, size, cut, count, before, after] = words;
       // Of nothing there is no text either.
-      this.#case.parameters.push({ kind, size: +size, cut: cut === "1", count: +count, before: bytesOf(before), after: bytesOf(after) ?? new Uint8Array(0) });
+      this.#case.parameters.push(
+        {
+          kind,
+          size: +size,
+          cut: cut === "1",
+          count: +count,
+          before: bytesOf(before),
+          after: bytesOf(after) ?? new Uint8Array(0)
+        }
+      );
       return;
     }
     this.end();
@@ -77,7 +90,9 @@ function rawCall(instance) {
     for (const it of given) bytes.set(it.before, it.place);
     const passed = given.flatMap((it) => {
       const isWide = it.kind === "scalar" && it.size > 8;
-      if (["number", "count"].includes(it.kind) || (it.kind === "scalar" && !isWide)) return [it.size === 8 ? numberOf(it.before) : Number(numberOf(it.before))];
+      if (["number", "count"].includes(it.kind) || (it.kind === "scalar" && !isWide)) {
+        return [it.size === 8 ? numberOf(it.before) : Number(numberOf(it.before))];
+      }
       // An empty array may have no place.
       const place = BigInt(it.before.length ? it.place : 0);
       return ["in", "inout", "out", "space"].includes(it.kind) ? [place, BigInt(it.count)] : [place];
@@ -109,10 +124,13 @@ export function replay(instance, way, step = 1) {
     const given = argumentsAt(it, n);
     const { status, after } = call(it.name, given, n);
     found.calls++;
-    const at = given.findIndex((argument, place) => argument.after && after[place] && !isSame(argument.after, after[place]));
+    const at = given.findIndex(
+      (argument, place) => argument.after && after[place] && !isSame(argument.after, after[place])
+    );
     if (status === it.status && at < 0) return;
     found.wrong++;
-    if (found.first.length < 5) found.first.push(`${it.name} at ${n}: status ${status}, wanted ${it.status}${at < 0 ? "" : `, argument ${at} is other`}`);
+    const other = at < 0 ? "" : `, argument ${at} is other`;
+    if (found.first.length < 5) found.first.push(`${it.name} at ${n}: status ${status}, wanted ${it.status}${other}`);
   };
   found.run = (it) => {
     found.names.add(it.name);
@@ -124,7 +142,9 @@ export function replay(instance, way, step = 1) {
   found.text = () => {
     const missing = Object.keys(FUNCTIONS).filter((name) => !found.names.has(name));
     const said = [`${found.calls} calls of ${found.names.size} functions, ${found.wrong} wrong`, ...found.first];
-    return [missing.length ? `${said}; never called: ${missing}` : said.join("; "), found.wrong === 0 && missing.length === 0];
+    return [
+      missing.length ? `${said}; never called: ${missing}` : said.join("; "), found.wrong === 0 && missing.length === 0,
+    ];
   };
   return found;
 }
