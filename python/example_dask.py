@@ -2,9 +2,9 @@
 
 PYTHONPATH=python BINARY_FIELD_LIBRARY=FOLDER/lib python3 python/example_dask.py [BYTES]
 
-BYTES is the size of the file, by default 192 MiB less one byte. It is at least 96 MiB, as a process may take half of it, and needs some
-40 MiB beside what it has at the beginning. Each process reads a piece of all rows, encodes it, and writes its shards' pieces, so that no array passes between processes. Where dask's
-workers are on several machines, the folder has to be on a disk that all of them see.
+BYTES is the size of the file, by default 192 MiB less one byte, and 64 MiB at least: a process may take half of that, and works on a piece
+of each shard at once. Each process reads a piece of all rows, encodes it, and writes its shards' pieces, so that no array passes between
+processes. Where dask's workers are on several machines, the folder has to be on a disk that all of them see.
 """
 
 from __future__ import annotations
@@ -28,6 +28,7 @@ distributed: Any = importlib.import_module("distributed")
 CODE = bf.ReedSolomon(data=4, parity=2)
 LOST = (0, 3)
 PIECE = 1 << 20
+LEAST = 64 << 20
 NOTHING: Any = np.empty((0, 0), np.uint8)
 
 
@@ -88,6 +89,9 @@ def allow(more: int) -> int:
 def main() -> int:
     """Prints what is done; the exit status is 1 where the file was not restored."""
     length = int(sys.argv[1]) if len(sys.argv) > 1 else (192 << 20) - 1
+    if length < LEAST:
+        print(f"the file has at least {LEAST} bytes, so that half of it is enough for a process", file=sys.stderr)
+        return 2
     size = -(-length // CODE.data)
     with tempfile.TemporaryDirectory() as name, distributed.LocalCluster(n_workers=2, threads_per_worker=1, dashboard_address=None) as cluster:
         folder = pathlib.Path(name)

@@ -83,7 +83,7 @@ class Chunks(unittest.TestCase):
             self.assertTrue((x == x).all().compute())
 
     def test_examples(self):
-        found = doctest.testmod(chunks, extraglobs={"bf": bf, "np": np, "da": da, "chunks": chunks})
+        found = doctest.testmod(chunks)
         self.assertEqual((found.failed, found.attempted > 8), (0, True))
 
 

@@ -19,7 +19,8 @@ class Drawn(Stored):
 
     @classmethod
     def random(cls: type[S], shape: Shape = (), seed: Seed = None, *, low: int = 0, high: int | None = None) -> S:
-        """Elements drawn by numpy's generator, whose representations are from `low` on and below `high`, by default all of the field.
+        """Elements drawn by numpy's generator, whose representations are from `low` on and below `high`, by default all
+        of the field.
 
         >>> bf.BinaryField8.random(3, seed=1)
         BinaryField8([0xff, 0xe4, 0x22])
@@ -37,7 +38,8 @@ class Drawn(Stored):
             words[...] = draw.integers(low, last, words.shape, words.dtype, endpoint=True)
             return result
         for at in range(result.size):
-            # More bits by 64 than the range has: no number of it is likelier than another by more than 2**-64 of its chance.
+            # More bits by 64 than the range has: no number of it is likelier than another by more than 2**-64 of its
+            # chance.
             number = int.from_bytes(draw.bytes(-(-(top - low).bit_length() // 8) + 8), "little")
             result._words.flat[at] = cls(low + number % (top - low))._words
         return result
@@ -53,7 +55,8 @@ class Drawn(Stored):
         return result
 
     def shuffle(self, rng: Seed = None, axis: int = 0) -> None:
-        """Puts what lies along an axis, by default the rows, into an order that is drawn, as a generator of numpy does with its arrays.
+        """Puts what lies along an axis, by default the rows, into an order that is drawn, as a generator of numpy does
+        with its arrays.
 
         >>> a = bf.BinaryField8([[1, 1], [2, 2], [3, 3]])
         >>> bf.BinaryField8.shuffle(a, np.random.default_rng(2))
@@ -64,7 +67,8 @@ class Drawn(Stored):
         self._words[...] = self._words.take(order, axis)
 
     def permuted(self: S, rng: Seed = None, axis: int | None = None) -> S:
-        """A copy with all elements in an order that is drawn; along an axis each line of elements in an order of its own.
+        """A copy with all elements in an order that is drawn; along an axis each line of elements in an order of its
+        own.
 
         >>> bf.BinaryField8([[1, 2, 3], [4, 5, 6]]).permuted(2, axis=1)
         BinaryField8([[0x3, 0x1, 0x2], [0x6, 0x5, 0x4]])

@@ -72,6 +72,8 @@ def _ufunc(function: Function, is_of_two: bool = False, reduce: Function | None 
         if method == "reduce" and reduce:
             return reduce(*inputs, **{"axis": 0} | options)
         if method == "accumulate" and accumulate:
+            if not np.ndim(inputs[0]) or options.get("axis", 0) is None:
+                raise ValueError("an array is accumulated along one axis")
             return accumulate(*inputs, **{"axis": 0} | options)
         if not (out is None or isinstance(out, FieldArray)) or options.keys() - {"out", "where"}:
             return NotImplemented

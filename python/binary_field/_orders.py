@@ -1,6 +1,8 @@
-"""What functions of numpy that sort, find and compare are over elements: their order is that of the representations as integers.
+"""What functions of numpy that sort, find and compare are over elements: their order is that of the representations as
+integers.
 
-No order of a field agrees with its sums and products, so that nothing else than where elements stand can depend on this one.
+No order of a field agrees with its sums and products, so that nothing else than where elements stand can depend on this
+one.
 """
 
 from __future__ import annotations
@@ -14,7 +16,8 @@ from ._library import Words
 
 
 def _ranks(*values: Any) -> tuple[list[Words], Callable[[Any], Any]]:
-    """Arrays of integers in the order of the elements of some arrays, of which one at least has a field, and what goes back."""
+    """Arrays of integers in the order of the elements of some arrays, of which one at least has a field, and what goes
+    back."""
     field = next(type(it) for it in values if isinstance(it, FieldArray))
     arrays = [field._operand(it) for it in values]
     if not field._dtype().names:

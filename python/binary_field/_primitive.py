@@ -1,7 +1,7 @@
 """Primitive polynomials: those modulo which the powers of x are all polynomials of lower degree but 0.
 
-Whether x has the order q**n - 1 is found by the primes of that number, which Pollard's method finds (BIT 15, 1975) in the factors that
-cyclotomic polynomials have at 2.
+Whether x has the order q**n - 1 is found by the primes of that number, which Pollard's method finds (BIT 15, 1975) in
+the factors that cyclotomic polynomials have at 2.
 """
 
 from __future__ import annotations
@@ -16,12 +16,13 @@ if TYPE_CHECKING:
 
 # Above so many bits some 2**n - 1 take too long.
 _MOST_BITS = 128
-# A number below 3.3 * 10**24 that passes Miller and Rabin's test to these bases is prime (Sorenson and Webster, Mathematics of Computation
-# 86, 2017); of larger ones it is all but sure.
+# A number below 3.3 * 10**24 that passes Miller and Rabin's test to these bases is prime (Sorenson and Webster,
+# Mathematics of Computation 86, 2017); of larger ones it is all but sure.
 _BASES = (2, 3, 5, 7, 11, 13, 17, 19, 23, 29, 31, 37, 41)
 # Primes of 2**101 - 1 and 2**125 - 1 that the method takes long to find.
 _LARGE = (7432339208719, 269089806001)
-# The Conway polynomials over GF(2) of degrees 1 to 64, as Frank Luebeck's tables have them, without their highest terms.
+# The Conway polynomials over GF(2) of degrees 1 to 64, as Frank Luebeck's tables have them, without their highest
+# terms.
 _CONWAY = (
     0x1, 0x3, 0x3, 0x3, 0x5, 0x1B, 0x3, 0x1D, 0x11, 0x6F, 0x5, 0xEB, 0x1B, 0xA9, 0x35, 0x2D, 0x9, 0x1403, 0x27,
     0x6F3, 0x65, 0x1F61, 0x21, 0x1E6A9, 0x145, 0x45D3, 0x16AD, 0x20E5, 0x5, 0x328AF, 0x9, 0x8299, 0x3D49, 0x199F7,
@@ -117,7 +118,8 @@ def is_primitive(poly: Poly) -> bool:
     group = (1 << bits) - 1
     if field.degree == 1:
         modulus = int(poly)
-        return _power_of_x(group, modulus) == 1 and all(_power_of_x(group // it, modulus) != 1 for it in primes_of_group(bits))
+        comes_round = _power_of_x(group, modulus) == 1
+        return comes_round and all(_power_of_x(group // it, modulus) != 1 for it in primes_of_group(bits))
     x, one = Poly.Identity(field), Poly.One(field)
     return pow(x, group, poly) == one and all(pow(x, group // it, poly) != one for it in primes_of_group(bits))
 
@@ -137,5 +139,5 @@ def first_primitive(degree: int, field: Any) -> Poly:
 def conway(characteristic: int, degree: int) -> int:
     """The integer of a Conway polynomial."""
     if operator.index(characteristic) != 2 or not 1 <= operator.index(degree) <= len(_CONWAY):
-        raise ValueError(f"there are Conway polynomials over GF(2) here, conway_poly(2, degree), of degrees from 1 to {len(_CONWAY)}")
+        raise ValueError(f"conway_poly(2, degree) is over GF(2), of degrees from 1 to {len(_CONWAY)}")
     return 1 << degree | _CONWAY[degree - 1]

@@ -33,7 +33,8 @@ def _tensordot(a: Any, b: Any, axes: Any = 2) -> Any:
     left, right = _both(a, b)
     if isinstance(axes, (int, np.integer)):
         axes = range(left.ndim - int(axes), left.ndim), range(int(axes))
-    summed = [_places(it, array.ndim) for it, array in zip(axes, (left, right))]
+    of_left, of_right = axes
+    summed = [_places(of_left, left.ndim), _places(of_right, right.ndim)]
     lengths = [[array.shape[it] for it in places] for array, places in zip((left, right), summed)]
     if lengths[0] != lengths[1]:
         raise ValueError("shape-mismatch for sum")

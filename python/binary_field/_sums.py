@@ -22,7 +22,8 @@ def _labelled(arguments: Sequence[Any]) -> tuple[str, list[Any]]:
         return arguments[0].replace(" ", ""), list(arguments[1:])
     operands, labels = list(arguments[: len(arguments) // 2 * 2 : 2]), list(arguments[1::2])
     has_result = len(arguments) % 2
-    texts = ["".join("..." if it is Ellipsis else chr(97 + int(it)) for it in row) for row in [*labels, *arguments[-1:][:has_result]]]
+    rows = [*labels, *arguments[-1:][:has_result]]
+    texts = ["".join("..." if it is Ellipsis else chr(97 + int(it)) for it in row) for row in rows]
     parts = ",".join(texts[: len(operands)])
     return f"{parts}->{texts[-1]}" if has_result else parts, operands
 
@@ -43,7 +44,8 @@ def _singled(array: Any, labels: Labels, kept: set[Any]) -> tuple[Any, Labels]:
         first = labels.index(label)
         second = labels.index(label, first + 1)
         if words.shape[first] != words.shape[second]:
-            raise ValueError(f"axes of the label {label} have the lengths {words.shape[first]} and {words.shape[second]}")
+            lengths = f"{words.shape[first]} and {words.shape[second]}"
+            raise ValueError(f"axes of the label {label} have the lengths {lengths}")
         words = words.diagonal(0, first, second)
         labels = [it for at, it in enumerate(labels) if at not in (first, second)] + [label]
     summed = tuple(at for at, it in enumerate(labels) if it not in kept)
@@ -52,7 +54,8 @@ def _singled(array: Any, labels: Labels, kept: set[Any]) -> tuple[Any, Labels]:
 
 
 def _joined(left: Any, left_labels: Labels, right: Any, right_labels: Labels, kept: set[Any]) -> tuple[Any, Labels]:
-    """The product of two operands, summed over the labels that they share and nobody else has: one product of stacks of matrices."""
+    """The product of two operands, summed over the labels that they share and nobody else has: one product of stacks of
+    matrices."""
     both = [it for it in left_labels if it in right_labels]
     stack, inner = [it for it in both if it in kept], [it for it in both if it not in kept]
     rows, columns = ([it for it in labels if it not in both] for labels in (left_labels, right_labels))
@@ -65,7 +68,8 @@ def _joined(left: Any, left_labels: Labels, right: Any, right_labels: Labels, ke
         order = [labels.index(it) for group in groups for it in group]
         return array.transpose(*order).reshape(*(math.prod(sizes[it] for it in group) for group in groups))
 
-    made = _matrices.product(laid_out(left, left_labels, stack, rows, inner), laid_out(right, right_labels, stack, inner, columns))
+    first = laid_out(left, left_labels, stack, rows, inner)
+    made = _matrices.product(first, laid_out(right, right_labels, stack, inner, columns))
     labels = [*stack, *rows, *columns]
     return made.reshape(tuple(sizes[it] for it in labels)), labels
 
@@ -90,11 +94,14 @@ def _einsum(*arguments: Any, out: Any = None, optimize: Any = False) -> Any:
     if len(set(result_labels)) < len(result_labels) or not set(numbers) <= set(result_labels) <= set(every):
         raise ValueError("the labels of the result are different ones of the operands")
     # Axes of the length 1 that `...` stands for are as long as those of others.
-    lengths = {label: max(it.shape[names.index(label)] for it, names in zip(arrays, labels) if label in names) for label in numbers}
+    lengths: dict[Any, int] = {}
+    for it, names in zip(arrays, labels):
+        for label, size in zip(names, it.shape):
+            lengths[label] = max(lengths.get(label, 1), size) if label in numbers else 1
     rest: list[tuple[Any, Labels]] = []
     for it, names in zip(arrays, labels):
-        shape = tuple(lengths[label] if size == 1 and label in lengths else size for label, size in zip(names, it.shape))
-        rest.append((it._broadcast(shape), names))
+        shape = [lengths.get(label, 1) if size == 1 else size for label, size in zip(names, it.shape)]
+        rest.append((it._broadcast(tuple(shape)), names))
     made: tuple[Any, Labels] | None = None
     while rest:
         behind = {label for _, names in rest[1:] for label in names} | set(result_labels)
@@ -110,9 +117,11 @@ _MOVING = ("constant", "edge", "empty", "reflect", "symmetric", "wrap")
 
 
 def _pad(array: Any, pad_width: Any, mode: Any = "constant", **options: Any) -> Any:
-    """The elements of an array, and round it some of them or, by the mode "constant", others, of which integers are representations."""
+    """The elements of an array, and round it some of them or, by the mode "constant", others, of which integers are
+    representations."""
     if mode not in _MOVING or options.get("reflect_type", "even") != "even":
-        raise TypeError(f"over elements an array is padded by a mode that computes nothing, one of {', '.join(_MOVING)}")
+        modes = ", ".join(_MOVING)
+        raise TypeError(f"over elements an array is padded by a mode that computes nothing, one of {modes}")
     words, places = array._words.ravel(), np.arange(array.size).reshape(array.shape)
     if mode in ("constant", "empty"):
         given = array._operand(options.pop("constant_values", 0))
@@ -127,7 +136,8 @@ def _pad(array: Any, pad_width: Any, mode: Any = "constant", **options: Any) -> 
 
 def _refused(name: str) -> Callable[..., Any]:
     def refused(*_: Any, **__: Any) -> Any:
-        raise TypeError(f"np.fft.{name} is over the complex numbers; over a field it is transform(), along the last axis, and inverse_transform()")
+        here = "transform(), along the last axis, and inverse_transform()"
+        raise TypeError(f"np.fft.{name} is over the complex numbers; over a field it is {here}")
 
     return refused
 

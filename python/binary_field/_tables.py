@@ -7,7 +7,9 @@ from typing import Any, Callable, Sequence
 
 # A field of more bits has too many elements for a table of them.
 _MOST_BITS = 8
-_OPERATIONS: dict[str, Callable[[Any, Any], Any]] = {"+": operator.add, "-": operator.sub, "*": operator.mul, "/": operator.truediv}
+_OPERATIONS: dict[str, Callable[[Any, Any], Any]] = {
+    "+": operator.add, "-": operator.sub, "*": operator.mul, "/": operator.truediv,
+}
 _ORDERS = ("power", "int")
 
 
@@ -18,8 +20,8 @@ def properties(field: Any) -> str:
     except AttributeError:
         modulus = "none, as elements are no polynomials modulo one"
     rows = [
-        ("name", f"GF(2^{field.degree})"), ("class", field.__name__), ("characteristic", 2), ("degree", field.degree), ("order", field.order),
-        ("irreducible_poly", modulus), ("primitive_element", field.primitive_element),
+        ("name", f"GF(2^{field.degree})"), ("class", field.__name__), ("characteristic", 2), ("degree", field.degree),
+        ("order", field.order), ("irreducible_poly", modulus), ("primitive_element", field.primitive_element),
     ]
     return "\n".join(["Galois field:", *(f"  {name}: {value}" for name, value in rows)])
 

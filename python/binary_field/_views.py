@@ -1,7 +1,8 @@
 """Rows that trade places one by one, which loses one of them where rows are views.
 
-`a[i], a[j] = a[j], a[i]` reads two rows and writes one after the other. When the second one is written, the first has already changed
-what it shows. So do the shuffles of Python's `random` and of numpy's generators, over whatever is no array of numpy itself.
+`a[i], a[j] = a[j], a[i]` reads two rows and writes one after the other. When the second one is written, the first has
+already changed what it shows. So do the shuffles of Python's `random` and of numpy's generators, over whatever is no
+array of numpy itself.
 """
 
 from __future__ import annotations
@@ -40,15 +41,15 @@ class Views:
         self._given.append(weakref.ref(view))
 
     def assign(self, words: Words, place: Any, view: Any) -> None:
-        """Comes before an assignment of an array at a place. TypeError where one assigned before it has changed what this array shows;
-        then all that was written is put back."""
+        """Comes before an assignment of an array at a place. TypeError where one assigned before it has changed what
+        this array shows; then all that was written is put back."""
         if any(view is it for it in self._changed):
             for written, before in reversed(self._before):
                 written[...] = before
             self._forget()
             raise TypeError(
-                "rows are views, and this one was overwritten since it was read; nothing is changed: take a[[i, j]] = a[[j, i]], and to "
-                "shuffle a.shuffle(rng) or a[rng.permutation(len(a))]"
+                "rows are views, and this one was overwritten since it was read; nothing is changed: "
+                "take a[[i, j]] = a[[j, i]], and to shuffle a.shuffle(rng) or a[rng.permutation(len(a))]"
             )
         alive = [it for it in (given() for given in self._given) if it is not None]
         if not any(view is it for it in alive):

@@ -14,6 +14,7 @@ type. `each` is for operators and ufuncs.
 from __future__ import annotations
 
 import importlib
+import sys
 from typing import Any, Callable, Sequence
 
 import numpy as np
@@ -21,6 +22,8 @@ import numpy as np
 from ._arrays import FieldArray
 
 _da: Any = importlib.import_module("dask.array")
+# What the examples in the texts name, which plain doctest looks up here.
+bf, chunks, da = sys.modules[__name__.rpartition(".")[0]], sys.modules[__name__], _da
 
 
 def _empty(field: type[FieldArray], ndim: int) -> FieldArray:
