@@ -24,8 +24,8 @@ HEADS = {
     "scripts": """# Scripts
 
 Each command answers `--help`, and does nothing then. A writer is called by the name that the files which it writes have
-in their first lines. Programs are run by `./binfield`, `./tag`, `./shards` and `./prove_sums` at the top, which are
-links to run-program.""",
+in their first lines. Programs are run by `./binfield`, `./tag`, `./shards`, `./secret` and `./prove_sums` at the top,
+which are links to run-program.""",
     "tests": """# Tests
 
 What callers of the library and users of the programs do. The commands test-.. of scripts/ and .ci/run run these; tests
