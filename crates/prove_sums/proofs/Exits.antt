@@ -9,7 +9,7 @@ use Rattle.sum_checks.specs.Terms.{Product, degree_of}
 use Rattle.sum_checks.specs.declared.error.ProtocolError.{ProtocolError}
 use Rattle.sum_checks.specs.declared.error.ProtocolError.TheVariants.{Memory}
 use Rattle.prove_sums.specs.ProofFiles.{number_in}
-use Rattle.prove_sums.specs.Reports.{HasNoAnswer, IsVerifyReport, NamesRoot, SaysAnswer, refusal_line}
+use Rattle.prove_sums.specs.Reports.{HasNoAnswer, IsVerifyReport, NamesRoot, SaysAnswer, info_text, refusal_line}
 use Rattle.prove_sums.specs.Verdicts.{IsWordAnswer, product_terms, refusal_in}
 use Rattle.prove_sums.specs.declared.refusal.Refusal.{Refusal}
 use Rattle.prove_sums.specs.declared.reports.NoAnswer.{NoAnswer}
@@ -96,3 +96,15 @@ module _ {T H : Type 0} (digest : H → List ℕ → List ℕ) (hasher : H) (lef
     answered = subst (λ (a : Result T Refusal). IsWordAnswer digest hasher left_root right_root bytes (refusal_in a)) is told;
     said = said;
   }
+
+-- ---- what is said of a proof
+
+pub info-same : (n size bits : ℕ) (left right sum one other total : List ℕ) (count depth all deep : ℕ) → left ≡ one → right ≡ other
+    → sum ≡ total → count ≡ all → depth ≡ deep
+    → info_text n left right sum size count depth bits ≡ info_text n one other total size all deep bits
+info-same n size bits left right sum one other total count depth all deep left_is right_is sum_is count_is depth_is =
+    ap (λ (l : List ℕ). info_text n l right sum size count depth bits) left_is
+    ∙ ap (λ (l : List ℕ). info_text n one l sum size count depth bits) right_is
+    ∙ ap (λ (l : List ℕ). info_text n one other l size count depth bits) sum_is
+    ∙ ap (λ (m : ℕ). info_text n one other total size m depth bits) count_is
+    ∙ ap (λ (m : ℕ). info_text n one other total size all m bits) depth_is

@@ -1,14 +1,15 @@
 -- What the program prints, each line with its line feed, and the status that it ends with: 0 where a root is printed, a proof written or
--- accepted, and 1 where a proof is refused.
-use Rattle.std.specs.Prelude.{◌≡◌, ⊤, ℕ, List, ◌++◌, length, codes, decimal, IsErr, IsOk, Ok}
+-- accepted, or a file described, and 1 where a proof is refused or a file is none.
+use Rattle.std.specs.Prelude.{◌≡◌, ◌⊎◌, ⊤, ℕ, List, ◌++◌, length, codes, decimal, IsErr, IsOk, Ok}
 use Rattle.std.specs.Int.{to_be_bytes, w128}
 use Rattle.std.specs.declared.option.Option.{Option}
 use Rattle.std.specs.declared.option.Option.TheVariants.{None, Some}
 use Rattle.hex.specs.Hex.{decode_sized, encode_lower}
 use Rattle.field_element.specs.Element.{repr_of}
-use Rattle.prove_sums.specs.ProofFiles.{IsFileOf, number_in}
-use Rattle.prove_sums.specs.Shapes.{sum_in}
-use Rattle.prove_sums.specs.Verdicts.{IsWordAnswer, IsWordCommitment, IsWordProof}
+use Rattle.prove_sums.specs.ProofFiles.{IsFileOf, IsNoWordFile, IsReadRefusal, number_in}
+use Rattle.prove_sums.specs.Shapes.{block_count, depth_of, sum_in}
+use Rattle.prove_sums.specs.SoundnessErrors.{AreMostBits, AreSoundBits}
+use Rattle.prove_sums.specs.Verdicts.{IsWordAnswer, IsWordCommitment, IsWordProof, work_bits}
 use Rattle.prove_sums.specs.declared.reports.NoAnswer.{NoAnswer}
 use Rattle.prove_sums.specs.declared.reports.NoAnswer.TheVariants.{LeftRoot, Memory, RightRoot}
 use Rattle.prove_sums.specs.declared.refusal.Refusal.{Refusal}
@@ -42,6 +43,32 @@ refusal_text NotProved = codes "the sum is not proved"
 -- what is printed for a proof that is refused
 abbrev pub refusal_line : Refusal → List ℕ
 refusal_line refusal = codes "refused: " ++ (refusal_text refusal ++ codes "\n")
+
+-- ---- `info`
+
+-- what is printed of a proof for tables of 2 ^ n words: its sizes, the digits of its roots and of its sum, how many columns of how many are
+-- opened, the bits of soundness, and those of the work
+abbrev pub info_text : ℕ → List ℕ → List ℕ → List ℕ → ℕ → ℕ → ℕ → ℕ → List ℕ
+info_text n left right sum size count depth bits =
+    codes "words 2^" ++ (decimal n ++ (codes "\nleft root " ++ (left ++ (codes "\nright root " ++ (right
+    ++ (codes "\nsum " ++ (sum ++ (codes "\nbytes " ++ (decimal size ++ (codes "\ncolumns " ++ (decimal count
+    ++ (codes " of 2^" ++ (decimal depth ++ (codes "\nsoundness " ++ (decimal bits
+    ++ (codes " bits, and " ++ (decimal work_bits
+    ++ codes " of work\nassumed SHA-256 draws as if at random, and has no collisions\n")))))))))))))))))
+
+-- what is printed for the bytes of a file that is a proof, whether it is accepted or not, with the bits of soundness of such proofs
+abbrev pub SaysInfo : {F : Type 0} → (F → ℕ) → List ℕ → List ℕ → Type 0
+SaysInfo {F} repr bytes line =
+    (n : ℕ) × (left right : List ℕ) × (elements : List F) × (nodes : List (List ℕ)) × (bits : ℕ)
+    × IsFileOf repr bytes n left right elements nodes × AreMostBits n bits × AreSoundBits n bits
+    × (line ≡ info_text n (encode_lower left) (encode_lower right) (highest_first (sum_in repr elements)) (length bytes) (block_count n) (depth_of n)
+    bits)
+
+-- .. and for those of any file: that, with the status 0, or why it is no proof, with 1
+abbrev pub IsInfoReport : List ℕ → List ℕ → ℕ → Type 0
+IsInfoReport bytes line status =
+    ((status ≡ 0) × SaysInfo (number_in (λ (table : Table). table.elements.items) repr_of) bytes line)
+    ⊎ ((status ≡ 1) × IsNoWordFile bytes × ((refusal : Refusal) × IsReadRefusal refusal × (line ≡ refusal_line refusal)))
 
 -- ---- `commit` and `prove`
 

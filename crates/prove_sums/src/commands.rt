@@ -8,7 +8,7 @@ ghost use Rattle.prove_sums.specs.Verdicts.{IsWordCommitment};
 use crate::example;
 use crate::proof_file::{Roots, encode};
 use crate::proving::Committed;
-use crate::reports::{Report, print_report, root_report, sum_report, verify_report};
+use crate::reports::{Report, info_report, print_report, root_report, sum_report, verify_report};
 use crate::shapes::Shape;
 use crate::tables::table_of;
 use crate::word_sums::{commit_table, prove, root_of};
@@ -23,12 +23,14 @@ use transcripts::{ByteHasher32, Sha256Hasher};
 const VERSION: &str = "prove_sums 0.1.0";
 
 const USAGE: &str = "usage: prove_sums commit TABLE | prove LEFT RIGHT PROOF | verify PROOF ROOTS
+       prove_sums info PROOF
 
 TABLE, LEFT and RIGHT are files of 2^n words of 16 bytes, n from 0 to 39, as many in LEFT as in RIGHT. A word is an element of the
 field of GHASH, from its lowest byte. `commit` prints the root that commits to a table, as 64 hexadecimal digits. `prove` adds the
 products of the words at the same places, proves that this is their sum, and writes the proof to PROOF, which may not be one of the two
 tables. `verify` says whether PROOF proves that for the tables nearest to what these two roots hold, that of LEFT first, and for which
-sum. It reads neither table.
+sum. It reads neither table. `info` says what PROOF holds, and does not verify it: the words of a table, the roots, the sum, its bytes,
+how many columns of how many are opened, and the bits of soundness.
 
 A table is a matrix of 2^h rows, h = (n - 7) / 2, or 0 where n is below 7. Each row of 2^k words, k = n - h, is extended to a code word
 of four times its length, and the root is that of the Merkle tree over SHA-256 whose leaves are the columns. A proof is 8 bytes that
@@ -42,8 +44,8 @@ the table to which the others belong. b bits of soundness: where a verifier draw
 is false with a chance of at most 2^-b, whatever the prover is, which is proved. 16 bits of work make each try at the places cost 2^16
 digests. That SHA-256 may draw in place of a verifier, and that it has no collisions, is assumed.
 
-The exit status is 0 if a proof was written or is accepted, 1 if it is refused, and 2 after an error. Without arguments the program
-prints a worked example. --version prints the version.";
+The exit status is 0 if a proof was written, is accepted or is described, 1 if it is refused, and 2 after an error. Without arguments
+the program prints a worked example. --version prints the version.";
 
 /// Does what the command line says. It returns what the program ends with.
 pub fn run(rt: &HostRuntime) -> Result<ExitCode> {
@@ -70,6 +72,8 @@ pub fn run(rt: &HostRuntime) -> Result<ExitCode> {
         run_prove(rt, words[2].as_str(), words[3].as_str(), words[4].as_str())?
     } else if words.len() == 5 && command == "verify" {
         run_verify(rt, words[2].as_str(), words[3].as_str(), words[4].as_str())?
+    } else if words.len() == 3 && command == "info" {
+        run_info(rt, words[2].as_str())?
     } else {
         bail!("{USAGE}")
     };
@@ -107,6 +111,13 @@ fn is_one_file(rt: &HostRuntime, one: &str, other: &str) -> bool {
 fn run_verify(rt: &HostRuntime, from: &str, left: &str, right: &str) -> Result<Report> {
     let bytes = fs::read(rt, from).context("reading the proof")?;
     let report = verify_report(rt.alloc(), &Sha256Hasher, bytes.as_slice(), left, right)?;
+    Ok(report)
+}
+
+// Says what the proof in a file holds.
+fn run_info(rt: &HostRuntime, from: &str) -> Result<Report> {
+    let bytes = fs::read(rt, from).context("reading the proof")?;
+    let report = info_report(rt.alloc(), bytes.as_slice())?;
     Ok(report)
 }
 

@@ -2,14 +2,19 @@
 ghost use Rattle.std.specs.Prelude.{◌≡◌, string_bytes, IfErr, IfOk, OnOk};
 ghost use Rattle.std.specs.Io.KnownBytes.{Appends};
 ghost use Rattle.std.specs.Process.{exit_status};
-ghost use Rattle.hex.specs.Hex.{decode_sized};
+ghost use Rattle.hex.specs.Hex.{decode_sized, encode_lower};
 ghost use Rattle.field_element.specs.Element.{repr_of};
-ghost use Rattle.prove_sums.specs.Reports.{refusal_line, root_line, sum_line, HasNoAnswer, IsVerifyReport};
+ghost use Rattle.prove_sums.specs.Reports.{highest_first, info_text, refusal_line, root_line, sum_line, HasNoAnswer};
+ghost use Rattle.prove_sums.specs.Reports.{IsInfoReport, IsVerifyReport};
+ghost use Rattle.prove_sums.specs.Shapes.{block_count, depth_of, sum_in};
 ghost use Rattle.prove_sums.specs.declared.reports.NoAnswer.TheVariants.{Memory};
 
 use crate::answers::answer_to;
-use crate::proof_file::Roots;
+use crate::proof_file::{Proof, Roots, decode};
 use crate::refusal::Refusal;
+use crate::security::soundness_bits;
+use crate::shapes::EXPANSION;
+use crate::verifying::WORK;
 use field_element::Ghash128;
 use hex::{FromHex, FromHexError};
 use std::alloc::{AllocError, Global};
@@ -132,4 +137,48 @@ pub(crate) fn verify_report<H: ByteHasher32>(
     };
     let report = sum_report(alloc, proof.sum(), bytes.len())?;
     Ok(report)
+}
+
+// What is printed of a proof, whose file has so many bytes.
+fn info_line(
+    alloc: Global,
+    proof: &Proof<'_, Ghash128>,
+    size: usize,
+    bits: u8,
+) -> Result<String, AllocError>
+    ensures { IfOk result (λ line. string_bytes line ≡ info_text proof.now.shape.rounds (encode_lower proof.now.roots.left)
+        (encode_lower proof.now.roots.right) (highest_first (sum_in repr_of proof.now.elements.items)) size
+        (block_count proof.now.shape.rounds) (depth_of proof.now.shape.rounds) bits) }
+{
+    let left = hex::encode(alloc, &proof.roots.left[..])?;
+    let right = hex::encode(alloc, &proof.roots.right[..])?;
+    let bytes = proof.sum().to_bits().to_be_bytes();
+    let sum = hex::encode(alloc, &bytes[..])?;
+    let shape = &proof.shape;
+    let rounds = shape.rounds;
+    let count = shape.block_count();
+    let depth = EXPANSION + shape.levels;
+    let line = format!(in alloc;
+        "words 2^{rounds}\nleft root {left}\nright root {right}\nsum {sum}\nbytes {size}\n\
+        columns {count} of 2^{depth}\nsoundness {bits} bits, and {WORK} of work\n\
+        assumed SHA-256 draws as if at random, and has no collisions\n"
+    )?;
+    Ok(line)
+}
+
+/// What `info` prints for the bytes of a file: what the proof holds, whether it is accepted or not, and the bits of soundness of such
+/// proofs; or why it is no proof. It fails if memory was refused.
+pub(crate) fn info_report(alloc: Global, bytes: &[u8]) -> Result<Report, AllocError>
+    ensures { IfOk result (λ report. IsInfoReport bytes.now (string_bytes report.line) report.status) }
+{
+    let proof = match decode(alloc, bytes)? {
+        Ok(proof) => proof,
+        Err(refusal) => {
+            let report = refusal_report(alloc, refusal)?;
+            return Ok(report);
+        }
+    };
+    let bits = soundness_bits(proof.shape.rounds);
+    let line = info_line(alloc, &proof, bytes.len(), bits)?;
+    Ok(Report { line, status: 0 })
 }
