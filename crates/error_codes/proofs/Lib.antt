@@ -20,4 +20,5 @@ pub mod Erasures
 pub mod FewerShares
 pub mod Registers
 pub mod Massey
+pub mod MasseySteps
 pub mod ShortRegisters
