@@ -9,7 +9,7 @@ use Rattle.sum_checks.specs.Terms.{Product, degree_of}
 use Rattle.sum_checks.specs.declared.error.ProtocolError.{ProtocolError}
 use Rattle.sum_checks.specs.declared.error.ProtocolError.TheVariants.{Memory}
 use Rattle.prove_sums.specs.ProofFiles.{number_in}
-use Rattle.prove_sums.specs.Reports.{HasNoAnswer, IsVerifyReport, NamesRoot, SaysAnswer, info_text, refusal_line}
+use Rattle.prove_sums.specs.Reports.{HasNoAnswer, IsVerifyReport, NamesRoot, SaysAnswer, claim_text, refusal_line}
 use Rattle.prove_sums.specs.Verdicts.{IsWordAnswer, product_terms, refusal_in}
 use Rattle.prove_sums.specs.declared.refusal.Refusal.{Refusal}
 use Rattle.prove_sums.specs.declared.reports.NoAnswer.{NoAnswer}
@@ -99,12 +99,8 @@ module _ {T H : Type 0} (digest : H → List ℕ → List ℕ) (hasher : H) (lef
 
 -- ---- what is said of a proof
 
-pub info-same : (n size bits : ℕ) (left right sum one other total : List ℕ) (count depth all deep : ℕ) → left ≡ one → right ≡ other
-    → sum ≡ total → count ≡ all → depth ≡ deep
-    → info_text n left right sum size count depth bits ≡ info_text n one other total size all deep bits
-info-same n size bits left right sum one other total count depth all deep left_is right_is sum_is count_is depth_is =
-    ap (λ (l : List ℕ). info_text n l right sum size count depth bits) left_is
-    ∙ ap (λ (l : List ℕ). info_text n one l sum size count depth bits) right_is
-    ∙ ap (λ (l : List ℕ). info_text n one other l size count depth bits) sum_is
-    ∙ ap (λ (m : ℕ). info_text n one other total size m depth bits) count_is
-    ∙ ap (λ (m : ℕ). info_text n one other total size all m bits) depth_is
+pub claim-same : (n : ℕ) (left right sum one other total : List ℕ) → left ≡ one → right ≡ other → sum ≡ total
+    → claim_text n left right sum ≡ claim_text n one other total
+claim-same n left right sum one other total left_is right_is sum_is =
+    ap (λ (l : List ℕ). claim_text n l right sum) left_is ∙ ap (λ (l : List ℕ). claim_text n one l sum) right_is
+    ∙ ap (claim_text n one other) sum_is

@@ -9,7 +9,7 @@ use Rattle.field_element.specs.Element.{repr_of}
 use Rattle.prove_sums.specs.ProofFiles.{IsFileOf, IsNoWordFile, IsReadRefusal, number_in}
 use Rattle.prove_sums.specs.Shapes.{block_count, depth_of, sum_in}
 use Rattle.prove_sums.specs.SoundnessErrors.{AreMostBits, AreSoundBits}
-use Rattle.prove_sums.specs.Verdicts.{IsWordAnswer, IsWordCommitment, IsWordProof, work_bits}
+use Rattle.prove_sums.specs.Verdicts.{IsWordAnswer, IsWordCommitment, IsWordProof}
 use Rattle.prove_sums.specs.declared.reports.NoAnswer.{NoAnswer}
 use Rattle.prove_sums.specs.declared.reports.NoAnswer.TheVariants.{LeftRoot, Memory, RightRoot}
 use Rattle.prove_sums.specs.declared.refusal.Refusal.{Refusal}
@@ -46,15 +46,21 @@ refusal_line refusal = codes "refused: " ++ (refusal_text refusal ++ codes "\n")
 
 -- ---- `info`
 
--- what is printed of a proof for tables of 2 ^ n words: its sizes, the digits of its roots and of its sum, how many columns of how many are
--- opened, the bits of soundness, and those of the work
-abbrev pub info_text : ℕ → List ℕ → List ℕ → List ℕ → ℕ → ℕ → ℕ → ℕ → List ℕ
-info_text n left right sum size count depth bits =
+-- what is printed of a proof for tables of 2 ^ n words: the digits of its roots and of its sum ..
+abbrev pub claim_text : ℕ → List ℕ → List ℕ → List ℕ → List ℕ
+claim_text n left right sum =
     codes "words 2^" ++ (decimal n ++ (codes "\nleft root " ++ (left ++ (codes "\nright root " ++ (right
-    ++ (codes "\nsum " ++ (sum ++ (codes "\nbytes " ++ (decimal size ++ (codes "\ncolumns " ++ (decimal count
-    ++ (codes " of 2^" ++ (decimal depth ++ (codes "\nsoundness " ++ (decimal bits
-    ++ (codes " bits, and " ++ (decimal work_bits
-    ++ codes " of work\nassumed SHA-256 draws as if at random, and has no collisions\n")))))))))))))))))
+    ++ (codes "\nsum " ++ (sum ++ codes "\n")))))))
+
+-- .. and behind these its size, how many columns of how many are opened, the bits of soundness, and those of the work
+abbrev pub security_text : ℕ → ℕ → ℕ → ℕ → List ℕ
+security_text size count depth bits =
+    codes "bytes " ++ (decimal size ++ (codes "\ncolumns " ++ (decimal count ++ (codes " of 2^" ++ (decimal depth
+    ++ (codes "\nsoundness " ++ (decimal bits
+    ++ codes " bits, and 16 of work\nassumed SHA-256 draws as if at random, and has no collisions\n")))))))
+
+abbrev pub info_text : ℕ → List ℕ → List ℕ → List ℕ → ℕ → ℕ → ℕ → ℕ → List ℕ
+info_text n left right sum size count depth bits = claim_text n left right sum ++ security_text size count depth bits
 
 -- what is printed for the bytes of a file that is a proof, whether it is accepted or not, with the bits of soundness of such proofs
 abbrev pub SaysInfo : {F : Type 0} → (F → ℕ) → List ℕ → List ℕ → Type 0

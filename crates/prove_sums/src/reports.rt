@@ -4,8 +4,8 @@ ghost use Rattle.std.specs.Io.KnownBytes.{Appends};
 ghost use Rattle.std.specs.Process.{exit_status};
 ghost use Rattle.hex.specs.Hex.{decode_sized, encode_lower};
 ghost use Rattle.field_element.specs.Element.{repr_of};
-ghost use Rattle.prove_sums.specs.Reports.{highest_first, info_text, refusal_line, root_line, sum_line, HasNoAnswer};
-ghost use Rattle.prove_sums.specs.Reports.{IsInfoReport, IsVerifyReport};
+ghost use Rattle.prove_sums.specs.Reports.{claim_text, highest_first, info_text, refusal_line, root_line, security_text, sum_line};
+ghost use Rattle.prove_sums.specs.Reports.{HasNoAnswer, IsInfoReport, IsVerifyReport};
 ghost use Rattle.prove_sums.specs.Shapes.{block_count, depth_of, sum_in};
 ghost use Rattle.prove_sums.specs.declared.reports.NoAnswer.TheVariants.{Memory};
 
@@ -14,7 +14,6 @@ use crate::proof_file::{Proof, Roots, decode};
 use crate::refusal::Refusal;
 use crate::security::soundness_bits;
 use crate::shapes::EXPANSION;
-use crate::verifying::WORK;
 use field_element::Ghash128;
 use hex::{FromHex, FromHexError};
 use std::alloc::{AllocError, Global};
@@ -139,6 +138,39 @@ pub(crate) fn verify_report<H: ByteHasher32>(
     Ok(report)
 }
 
+// What is printed of the tables and of the sum of a proof.
+fn claim_line(alloc: Global, proof: &Proof<'_, Ghash128>) -> Result<String, AllocError>
+    ensures { IfOk result (λ line. string_bytes line ≡ claim_text proof.now.shape.rounds (encode_lower proof.now.roots.left)
+        (encode_lower proof.now.roots.right) (highest_first (sum_in repr_of proof.now.elements.items))) }
+{
+    let left = hex::encode(alloc, &proof.roots.left[..])?;
+    let right = hex::encode(alloc, &proof.roots.right[..])?;
+    let bytes = proof.sum().to_bits().to_be_bytes();
+    let sum = hex::encode(alloc, &bytes[..])?;
+    let rounds = proof.shape.rounds;
+    let line = format!(in alloc;
+        "words 2^{rounds}\nleft root {left}\nright root {right}\nsum {sum}\n"
+    )?;
+    Ok(line)
+}
+
+// What is printed of a proof of so many bytes, which opens so many columns of 2^depth, with its bits of soundness.
+fn security_line(
+    alloc: Global,
+    size: usize,
+    count: usize,
+    depth: usize,
+    bits: u8,
+) -> Result<String, AllocError>
+    ensures { IfOk result (λ line. string_bytes line ≡ security_text size count depth bits) }
+{
+    let line = format!(in alloc;
+        "bytes {size}\ncolumns {count} of 2^{depth}\nsoundness {bits} bits, and 16 of work\n\
+        assumed SHA-256 draws as if at random, and has no collisions\n"
+    )?;
+    Ok(line)
+}
+
 // What is printed of a proof, whose file has so many bytes.
 fn info_line(
     alloc: Global,
@@ -150,19 +182,11 @@ fn info_line(
         (encode_lower proof.now.roots.right) (highest_first (sum_in repr_of proof.now.elements.items)) size
         (block_count proof.now.shape.rounds) (depth_of proof.now.shape.rounds) bits) }
 {
-    let left = hex::encode(alloc, &proof.roots.left[..])?;
-    let right = hex::encode(alloc, &proof.roots.right[..])?;
-    let bytes = proof.sum().to_bits().to_be_bytes();
-    let sum = hex::encode(alloc, &bytes[..])?;
-    let shape = &proof.shape;
-    let rounds = shape.rounds;
-    let count = shape.block_count();
-    let depth = EXPANSION + shape.levels;
-    let line = format!(in alloc;
-        "words 2^{rounds}\nleft root {left}\nright root {right}\nsum {sum}\nbytes {size}\n\
-        columns {count} of 2^{depth}\nsoundness {bits} bits, and {WORK} of work\n\
-        assumed SHA-256 draws as if at random, and has no collisions\n"
-    )?;
+    let claim = claim_line(alloc, proof)?;
+    let count = proof.shape.block_count();
+    let depth = EXPANSION + proof.shape.levels;
+    let security = security_line(alloc, size, count, depth, bits)?;
+    let line = format!(in alloc; "{claim}{security}")?;
     Ok(line)
 }
 
