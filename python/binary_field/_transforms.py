@@ -178,7 +178,7 @@ def butterfly_forward(low: Ghash128, high: Ghash128, scalar: Any) -> None:
 
 
 def butterfly_inverse(low: Ghash128, high: Ghash128, scalar: Any) -> None:
-    """high += low, and then low += scalar * high, in both arrays: it takes back `butterfly_forward` by the same scalar.
+    """high += low, and then low += scalar * high, in both arrays: it inverts `butterfly_forward` by the same scalar.
 
     >>> low, high = bf.Ghash128([7, 8]), bf.Ghash128([9, 10])
     >>> bf.butterfly_forward(low, high, 5)

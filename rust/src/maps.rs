@@ -118,7 +118,7 @@ butterflies! {
     /// # Ok::<(), binary_field::Error>(())
     /// ```
     butterfly_forward = bf_g128_butterfly_forward;
-    /// high += low, and then low += scalar * high, at each place: it takes back `butterfly_forward`.
+    /// high += low, and then low += scalar * high, at each place: it inverts `butterfly_forward`.
     ///
     /// ```
     /// use binary_field::{Ghash128, butterfly_forward, butterfly_inverse};
