@@ -38,6 +38,7 @@ extern crate alloc;
 mod field_macros;
 
 mod aes;
+pub mod bit_matrices;
 mod bits;
 mod bytes;
 pub mod challenger;
