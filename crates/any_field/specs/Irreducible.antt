@@ -40,5 +40,6 @@ BenOrIsExact = (width modulus : ℕ) → 0 < width → HasDegree width modulus �
 abbrev pub HasNoProduct : ℕ → Type 0
 HasNoProduct modulus = (m n g h : ℕ) → 0 < m → 0 < n → HasDegree m g → HasDegree n h → carryless g h ≡ modulus → ⊥
 
+-- a polynomial is irreducible exactly where there are no such two
 abbrev pub IrreducibleByDegrees : Type 0
 IrreducibleByDegrees = (width modulus : ℕ) → HasDegree width modulus → (IsIrreducible modulus ↔ HasNoProduct modulus)

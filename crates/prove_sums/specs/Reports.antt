@@ -59,6 +59,7 @@ security_text size count depth bits =
     ++ (codes "\nsoundness " ++ (decimal bits
     ++ codes " bits, and 16 of work\nassumed SHA-256 draws as if at random, and has no collisions\n")))))))
 
+-- .. both, one behind the other
 abbrev pub info_text : ℕ → List ℕ → List ℕ → List ℕ → ℕ → ℕ → ℕ → ℕ → List ℕ
 info_text n left right sum size count depth bits = claim_text n left right sum ++ security_text size count depth bits
 

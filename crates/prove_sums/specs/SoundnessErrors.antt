@@ -62,10 +62,11 @@ pub record Cheats (width : ℕ) (times : ℕ → ℕ → ℕ) (vector : ℕ → 
       → accepted point numbers ≡ true
       → IsAcceptedRun width times vector n left right sum prover point (places_of (block_bits n) numbers)
 
--- how many lists of challenges and of numbers of places there are, and of how many of these a test holds
+-- how many lists of challenges and of numbers of places there are
 abbrev pub all_runs : ℕ → ℕ → ℕ
 all_runs width n = (2 ^ width) ^ n * (2 ^ block_bits n) ^ block_count n
 
+-- of how many of these a test holds
 abbrev pub accepted_runs : ℕ → ℕ → (List ℕ → List ℕ → Bool) → ℕ
 accepted_runs width n accepted =
     sum_lists n (2 ^ width)
@@ -108,6 +109,7 @@ lucky_places n = cond (nat_eq (block_bits n) 0) 0 (163 ^ 128)
 abbrev pub error_parts : ℕ → ℕ
 error_parts n = lucky_challenges n * 256 ^ 128 + 2 ^ 128 * lucky_places n
 
+-- how many parts one has
 abbrev pub whole_parts : ℕ
 whole_parts = 2 ^ 128 * 256 ^ 128
 
