@@ -8,7 +8,7 @@ use lib.Bits.{xor_zero_r}
 use Rattle.field_base.specs.Carryless.{carryless}
 use Rattle.field_base.specs.Field.{HasInverses}
 use Rattle.field_base.specs.Remainder.{HasDegree, rem, mul_mod}
-use Rattle.field_base.proofs.CarrylessProduct.{one_carryless, carryless_comm, zero_carryless, carryless_zero}
+use Rattle.field_base.proofs.CarrylessProduct.{carryless_assoc, one_carryless, carryless_comm, zero_carryless, carryless_zero}
 use Rattle.field_base.proofs.FieldLemmas.{no_zero_divisors}
 use Rattle.field_base.proofs.RemainderLaws.{rem_small, rem_multiple, rem_lt, rem_sum, rem_carryless}
 use Rattle.field_base.proofs.RemainderRing.{mul_mod-rem, mul_mod_ring}
@@ -91,6 +91,14 @@ irreducible-by width modulus degree none g h is =
     cases zero n left right sum = inl (degree-zero g left)
     cases (suc m) zero left right sum = inr (degree-zero h right)
     cases (suc m) (suc n) left right sum = absurd (none (suc m) (suc n) g h (omega arith) (omega arith) sum left right is)
+
+-- and so is a factor of which no factor of lower degree, but of 1 or more, divides the whole
+pub factor-irreducible : (d g h modulus : ℕ) → HasDegree d g → carryless h g ≡ modulus
+    → ((e q r : ℕ) → 0 < e → e < d → HasDegree e q → carryless r q ≡ modulus → ⊥) → IsIrreducible g
+factor-irreducible d g h modulus degree is none =
+    irreducible-by d g degree
+    (λ m n p q m_some n_some sum left right product.
+    none n q (carryless h p) n_some (omega (arith, m_some, sum)) right (carryless_assoc h p q ∙ ap (carryless h) product ∙ is))
 
 -- a polynomial of degree less than the width is an element
 pub degree-fits : (m width g : ℕ) → HasDegree m g → m < width → g < 2 ^ width

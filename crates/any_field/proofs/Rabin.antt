@@ -19,7 +19,7 @@ use Rattle.field_base.proofs.RingLemmas.{xor_cancel}
 use Rattle.any_field.specs.Irreducible.{IsIrreducible, AreCoprime}
 use Rattle.any_field.specs.Rabin.{IsPrime, PassesRabin, RabinIsExact, CoprimeBySteps, InversesGiveField}
 use Rattle.any_field.proofs.Degrees.{degree-zero}
-use Rattle.any_field.proofs.IrreducibleFields.{irreducible_gives_field, factors, irreducible-by}
+use Rattle.any_field.proofs.IrreducibleFields.{irreducible_gives_field, factor-irreducible, factors, irreducible-by}
 use Rattle.any_field.proofs.Products.{field-of}
 use Rattle.any_field.proofs.Tests.{rem-squarings, divisor-fails, some-moves, all-return, irreducible-coprime}
 
@@ -123,17 +123,8 @@ module _ (width modulus : ℕ) (wide : 0 < width) (degree : HasDegree width modu
   no-factor zero d g h few small less factor_degree is = absurd (omega arith)
   no-factor (suc fuel) d g h few small less factor_degree is =
       contradiction d g h small less factor_degree is
-      (λ p q product.
-      let parts = factors d g p q factor_degree product in
-      splits p q product parts.0 parts.1 parts.2 parts.3 parts.4 (no-factor fuel))
-    where
-      splits : (p q : ℕ) → carryless p q ≡ g → (m n : ℕ) → HasDegree m p → HasDegree n q → m + n ≡ d
-          → ((d g h : ℕ) → d ≤ fuel → 0 < d → d < width → HasDegree d g → carryless h g ≡ modulus → ⊥) → (p ≡ 1) ⊎ (q ≡ 1)
-      splits p q product zero n left right sum none = inl (degree-zero p left)
-      splits p q product (suc m) zero left right sum none = inr (degree-zero q right)
-      splits p q product (suc m) (suc n) left right sum none =
-          absurd (none (suc n) q (carryless h p) (omega arith) (omega arith) (omega arith) right
-          (carryless_assoc h p q ∙ ap (carryless h) product ∙ is))
+      (factor-irreducible d g h modulus factor_degree is
+      (λ e q r some lower. no-factor fuel e q r (omega (arith, few, lower)) some (omega (arith, lower, less))))
 
   passes-irreducible : IsIrreducible modulus
   passes-irreducible =

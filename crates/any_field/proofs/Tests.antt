@@ -1,7 +1,7 @@
 -- The test of Ben-Or. A factor of degree d that no factor divides gives a field of 2^d elements, in which d squarings return x, so it
 -- divides x^(2^d) + x. And where i squarings return x modulo an irreducible polynomial of degree above i, they return each of its
 -- elements, which are more than a polynomial of degree 2^i - 1 has roots.
-use Rattle.std.proofs.Common.{◌≡◌, ◌≢◌, ◌⊎◌, inl, inr, ℕ, zero, suc, ◌+◌, ◌*◌, ◌-◌, ◌/◌, ◌%◌, ◌^◌, ◌≤◌, ◌<◌, refl, sym, ◌∙◌, ap, ap₂, arith}
+use Rattle.std.proofs.Common.{◌≡◌, ◌≢◌, inl, inr, ℕ, zero, suc, ◌*◌, ◌-◌, ◌/◌, ◌%◌, ◌^◌, ◌≤◌, ◌<◌, refl, sym, ◌∙◌, ap, ap₂, arith}
 use Rattle.std.specs.Prelude.{bit_xor}
 use Rattle.std.proofs.lemmas.Nat.{pow_pos, pow_below, xor_lt}
 use Rattle.std.proofs.Math.Pow.{pow_mono, pow-lt}
@@ -21,9 +21,9 @@ use Rattle.field_base.proofs.RemainderRing.{mul_mod-rem, mul_mod_ring}
 use Rattle.field_base.proofs.RingLemmas.{xor_nothing, times-zero}
 use Rattle.field_base.proofs.Polynomials.{IsPolynomial, polynomial-same, polynomial-sum, polynomial-shift, polynomial-more, polynomial-vanishes}
 use Rattle.any_field.specs.Irreducible.{IsIrreducible, AreCoprime, PassesBenOr, BenOrIsExact}
-use Rattle.any_field.proofs.Degrees.{common, degree-zero}
+use Rattle.any_field.proofs.Degrees.{common}
 use Rattle.any_field.proofs.Products.{repeated_square-zero}
-use Rattle.any_field.proofs.IrreducibleFields.{irreducible_gives_field, rem-multiple, common-one, factors, irreducible-by}
+use Rattle.any_field.proofs.IrreducibleFields.{irreducible_gives_field, rem-multiple, common-one, factor-irreducible, irreducible-by}
 
 -- ---- a polynomial that passes is irreducible
 
@@ -89,18 +89,9 @@ module _ (width modulus : ℕ) (wide : 0 < width) (degree : HasDegree width modu
   no-factor zero d g h few small half factor_degree is = absurd (omega arith)
   no-factor (suc fuel) d g h few small half factor_degree is =
       irreducible-fails width modulus d g h wide degree small factor_degree is (omega arith)
-      (λ p q product.
-      let parts = factors d g p q factor_degree product in
-      splits p q product parts.0 parts.1 parts.2 parts.3 parts.4 (no-factor fuel))
+      (factor-irreducible d g h modulus factor_degree is
+      (λ e q r some lower. no-factor fuel e q r (omega (arith, few, lower)) some (omega (arith, lower, half))))
       (passes d small half)
-    where
-      splits : (p q : ℕ) → carryless p q ≡ g → (m n : ℕ) → HasDegree m p → HasDegree n q → m + n ≡ d
-          → ((d g h : ℕ) → d ≤ fuel → 0 < d → 2 * d ≤ width → HasDegree d g → carryless h g ≡ modulus → ⊥) → (p ≡ 1) ⊎ (q ≡ 1)
-      splits p q product zero n left right sum none = inl (degree-zero p left)
-      splits p q product (suc m) zero left right sum none = inr (degree-zero q right)
-      splits p q product (suc m) (suc n) left right sum none =
-          absurd (none (suc n) q (carryless h p) (omega arith) (omega arith) (omega arith) right
-          (carryless_assoc h p q ∙ ap (carryless h) product ∙ is))
 
   passes-irreducible : IsIrreducible modulus
   passes-irreducible =
