@@ -1,11 +1,14 @@
--- Each field of 2^w elements has a root of each irreducible polynomial f of degree w: f divides x^(2^w) + x, which is 0 at each element, and
--- the other factor is not 0 at all of them, since it has at most 2^w coefficients.
+-- Each field of 2^w elements has a root of each irreducible polynomial f whose degree divides w: f divides x^(2^w) + x, which is 0 at each
+-- element, and the other factor is not 0 at all of them, since it has at most 2^w coefficients.
 use Rattle.std.proofs.Common.{◌≡◌, ◌≢◌, ◌⊎◌, inl, inr, ℕ, zero, suc, ◌+◌, ◌*◌, ◌/◌, ◌%◌, ◌^◌, ◌≤◌, ◌<◌, sym, ◌∙◌, ap, ap₂, subst, arith}
 use Rattle.std.specs.Prelude.{bit_xor}
 use Rattle.std.proofs.lemmas.Nat.{pow_pos, pow_below, xor_comm, xor_shr, pow-add}
 use Rattle.std.proofs.lemmas.Bool.{cases_eq}
 use Rattle.std.proofs.Math.Pow.{pow_mono, pow-lt}
-use native.Mathlib.Nat.{le_refl, mod-eq_of_lt, pow-suc, one-mul, lt_of_lt_of_le, div-eq_of_lt, eq-or-lt_of_le}
+use native.Mathlib.Nat.{le_refl, mod-eq_of_lt, pow-suc, one-mul, lt_of_lt_of_le, div-eq_of_lt, div-mul_cancel, eq-or-lt_of_le}
+use Rattle.std.proofs.Math.Nat.{eq-zero_of_zero-dvd}
+use Rattle.std.specs.Int.{◌∣◌}
+use Rattle.std.proofs.lemmas.Nat.Gcd.{dvd_of_mod-eq-zero}
 use lib.Bits.{xor_self, xor_zero_r}
 use Rattle.field_base.specs.Carryless.{carryless}
 use Rattle.field_base.specs.Field.{IsField}
@@ -20,9 +23,10 @@ use Rattle.field_base.proofs.RingLemmas.{zero-times}
 use Rattle.field_base.proofs.Polynomials.{IsPolynomial, polynomial-vanishes}
 use Rattle.any_field.specs.Irreducible.{IsIrreducible}
 use Rattle.any_field.specs.Values.{binary_value}
-use Rattle.any_field.specs.Isomorphic.{HasRoot, FieldsOfOneSizeAreIsomorphic}
+use Rattle.any_field.specs.Isomorphic.{FieldsHaveRoots, FieldsOfOneSizeAreIsomorphic}
 use Rattle.any_field.proofs.Degrees.{degree-some, degree-product, degree-unique, degree-of, degree-most, degree-nonzero}
 use Rattle.any_field.proofs.IrreducibleFields.{irreducible_gives_field}
+use Rattle.any_field.proofs.Rabin.{divides-returns}
 use Rattle.any_field.proofs.RootValues.{at-zero, at-step, at-lt, at-one, at-sum, at-double, at-product, roots_give_isomorphisms}
 
 -- the square of the polynomial x^k
@@ -46,19 +50,20 @@ module _ (width modulus : ℕ) (wide : 0 < width) (degree : HasDegree width modu
       ∙ sym (mul_mod-rem width modulus degree (rem width modulus p) (rem width modulus p) (rem_lt width modulus degree p) (rem_lt width modulus degree p))
       ∙ ap (λ (z : ℕ). mul_mod width modulus z z) (power-rem n)
 
-  -- an irreducible polynomial divides x^(2^width) + x
-  divides : IsIrreducible modulus → (h : ℕ) × (carryless h modulus ≡ bit_xor (2 ^ 2 ^ width) 2)
-  divides irreducible =
-      let p = bit_xor (2 ^ 2 ^ width) 2 in
+  -- an irreducible polynomial divides x^(2^n) + x for each multiple n of its degree
+  divides : IsIrreducible modulus → (k : ℕ) → (h : ℕ) × (carryless h modulus ≡ bit_xor (2 ^ 2 ^ (k * width)) 2)
+  divides irreducible k =
+      let p = bit_xor (2 ^ 2 ^ (k * width)) 2 in
       let is = rem_is_remainder width modulus p degree in
       (is.quotient, sym (is.parts ∙ ap (bit_xor (carryless is.quotient modulus)) nothing ∙ xor_zero_r (carryless is.quotient modulus)))
     where
-      nothing : rem width modulus (bit_xor (2 ^ 2 ^ width) 2) ≡ 0
+      nothing : rem width modulus (bit_xor (2 ^ 2 ^ (k * width)) 2) ≡ 0
       nothing =
-          rem_sum width modulus degree (2 ^ 2 ^ width) 2
+          rem_sum width modulus degree (2 ^ 2 ^ (k * width)) 2
           ∙ ap (λ (z : ℕ). bit_xor z (rem width modulus 2))
-          (power-rem width ∙ (irreducible_gives_field width modulus wide degree irreducible).squarings_return (rem width modulus 2)
-          ∙ mod-eq_of_lt (rem_lt width modulus degree 2))
+          (power-rem (k * width)
+          ∙ divides-returns width modulus (irreducible_gives_field width modulus wide degree irreducible) k (rem width modulus 2)
+          (rem_lt width modulus degree 2))
           ∙ xor_self (rem width modulus 2)
 
 module _ (width : ℕ) (times : ℕ → ℕ → ℕ) (wide : 0 < width) (field : IsField width times) where
@@ -142,21 +147,22 @@ module _ (width : ℕ) (times : ℕ → ℕ → ℕ) (wide : 0 < width) (field :
       last : (a n : ℕ) → a < suc n → a ≤ n
       last a n below = omega arith
 
-  module _ (modulus : ℕ) (degree : HasDegree width modulus) (irreducible : IsIrreducible modulus) where
+  module _ (d k modulus : ℕ) (d_wide : 0 < d) (parts : k * d ≡ width) (degree : HasDegree d modulus) (irreducible : IsIrreducible modulus) where
     some-root : ((a : ℕ) → a < 2 ^ width → binary_value times a modulus ≢ 0) → ⊥
     some-root none =
-        let factor = divides width modulus wide degree irreducible in
+        let factor = divides d modulus d_wide degree irreducible k in
         let h = factor.0 in
+        let product : carryless h modulus ≡ bit_xor (2 ^ 2 ^ width) 2 = factor.1 ∙ ap (λ (n : ℕ). bit_xor (2 ^ 2 ^ n) 2) parts in
         let zeros : (a : ℕ) → a < 2 ^ width → binary_value times a h ≡ 0 =
         λ a fits.
         elim (no_zero_divisors width times field.ring field.inverses (binary_value times a h) (binary_value times a modulus)
         (at-lt width times wide field.ring a h) (at-lt width times wide field.ring a modulus)
-        (sym (at-product width times wide field.ring a h modulus) ∙ ap (binary_value times a) factor.1 ∙ value-nothing a fits)) [
+        (sym (at-product width times wide field.ring a h modulus) ∙ ap (binary_value times a) product ∙ value-nothing a fits)) [
           | inl e ↦ e
           | inr e ↦ absurd (none a fits e)
         ] in
-        let some : h ≢ 0 = λ e. nonzero (sym factor.1 ∙ ap (λ (z : ℕ). carryless z modulus) e ∙ zero_carryless modulus) in
-        some (all-zero (2 ^ width) h (small h some factor.1) (le_refl (2 ^ width)) zeros)
+        let some : h ≢ 0 = λ e. nonzero (sym product ∙ ap (λ (z : ℕ). carryless z modulus) e ∙ zero_carryless modulus) in
+        some (all-zero (2 ^ width) h (small h some product) (le_refl (2 ^ width)) zeros)
       where
         large : 2 < 2 ^ 2 ^ width
         large = pow-lt (pow_below 0 width wide)
@@ -175,25 +181,32 @@ module _ (width : ℕ) (times : ℕ → ℕ → ℕ) (wide : 0 < width) (field :
         small : (h : ℕ) → h ≢ 0 → carryless h modulus ≡ bit_xor (2 ^ 2 ^ width) 2 → h < 2 ^ 2 ^ width
         small h some is =
             let own = degree-some h some in
-            let sum : own.0 + width ≡ 2 ^ width =
-            degree-unique (own.0 + width) (2 ^ width) (bit_xor (2 ^ 2 ^ width) 2)
-            (subst (HasDegree (own.0 + width)) is (degree-product own.0 width h modulus own.1 degree)) top in
+            let sum : own.0 + d ≡ 2 ^ width =
+            degree-unique (own.0 + d) (2 ^ width) (bit_xor (2 ^ 2 ^ width) 2)
+            (subst (HasDegree (own.0 + d)) is (degree-product own.0 d h modulus own.1 degree)) top in
             lt_of_lt_of_le (degree-most own.0 h own.1) (pow_mono (least own.0 (2 ^ width) sum))
           where
-            least : (m n : ℕ) → m + width ≡ n → suc m ≤ n
-            least m n sum = omega (arith, wide)
+            least : (m n : ℕ) → m + d ≡ n → suc m ≤ n
+            least m n sum = omega (arith, d_wide)
 
-    has-root : HasRoot width modulus times
-    has-root =
-        elim (search-root modulus (2 ^ width)) [
-          | inl found ↦ record {
-            root = found.0;
-            below = found.1;
-            is_root = found.2;
-            isomorphism = roots_give_isomorphisms width modulus times found.0 wide degree irreducible field.ring found.2;
-          }
-          | inr none ↦ absurd (some-root none)
-        ]
+    root-found : (root : ℕ) × (root < 2 ^ width) × (binary_value times root modulus ≡ 0)
+    root-found = elim (search-root modulus (2 ^ width)) [ inl found ↦ found | inr none ↦ absurd (some-root none) ]
+
+pub fields_have_roots : FieldsHaveRoots
+fields_have_roots width d modulus times wide by degree irreducible field =
+    root-found width times wide field d (width / d) modulus (positive d (dvd_of_mod-eq-zero d by) wide) (div-mul_cancel d (dvd_of_mod-eq-zero d by))
+    degree irreducible
+  where
+    positive : (d : ℕ) → d ∣ width → 0 < width → 0 < d
+    positive zero divides some = absurd (omega (arith, some, eq-zero_of_zero-dvd divides))
+    positive (suc d) divides some = omega arith
 
 pub finite_fields_are_isomorphic : FieldsOfOneSizeAreIsomorphic
-finite_fields_are_isomorphic width modulus times wide degree irreducible field = has-root width times wide field modulus degree irreducible
+finite_fields_are_isomorphic width modulus times wide degree irreducible field =
+    let found = root-found width times wide field width 1 modulus wide (one-mul width) degree irreducible in
+    record {
+      root = found.0;
+      below = found.1;
+      is_root = found.2;
+      isomorphism = roots_give_isomorphisms width modulus times found.0 wide degree irreducible field.ring found.2;
+    }

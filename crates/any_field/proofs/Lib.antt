@@ -19,3 +19,10 @@ pub mod DotSteps
 pub mod InverseSlices
 pub mod OrderFactors
 pub mod PrimeTable
+pub mod PowerRelations
+pub mod Conjugates
+pub mod LogarithmSteps
+pub mod ScalarMaps
+pub mod ByteModuli
+pub mod SearchSteps
+pub mod FoundOptions

@@ -4,7 +4,7 @@ use Rattle.std.specs.Prelude.{IsTrue, eqb, slice_index}
 use Rattle.std.proofs.lemmas.Bool.{cases_eq}
 use Rattle.std.proofs.lemmas.Bool.Decides.{eqb_tells}
 use Rattle.std.proofs.lemmas.Nat.{div-add-mod', pow_pos, pow_below}
-use Rattle.std.proofs.lemmas.Nat.Gcd.{dvd_refl, dvd-zero, dvd_of_mod-eq-zero, le_of_dvd, mod-eq-zero_of_dvd}
+use Rattle.std.proofs.lemmas.Nat.Gcd.{dvd_refl, dvd_trans, dvd-zero, dvd_of_mod-eq-zero, le_of_dvd, mod-eq-zero_of_dvd}
 use Rattle.std.specs.Int.{◌∣◌}
 use native.Mathlib.Nat.{add-mul, dvd-add_iff_right, dvd-mod_iff, dvd-mul_left, dvd-mul_right, dvd-mul_left_of_dvd, div-eq_of_eq-mul_left, div-mul_cancel, eq-one_of_dvd-one, mod-eq_of_lt, mod-lt, mul_assoc, mul-add-mod_self_right, mul-suc, one-mul, zero-mul}
 use Rattle.field_base.specs.Field.{IsField}
@@ -98,6 +98,35 @@ found (q ∷ qs) prime c n given =
 
 -- ---- orders
 
+-- a quotient of a number above 0 is above 0, and less than the number
+nonzero : (a q n : ℕ) → a * q ≡ n → 0 < n → 0 < a
+nonzero zero q n parts some = absurd (omega (arith, sym (zero-mul q) ∙ parts, some))
+nonzero (suc a) q n parts some = omega arith
+
+smaller : (a q n : ℕ) → 1 < q → a * q ≡ n → 0 < n → a < n
+smaller a zero n above parts some = absurd (omega (arith, above))
+smaller a (suc zero) n above parts some = absurd (omega (arith, above))
+smaller zero (suc (suc q)) n above parts some = some
+smaller (suc a) (suc (suc q)) n above parts some = omega (arith, parts)
+
+-- a divisor of an exponent, divided by one of its own
+pub divided-more : (exponent rest q : ℕ) → 1 < q → 0 < rest → exponent % rest ≡ 0 → rest % q ≡ 0
+    → (0 < rest / q) × (rest / q < rest) × (exponent % (rest / q) ≡ 0)
+divided-more exponent rest q above some divides by =
+    let parts : rest / q * q ≡ rest = div-mul_cancel q (dvd_of_mod-eq-zero q by) in (
+      nonzero (rest / q) q rest parts some,
+      smaller (rest / q) q rest above parts some,
+      mod-eq-zero_of_dvd (rest / q)
+          (dvd_trans (rest / q) (subst (λ (z : ℕ). rest / q ∣ z) parts (dvd-mul_right (rest / q) q)) (dvd_of_mod-eq-zero rest divides)),
+    )
+
+-- a divisor of `whole` to which the function is 1, and at whose quotients by the first primes of the list it is not
+pub record IsOrderSoFar (at : ℕ → ℕ) (whole : ℕ) (qs : List ℕ) (place order : ℕ) : Type 0 where
+  pub some : 0 < order
+  pub one : at order ≡ 1
+  pub divides : whole % order ≡ 0
+  pub tested : (i : ℕ) → i < place → order % slice_index qs i ≡ 0 → at (order / slice_index qs i) ≢ 1
+
 module _ (width : ℕ) (times : ℕ → ℕ → ℕ) (ring : IsRing width 1 times) (one_fits : 1 < 2 ^ width) (x : ℕ) where
   one-power : (n : ℕ) → power 1 times 1 n ≡ 1
   unfolding power
@@ -108,22 +137,27 @@ module _ (width : ℕ) (times : ℕ → ℕ → ℕ) (ring : IsRing width 1 time
   multiple : (m n : ℕ) → power 1 times x m ≡ 1 → power 1 times x (m * n) ≡ 1
   multiple m n is = power-mul width 1 times ring one_fits x m n ∙ ap (λ (z : ℕ). power 1 times z n) is ∙ one-power n
 
-  remainder : (a b : ℕ) → power 1 times x a ≡ 1 → power 1 times x b ≡ 1 → power 1 times x (a % b) ≡ 1
-  remainder a b of_a of_b =
-      sym (one-times width 1 times ring (power 1 times x (a % b)) (power-lt width 1 times ring one_fits x (a % b)))
-      ∙ ap (λ (z : ℕ). times z (power 1 times x (a % b))) (sym (multiple b (a / b) of_b) ∙ ap (power 1 times x) (mul_comm b (a / b)))
-      ∙ sym (power-add width 1 times ring one_fits x (a / b * b) (a % b)) ∙ ap (power 1 times x) (div-add-mod' a b) ∙ of_a
+  -- powers repeat from an exponent to which x is 1
+  pub periodic : (e k : ℕ) → power 1 times x e ≡ 1 → power 1 times x k ≡ power 1 times x (k % e)
+  periodic e k one =
+      sym (sym (one-times width 1 times ring (power 1 times x (k % e)) (power-lt width 1 times ring one_fits x (k % e)))
+      ∙ ap (λ (z : ℕ). times z (power 1 times x (k % e))) (sym (multiple e (k / e) one) ∙ ap (power 1 times x) (mul_comm e (k / e)))
+      ∙ sym (power-add width 1 times ring one_fits x (k / e * e) (k % e)) ∙ ap (power 1 times x) (div-add-mod' k e))
 
-  pub full-order : (n : ℕ) (qs : List ℕ) → 0 < n → ArePrime qs → removed n qs ≡ 1 → power 1 times x n ≡ 1
+  remainder : (a b : ℕ) → power 1 times x a ≡ 1 → power 1 times x b ≡ 1 → power 1 times x (a % b) ≡ 1
+  remainder a b of_a of_b = sym (periodic b a of_b) ∙ of_a
+
+  -- no exponent is less than a divisor n of one that has no other primes than those of the list, where no quotient of n by one is such
+  pub full-order : (whole n : ℕ) (qs : List ℕ) → 0 < n → ArePrime qs → n ∣ whole → removed whole qs ≡ 1 → power 1 times x n ≡ 1
       → ((i : ℕ) → i < length qs → n % slice_index qs i ≡ 0 → power 1 times x (n / slice_index qs i) ≢ 1)
       → (e : ℕ) → 0 < e → e < n → power 1 times x e ≢ 1
-  full-order n qs n_some prime none whole test e some less is =
-      let common = shared (λ (a : ℕ). power 1 times x a ≡ 1) remainder n e n (least n) some is whole in
+  full-order whole n qs n_some prime divisor none one test e some less is =
+      let common = shared (λ (a : ℕ). power 1 times x a ≡ 1) remainder n e n (least n) some is one in
       let k = common.0 in
       let c = n / k in
       let parts : c * k ≡ n = div-mul_cancel k common.3 in
       let small : k ≤ e = le_of_dvd some common.2 in
-      elim (found qs prime c n (subst (λ (z : ℕ). c ∣ z) parts (dvd-mul_right c k))) [
+      elim (found qs prime c whole (dvd_trans c (subst (λ (z : ℕ). c ∣ z) parts (dvd-mul_right c k)) divisor)) [
         | inl place ↦
             let q = slice_index qs place.0 in
             let q_some : 0 < q = omega (arith, (prime place.0 place.1).above) in
@@ -147,22 +181,37 @@ module _ (width : ℕ) (times : ℕ → ℕ → ℕ) (ring : IsRing width 1 time
       let n = 2 ^ width - 1 in
       let n_some : 0 < n = omega (arith, one_fits) in
       let parts : n / q * q ≡ n = div-mul_cancel q (dvd_of_mod-eq-zero q divides) in
-      full.1 (n / q) (nonzero (n / q) n parts n_some) (smaller (n / q) q n above parts n_some)
-    where
-      nonzero : (a n : ℕ) → a * q ≡ n → 0 < n → 0 < a
-      nonzero zero n parts some = absurd (omega (arith, sym (zero-mul q) ∙ parts, some))
-      nonzero (suc a) n parts some = omega arith
-
-      smaller : (a q n : ℕ) → 1 < q → a * q ≡ n → 0 < n → a < n
-      smaller a zero n above parts some = absurd (omega (arith, above))
-      smaller a (suc zero) n above parts some = absurd (omega (arith, above))
-      smaller zero (suc (suc q)) n above parts some = some
-      smaller (suc a) (suc (suc q)) n above parts some = omega (arith, parts)
+      full.1 (n / q) (nonzero (n / q) q n parts n_some) (smaller (n / q) q n above parts n_some)
 
   -- so that an element that fails a test has not the full order
   pub fails-test : (order q : ℕ) → order ≡ 2 ^ width - 1 → 1 < q → (order % q ≡ 0) × (power 1 times x (order / q) ≡ 1) → HasFullOrder width times x → ⊥
   fails-test order q is above fails full =
       test-passes q above full (ap (λ (z : ℕ). z % q) (sym is) ∙ fails.0) (ap (λ (z : ℕ). power 1 times x (z / q)) (sym is) ∙ fails.1)
+
+  -- one prime more: what passes keeps passing, since a multiple of an exponent to which x is 1 is another
+  pub order-more : (whole : ℕ) (qs : List ℕ) (place order next q : ℕ) → ((i : ℕ) → i < place → 1 < slice_index qs i)
+      → q ≡ slice_index qs place → IsOrderSoFar (power 1 times x) whole qs place order → 0 < next → power 1 times x next ≡ 1 → order % next ≡ 0
+      → (next % q ≡ 0 → power 1 times x (next / q) ≢ 1) → IsOrderSoFar (power 1 times x) whole qs (place + 1) next
+  order-more whole qs place order next q above q_is so_far some one divides last = record {
+    some = some;
+    one = one;
+    divides = mod-eq-zero_of_dvd next (dvd_trans next (dvd_of_mod-eq-zero next divides) (dvd_of_mod-eq-zero order so_far.divides));
+    tested =
+        below_more (λ i. next % slice_index qs i ≡ 0 → power 1 times x (next / slice_index qs i) ≢ 1) place (λ i below by is. older i below by is)
+        (λ by is. last (ap (λ (z : ℕ). next % z) q_is ∙ by) (ap (λ (z : ℕ). power 1 times x (next / z)) q_is ∙ is));
+  }
+    where
+      older : (i : ℕ) → i < place → next % slice_index qs i ≡ 0 → power 1 times x (next / slice_index qs i) ≢ 1
+      older i below by is =
+          let p = slice_index qs i in
+          let p_some : 0 < p = omega (arith, above i below) in
+          let k = order / next in
+          let parts : k * next ≡ order = div-mul_cancel next (dvd_of_mod-eq-zero next divides) in
+          let again : next / p * p ≡ next = div-mul_cancel p (dvd_of_mod-eq-zero p by) in
+          let quotient : order ≡ next / p * k * p =
+          sym parts ∙ ap (λ (z : ℕ). k * z) (sym again) ∙ sym (mul_assoc k (next / p) p) ∙ ap (λ (z : ℕ). z * p) (mul_comm k (next / p)) in
+          so_far.tested i below (mod-eq-zero_of_dvd p (subst (λ (z : ℕ). p ∣ z) (sym quotient) (dvd-mul_left p (next / p * k))))
+          (ap (power 1 times x) (div-eq_of_eq-mul_left p_some quotient) ∙ multiple (next / p) k is)
 
 -- a power depends on the low bits only
 power-low : (width : ℕ) (times : ℕ → ℕ → ℕ) → IsRing width 1 times → (x n : ℕ) → power 1 times (x % 2 ^ width) n ≡ power 1 times x n

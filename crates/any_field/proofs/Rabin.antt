@@ -39,7 +39,7 @@ returns-divides d g two degree irreducible n same =
     ]
 
 -- and they do where it divides n
-divides-returns : (d g : ℕ) → (field : IsField d (mul_mod d g)) → (k x : ℕ) → x < 2 ^ d → repeated_square 1 (mul_mod d g) (k * d) x ≡ x
+pub divides-returns : (d g : ℕ) → (field : IsField d (mul_mod d g)) → (k x : ℕ) → x < 2 ^ d → repeated_square 1 (mul_mod d g) (k * d) x ≡ x
 divides-returns d g field k x fits =
     sym (field_repeated_square-mod_bits d (mul_mod d g) field (k * d) x)
     ∙ ap (λ (n : ℕ). repeated_square 1 (mul_mod d g) n x) (mul-mod_left k d) ∙ none

@@ -101,7 +101,7 @@ module _ (width : ℕ) (times : ℕ → ℕ → ℕ) (wide : 0 < width) (ring : 
 
   -- ---- modulo a polynomial of which b is a root
   module _ (source modulus : ℕ) (degree : HasDegree source modulus) (root : at modulus ≡ 0) where
-    at-rem : (p : ℕ) → at (rem source modulus p) ≡ at p
+    pub at-rem : (p : ℕ) → at (rem source modulus p) ≡ at p
     at-rem p = along (rem source modulus p) (rem_is_remainder source modulus p degree).quotient (rem_is_remainder source modulus p degree).parts
       where
         along : (r q : ℕ) → p ≡ bit_xor (carryless q modulus) r → at r ≡ at p

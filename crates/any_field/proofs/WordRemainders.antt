@@ -1,9 +1,9 @@
 -- Bits of words, and remainders by words.
 use Rattle.std.proofs.Common.{◌≡◌, ℕ, suc, ◌+◌, ◌-◌, ◌*◌, ◌/◌, ◌%◌, ◌^◌, ◌≤◌, ◌<◌, sym, ◌∙◌, ap, ap₂, subst, arith}
 use Rattle.std.specs.Prelude.{bit_xor}
-use Rattle.std.proofs.lemmas.Nat.{pow-add, pow_pos, div-add-mod', shr-shr, shr_below, shl_below, xor_comm, xor_mod, shl-shr, shr_high}
-use Rattle.std.proofs.Math.Pow.{pow_mono}
-use native.Mathlib.Nat.{mul-le-mul_left, mod-eq_of_lt, mul_assoc, mul-add-div_right, mul-add-mod_self_right, mod-lt, div-lt_iff_lt-mul}
+use Rattle.std.proofs.lemmas.Nat.{pow-add, pow_pos, div-add-mod', shr-shr, shr_below, shl_below, xor_comm, xor_lt, xor_mod, shl-shr, shr_high}
+use Rattle.std.proofs.Math.Pow.{pow_mono, pow-lt}
+use native.Mathlib.Nat.{mul-le-mul_left, mod-eq_of_lt, mul_assoc, mul-add-div_right, mul-add-mod_self_right, mod-lt, div-lt_iff_lt-mul, lt_of_lt_of_le, one-mul}
 use lib.Bits.{xor_shifted}
 use Rattle.field_base.specs.Carryless.{carryless}
 use Rattle.field_base.specs.Remainder.{HasDegree, rem, mul_mod}
@@ -41,6 +41,9 @@ pub low_bits_are : (x w : ℕ) → 0 < w → w ≤ 128 → x * 2 ^ (128 - w) % 2
 low_bits_are x w wide narrow =
     ap (λ (z : ℕ). x * 2 ^ (128 - w) % z / 2 ^ (128 - w)) (power-split w narrow)
     ∙ ap (λ (z : ℕ). z / 2 ^ (128 - w)) (scaled-mod x (2 ^ w) (2 ^ (128 - w)) (pow_pos w) (pow_pos (128 - w))) ∙ shl-shr (x % 2 ^ w) (128 - w)
+
+pub one_at : (k : ℕ) → k < 128 → 1 * 2 ^ k % 2 ^ 128 ≡ 2 ^ k
+one_at k less = mod-eq_of_lt (subst (λ (z : ℕ). z < 2 ^ 128) (sym (one-mul (2 ^ k))) (pow-lt less)) ∙ one-mul (2 ^ k)
 
 -- what is below 2^(2 w) has less than 2^w above 128 bits
 high-below : (low high w : ℕ) → w ≤ 128 → high * 2 ^ 128 + low < 2 ^ (w + w) → high < 2 ^ w
@@ -114,6 +117,40 @@ reduced w t r low high above middle top quotient multiple spilled context fits a
         sym (ap (λ (z : ℕ). (z + low) % 2 ^ w)
         (ap (λ (z : ℕ). high * 2 ^ z) sum ∙ ap (λ (z : ℕ). high * z) (pow-add 2 (128 - w) w) ∙ sym (mul_assoc high (2 ^ (128 - w)) (2 ^ w)))
         ∙ mul-add-mod_self_right (high * 2 ^ (128 - w)) (2 ^ w) low)
+
+-- ---- a width up to 64
+
+-- an element is a word of 64 bits
+pub word-fits : (w x : ℕ) → w ≤ 64 → x < 2 ^ w → x < 2 ^ 64
+word-fits w x narrow fits = lt_of_lt_of_le fits (pow_mono narrow)
+
+module _ (w t r p middle : ℕ) (context : IsContext w t r) (narrow : w ≤ 64) (fits : p < 2 ^ (w + w)) (middle_is : middle ≡ carryless (p / 2 ^ w) r) where
+  above-lt : p / 2 ^ w < 2 ^ w
+  above-lt = shr_below p w w fits
+
+  quotient-lt : bit_xor (p / 2 ^ w) (middle / 2 ^ w) < 2 ^ w
+  quotient-lt =
+      xor_lt w (p / 2 ^ w) (middle / 2 ^ w) above-lt
+      (shr_below middle w w (product-fits (p / 2 ^ w) r w middle above-lt context.ratio_below (sym middle_is)))
+
+  pub quotient-word : bit_xor (p / 2 ^ w) (middle / 2 ^ w) < 2 ^ 64
+  quotient-word = word-fits w (bit_xor (p / 2 ^ w) (middle / 2 ^ w)) narrow quotient-lt
+
+  -- a double word without a high one
+  alone : (x : ℕ) → 0 * 2 ^ 128 + x ≡ x
+  alone x = omega arith
+
+  -- the steps of the reduction
+  pub word-reduced : (multiple : ℕ) → multiple ≡ carryless (bit_xor (p / 2 ^ w) (middle / 2 ^ w)) t
+      → bit_xor p multiple % 2 ^ w ≡ rem w (with_top w t) p
+  word-reduced multiple multiple_is =
+      reduced w t r p 0 (p / 2 ^ w) middle 0 (bit_xor (p / 2 ^ w) (middle / 2 ^ w)) multiple 0 context
+      (subst (λ (z : ℕ). z < 2 ^ (w + w)) (sym (alone p)) fits) (ap (λ (z : ℕ). z / 2 ^ w) (sym (alone p))) (sym middle_is ∙ sym (alone middle))
+      (ap (λ (z : ℕ). bit_xor (p / 2 ^ w) (z / 2 ^ w)) (sym (alone middle))) (sym multiple_is ∙ sym (alone multiple))
+      ∙ ap (rem w (with_top w t)) (alone p)
+
+pub above-word : (w p : ℕ) → w ≤ 64 → p < 2 ^ (w + w) → p / 2 ^ w < 2 ^ 64
+above-word w p narrow fits = word-fits w (p / 2 ^ w) narrow (shr_below p w w fits)
 
 pub multiplied : (w t x y p : ℕ) → t < 2 ^ w → x < 2 ^ w → y < 2 ^ w → carryless x y ≡ p
     → rem w (with_top w t) p ≡ mul_mod w (with_top w t) x y

@@ -31,3 +31,8 @@ HasNoFactors modulus = (g h : ℕ) → carryless g h ≡ modulus → g ≢ 1 →
 -- the moduli of the three fixed fields
 abbrev pub PublishedAreIrreducible : Type 0
 PublishedAreIrreducible = IsIrreducible aes_modulus × IsIrreducible poly64_modulus × IsIrreducible ghash_modulus
+
+-- the moduli of bytes that codes use besides that of AES: x^8 + x^4 + x^3 + x^2 + 1 (ISO/IEC 18004, ETSI EN 300 421), which is 0x11d, and
+-- x^8 + x^7 + x^2 + x + 1 (CCSDS 131.0-B), which is 0x187
+abbrev pub BytesOfCodesAreFields : Type 0
+BytesOfCodesAreFields = IsFieldModulus 8 0x1d × IsFieldModulus 8 0x87

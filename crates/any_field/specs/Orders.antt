@@ -1,8 +1,15 @@
 -- Primitive elements: those whose powers are all nonzero elements (R. Lidl and H. Niederreiter, Finite Fields, definition 2.9), and what a
 -- test of them takes, the primes that divide the number of the nonzero elements.
-use Rattle.std.specs.Prelude.{ℕ, ◌<◌, List, length, slice_index}
+use Rattle.std.specs.Prelude.{◌≡◌, ◌≢◌, ℕ, ◌<◌, List, length, slice_index}
+use Rattle.field_base.specs.Powers.{power}
 use Rattle.any_field.specs.Rabin.{IsPrime}
 
 -- each number of a list is prime
 abbrev pub ArePrime : List ℕ → Type 0
 ArePrime qs = (i : ℕ) → i < length qs → IsPrime (slice_index qs i)
+
+-- e is the order of x: the least exponent above 0 to which its power is 1 (Lidl and Niederreiter, chapter 1)
+pub record IsOrder (times : ℕ → ℕ → ℕ) (x e : ℕ) : Type 0 where
+  pub some : 0 < e
+  pub one : power 1 times x e ≡ 1
+  pub least : (k : ℕ) → 0 < k → k < e → power 1 times x k ≢ 1

@@ -5,14 +5,18 @@ ghost use Rattle.any_field.specs.Contexts.{HasNoFactors, IsContext, IsFieldModul
 
 mod embeddings;
 mod inverses;
+mod logarithms;
+mod minimal;
 mod orders;
 mod powers;
+mod roots;
 mod slices;
+mod subfields;
 mod values;
 
 pub use crate::extension::embeddings::Embedding;
 use crate::irreducible::is_irreducible;
-use crate::reduction::{low_bits, multiply, ratio_of};
+use crate::reduction::{low_bits, multiply, ratio_of, square};
 use thiserror::Error;
 
 /// That no field has the modulus: it is no irreducible polynomial of degree 1 to 128.
@@ -95,7 +99,7 @@ impl BinaryExtension {
     pub fn square(self, x: u128) -> u128
         ensures { result ≡ field_product self.degree self.tail x x }
     {
-        self.multiply(x, x)
+        square(self.degree, self.tail, self.ratio, low_bits(x, self.degree))
     }
 
     /// States that it is a field of 2^degree elements under this product, modulo an irreducible polynomial of that degree. Computes nothing.

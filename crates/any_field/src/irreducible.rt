@@ -3,7 +3,7 @@ ghost use Rattle.std.specs.Prelude.{◌^◌, ◌<◌, ◌≤◌, ◌↔◌, IsTr
 ghost use Rattle.any_field.specs.Contexts.{with_top};
 ghost use Rattle.any_field.specs.Irreducible.{AreCoprime, IsIrreducible};
 
-use crate::reduction::{low_bits, multiply, ratio_of};
+use crate::reduction::{low_bits, ratio_of, square};
 
 // Whether two polynomials have no common factor, by Euclid's algorithm: the one of the lower degree, shifted to that of the other, is
 // added to it.
@@ -51,12 +51,12 @@ pub fn is_irreducible(degree: u32, tail: u128) -> bool
     let x = low_bits(2, degree);
     let mut moved = x;
     for i in 1..degree {
-        moved = multiply(degree, tail, ratio, moved, moved);
+        moved = square(degree, tail, ratio, moved);
         if degree % i == 0 {
             if !is_coprime_to_modulus(degree, tail, moved ^ 2) {
                 return false;
             }
         }
     }
-    multiply(degree, tail, ratio, moved, moved) == x
+    square(degree, tail, ratio, moved) == x
 }

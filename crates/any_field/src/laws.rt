@@ -1,8 +1,8 @@
 // Laws of fields of binary polynomials modulo any irreducible one, as contracts of functions that compute nothing.
 ghost use Rattle.any_field.specs.Barrett.{BarrettByWords, BarrettIsRemainder};
-ghost use Rattle.any_field.specs.Contexts.{PublishedAreIrreducible};
+ghost use Rattle.any_field.specs.Contexts.{BytesOfCodesAreFields, PublishedAreIrreducible};
 ghost use Rattle.any_field.specs.Irreducible.{BenOrIsExact, FieldNeedsIrreducible, IrreducibleByDegrees, IrreducibleGivesField};
-ghost use Rattle.any_field.specs.Isomorphic.{FieldsOfOneSizeAreIsomorphic};
+ghost use Rattle.any_field.specs.Isomorphic.{FieldsHaveRoots, FieldsOfOneSizeAreIsomorphic};
 ghost use Rattle.any_field.specs.Rabin.{CoprimeBySteps, InversesGiveField, RabinIsExact};
 ghost use Rattle.any_field.specs.Values.{RootsGiveEmbeddings, RootsGiveIsomorphisms, ValuesAreLinear};
 
@@ -48,13 +48,20 @@ pub fn roots_give_isomorphisms()
     ensures linear { ValuesAreLinear }
 {}
 
-/// States that a field of 2^n elements has a root of each irreducible polynomial of degree n, and so is isomorphic to the polynomials
-/// modulo it.
+/// States that a field of 2^n elements has a root of each irreducible polynomial whose degree divides n, and so, where that is n, is
+/// isomorphic to the polynomials modulo it.
 pub fn finite_fields_are_isomorphic()
-    ensures { FieldsOfOneSizeAreIsomorphic }
+    ensures roots { FieldsHaveRoots }
+    ensures isomorphic { FieldsOfOneSizeAreIsomorphic }
 {}
 
 /// States that the moduli of the three fixed fields are irreducible, since these are fields.
 pub fn published_are_irreducible()
     ensures { PublishedAreIrreducible }
+{}
+
+/// States that fields have the moduli 0x11d and 0x187 of the bytes of Reed-Solomon codes: `BinaryExtension::new(8, 0x1d)` is that in which
+/// `reed_solomon` computes, and what `error_codes` has for QR codes, and `new(8, 0x87)` that of telemetry.
+pub fn bytes_of_codes_are_fields()
+    ensures { BytesOfCodesAreFields }
 {}

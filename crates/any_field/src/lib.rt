@@ -5,7 +5,14 @@
 mod extension;
 mod irreducible;
 pub mod laws;
+#[cfg(test)]
+mod published;
 mod reduction;
+mod search;
 
 pub use crate::extension::{BinaryExtension, Embedding, NotIrreducible};
 pub use crate::irreducible::is_irreducible;
+pub use crate::search::{
+    irreducible_pentanomial, irreducible_trinomial, is_field_modulus, next_irreducible,
+    random_irreducible,
+};

@@ -6,7 +6,7 @@ ghost use Rattle.field_base.specs.Powers.{repeated_square};
 ghost use Rattle.field_base.specs.Remainder.{rem};
 ghost use Rattle.any_field.specs.Contexts.{IsContext, field_product, with_top};
 
-use word_carryless::multiply_128;
+use word_carryless::{carryless_square_64, carryless_square_128, multiply_64, multiply_128};
 
 /// The low `width` bits of a word.
 #[tactic(auto, using(crate::proofs::WordRemainders::low_bits_are))]
@@ -16,6 +16,15 @@ pub(crate) fn low_bits(x: u128, width: u32) -> u128
     ensures { result ≡ x % 2 ^ width }
 {
     (x << (128 - width)) >> (128 - width)
+}
+
+/// The polynomial x^place.
+#[tactic(auto, using(crate::proofs::WordRemainders::one_at))]
+pub(crate) fn power_of_x(place: u32) -> u128
+    requires { place < 128 }
+    ensures { result ≡ 2 ^ place }
+{
+    1 << place
 }
 
 // The bits of a double word of at most `2 width` bits that stand above the low ones.
@@ -42,6 +51,20 @@ pub(crate) fn reduce(width: u32, tail: u128, ratio: u128, low: u128, high: u128)
     low_bits(low ^ multiple, width)
 }
 
+// The same of a word, for a width up to 64: the products are of words of 64 bits.
+fn reduce_word(width: u32, tail: u128, ratio: u128, word: u128) -> u128
+    requires context { IsContext width tail ratio }
+    requires narrow { width ≤ 64 }
+    requires fits { word < 2 ^ (width + width) }
+    ensures { result ≡ rem width (with_top width tail) word }
+{
+    let above = word >> width;
+    let middle = multiply_64(above as u64, ratio as u64);
+    let quotient = above ^ (middle >> width);
+    let multiple = multiply_64(quotient as u64, tail as u64);
+    low_bits(word ^ multiple, width)
+}
+
 /// The product of two elements modulo x^width + tail.
 pub(crate) fn multiply(width: u32, tail: u128, ratio: u128, x: u128, y: u128) -> u128
     requires context { IsContext width tail ratio }
@@ -49,7 +72,25 @@ pub(crate) fn multiply(width: u32, tail: u128, ratio: u128, x: u128, y: u128) ->
     requires y_fits { y < 2 ^ width }
     ensures { result ≡ field_product width tail x y }
 {
+    if width <= 64 {
+        let product = multiply_64(x as u64, y as u64);
+        return reduce_word(width, tail, ratio, product);
+    }
     let (low, high) = multiply_128(x, y);
+    reduce(width, tail, ratio, low, high)
+}
+
+/// The square of an element modulo x^width + tail.
+pub(crate) fn square(width: u32, tail: u128, ratio: u128, x: u128) -> u128
+    requires context { IsContext width tail ratio }
+    requires fits { x < 2 ^ width }
+    ensures { result ≡ field_product width tail x x }
+{
+    if width <= 64 {
+        let product = carryless_square_64(x as u64);
+        return reduce_word(width, tail, ratio, product);
+    }
+    let (low, high) = carryless_square_128(x);
     reduce(width, tail, ratio, low, high)
 }
 
@@ -86,7 +127,7 @@ pub(crate) fn square_times(width: u32, tail: u128, ratio: u128, x: u128, count: 
 {
     let mut moved = x;
     for _ in 0..count {
-        moved = multiply(width, tail, ratio, moved, moved);
+        moved = square(width, tail, ratio, moved);
     }
     moved
 }

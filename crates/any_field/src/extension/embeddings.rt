@@ -1,10 +1,11 @@
 // Embeddings of one field in another, by a root of the modulus of the first in the second. A field of 2^d elements lies in one of 2^m
 // elements where d divides m (R. Lidl and H. Niederreiter, Finite Fields, theorem 2.6).
-ghost use Rattle.std.specs.Prelude.{◌≡◌, ◌≢◌, ◌%◌, ◌^◌, IfNone, IfSome};
+ghost use Rattle.std.specs.Prelude.{◌≡◌, ◌≢◌, ◌%◌, ◌^◌, IfNone, IfSome, IsSome};
 ghost use Rattle.any_field.specs.Contexts.{field_product, with_top};
 ghost use Rattle.any_field.specs.Values.{IsEmbeddingOf, binary_value};
 
 use crate::extension::BinaryExtension;
+use crate::extension::roots::likely_root;
 use crate::reduction::low_bits;
 
 /// A map from one field into another, or onto it, that carries 1, sums and products, and no two elements to one: an element goes to the
@@ -37,6 +38,39 @@ impl Embedding {
             root,
             high: target.value(root, source.degree, 0),
         })
+    }
+
+    /// A map of the source into the target: it is found, and is `None` exactly where the degree of the source does not divide that of the
+    /// target, where there is none. It takes x to a root of the modulus of the source, which common factors with traces give.
+    pub fn find(source: BinaryExtension, target: BinaryExtension) -> Option<Embedding>
+        ensures fields { IfSome result (λ map. (map.source.degree ≡ source.degree) × (map.source.tail ≡ source.tail)
+            × (map.target.degree ≡ target.degree) × (map.target.tail ≡ target.tail)) }
+        ensures some { IfSome result (λ map. target.degree % source.degree ≡ 0) }
+        ensures none { IfNone result (target.degree % source.degree ≢ 0) }
+    {
+        if target.degree % source.degree != 0 {
+            return None;
+        }
+        match Embedding::new(source, target, likely_root(source, target)) {
+            Some(map) => return Some(map),
+            None => {}
+        }
+        Embedding::first(source, target)
+    }
+
+    // The map by the least root, which there is where the degree of the source divides that of the target.
+    fn first(source: BinaryExtension, target: BinaryExtension) -> Option<Embedding>
+        requires { target.degree % source.degree ≡ 0 }
+        ensures fields { IfSome result (λ map. (map.source.degree ≡ source.degree) × (map.source.tail ≡ source.tail)
+            × (map.target.degree ≡ target.degree) × (map.target.tail ≡ target.tail)) }
+        ensures some { IsSome result }
+    {
+        let last = low_bits(u128::MAX, target.degree);
+        let mut root: u128 = 0;
+        while root < last && target.value(root, source.degree, source.tail) != 0 {
+            root += 1;
+        }
+        Embedding::new(source, target, root)
     }
 
     /// The image of an element: the value at the root of the polynomial that it is.

@@ -15,5 +15,5 @@ loop-init c = record {
 
 pub loop-preserved : goal.loop-preserved
 loop-preserved c =
-    let more = squared-more c.args.width c.args.tail c.args.ratio c.loop.counter c.args.x c.loop.moved c.multiply-moved.result c.requires.context c.loop.invariant.squared c.multiply-moved.ensures in
+    let more = squared-more c.args.width c.args.tail c.args.ratio c.loop.counter c.args.x c.loop.moved c.square-moved.result c.requires.context c.loop.invariant.squared c.square-moved.ensures in
     record { squared = more.0; fits = more.1 }

@@ -1,6 +1,7 @@
 use Rattle.std.proofs.Common.{◌≡◌, ℕ, ◌-◌, ◌/◌, ◌%◌, ◌^◌, ◌<◌, length, refl, sym, ◌∙◌, subst, arith}
 use Rattle.std.proofs.lemmas.Bool.Decides.{not_from_Decides}
 use Rattle.std.proofs.lemmas.Nat.{pow_below}
+use Rattle.std.proofs.lemmas.Nat.Gcd.{dvd_refl}
 use Rattle.field_base.specs.Powers.{power}
 use Rattle.any_field.specs.Contexts.{field_product}
 use Rattle.any_field.specs.declared.extension.orders.literals.TheConstants.{PRIMES}
@@ -46,7 +47,7 @@ returns-clause-sound c =
     nonzero-order w times field c.args.self.context.wide c.args.x (λ e. c.if-low_bits-eq0.false (c.low_bits.ensures ∙ e)) in
     λ prime yes. (
       whole,
-      full-order w times field.ring one_fits c.args.x (2 ^ w - 1) PRIMES some prime
+      full-order w times field.ring one_fits c.args.x (2 ^ w - 1) (2 ^ w - 1) PRIMES some prime (dvd_refl (2 ^ w - 1))
           (leaves-one w c.args.self.context.wide c.args.self.context.narrow) whole
           (λ i within. c.loop-place.invariant i (omega (arith, within, long))),
     )

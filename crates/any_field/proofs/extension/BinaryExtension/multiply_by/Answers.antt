@@ -1,30 +1,13 @@
-use Rattle.std.proofs.Common.{◌<◌, length}
-use Rattle.std.specs.Prelude.{slice_index}
-use Rattle.std.proofs.lemmas.List.{get_or_default}
-use Rattle.std.proofs.Common.{ℕ, map, sym, ◌∙◌, ap, arith}
-use Rattle.std.proofs.lemmas.List.{map-id}
-use Rattle.field_base.proofs.Written.{written_start, written_step, written-read, written-end, each-at, each-length}
+use Rattle.std.proofs.Common.{◌∙◌}
 use Rattle.any_field.specs.Contexts.{field_product}
+use Rattle.any_field.proofs.ScalarMaps.{by-images}
+use Rattle.any_field.proofs.WordRemainders.{context-ring}
 use Rattle.any_field.proofs.extension.BinaryExtension.multiply_by.Goals as goal
 
-pub loop-place-init : goal.loop-place-init
-loop-place-init c = written_start (λ x. x) _ c.args.words.now c.args.words.now
-
-pub loop-place-preserved : goal.loop-place-preserved
-loop-place-preserved c =
-    let loop = c.loop-place in
-    let x = slice_index loop.words loop.place in
-    let within : loop.place < length loop.words = omega (arith, loop.auto.words) in
-    written_step (λ x. x) _ c.args.words.now loop.words loop.place c.multiply.result (omega arith)
-    (c.multiply.ensures
-    ∙ each-at (λ x. x) (λ (z : ℕ). field_product c.args.self.degree c.args.self.tail z c.args.scalar) c.args.words.now loop.place x (omega arith)
-    (written-read (λ x. x) _ c.args.words.now loop.words loop.place x (omega arith) (get_or_default loop.words loop.place 0 x within) loop.invariant))
-    loop.invariant
-
-pub returns : goal.returns
-returns c =
-    let loop = c.loop-place in
-    let f = λ (z : ℕ). field_product c.args.self.degree c.args.self.tail z c.args.scalar in
-    sym (map-id loop.words)
-    ∙ written-end (λ x. x) _ c.args.words.now loop.words loop.place loop.auto.words (each-length (λ x. x) f c.args.words.now) (omega arith) loop.invariant
-    ∙ ap (map f) (map-id c.args.words.now)
+pub apply_to-requires : goal.apply_to-requires
+apply_to-requires c =
+    let s = c.args.self in
+    λ x fits.
+    c.new-by_scalar.ensures x
+    ∙ by-images s.degree (field_product s.degree s.tail) (context-ring s.degree s.tail s.ratio s.context) c.args.scalar c.multiples_of.result
+    s.context.narrow c.multiples_of.ensures.length c.multiples_of.ensures.each x fits

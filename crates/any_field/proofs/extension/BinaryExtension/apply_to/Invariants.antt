@@ -1,7 +1,7 @@
 use Rattle.std.proofs.Common.{map}
 use Rattle.field_base.proofs.Written.{WrittenTo}
 use Rattle.any_field.specs.Contexts.{field_product}
-use Rattle.any_field.proofs.extension.BinaryExtension.multiply_by.Given as goal
+use Rattle.any_field.proofs.extension.BinaryExtension.apply_to.Given as goal
 
 -- the places before this one are done
 abbrev pub invariant-loop-place : goal.invariant-loop-place
