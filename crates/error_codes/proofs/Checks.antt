@@ -3,6 +3,7 @@
 use Rattle.std.proofs.Common.{◌≡◌, ◌≢◌, ◌⊎◌, ℕ, zero, suc, ◌+◌, ◌-◌, ◌^◌, ◌<◌, ◌≤◌, inl, inr, List, length, Bool, true}
 use Rattle.std.proofs.Common.{false, refl, sym, ◌∙◌, ap, ap₂, le_trans, arith}
 use Rattle.std.specs.Prelude.{bit_xor, nat_eq, not, slice_index, ◌&&◌, ◌||◌}
+use Rattle.std.proofs.lemmas.Bool.{cases_lt}
 use Rattle.std.proofs.lemmas.Bool.Decides.{eqb_tells}
 use Rattle.std.proofs.lemmas.Nat.{pow_below, xor_comm, xor_lt}
 use lib.Bits.{xor_self, xor_zero_r}
@@ -19,7 +20,7 @@ use Rattle.field_base.proofs.Interpolation.{factors-lt, factors_more, factors-no
 use Rattle.field_base.proofs.Polynomials.{IsPolynomial, polynomial-lt, polynomial-same, polynomial-shift}
 use Rattle.error_codes.specs.Checks.{AreScaled, CheckDecodersAreRight, ChecksHaveSolution, Corrects, IsChecked, IsSent}
 use Rattle.error_codes.specs.Checks.{RejectsChecked, SentIsUnique, SyndromesCorrect, SyndromesDecode, ValuesAreChecked}
-use Rattle.error_codes.specs.Checks.{dual_weight, key_sum, syndrome}
+use Rattle.error_codes.specs.Checks.{WordsDiffer, dual_weight, key_sum, syndrome}
 use Rattle.proximity.specs.Marks.{marked_below}
 use Rattle.error_codes.specs.Words.{at, is_wrong}
 use Rattle.proximity.proofs.Counting.{none-of-three, one-unmarked, three-marks}
@@ -32,7 +33,7 @@ use Rattle.error_codes.proofs.Products.{polynomial-product}
 
 module _ (width : ℕ) (times : ℕ → ℕ → ℕ) (wide : 0 < width) (field : IsField width times) (n : ℕ)
     (point scale : ℕ → ℕ) where
-  syndrome-sum : (a b : ℕ → ℕ) (m : ℕ)
+  pub syndrome-sum : (a b : ℕ → ℕ) (m : ℕ)
       → syndrome times n point scale (λ i. bit_xor (a i) (b i)) m ≡ bit_xor (syndrome times n point scale a m)
       (syndrome times n point scale b m)
   syndrome-sum a b m =
@@ -97,6 +98,26 @@ sent_is_unique width times wide field checks n e t point scale word erased scale
 
     d_wrong : ℕ → Bool
     d_wrong = is_wrong (λ i. i) word erased d
+
+pub words_differ : WordsDiffer
+words_differ width times wide field checks n point scale scaled c d c_checked d_checked i within other =
+    pick (cases_lt checks (marked_below differ n))
+  where
+    differ : ℕ → Bool
+    differ j = not (nat_eq (c j) (d j))
+
+    equal : (a b : ℕ) → not (nat_eq a b) ≡ false → a ≡ b
+    equal a b is = elim (eqb_tells a b) [
+      | inl same ↦ same.1
+      | inr differs ↦ let no : not (nat_eq a b) ≡ true = ap not differs.0 in absurd (cc)
+    ]
+
+    pick : (checks < marked_below differ n) ⊎ (marked_below differ n ≤ checks) → checks < marked_below differ n
+    pick (inl many) = many
+    pick (inr few) =
+        absurd (other
+        (checked-same width times wide field n point scale scaled checks c d c_checked d_checked differ few
+        (λ j below free. equal (c j) (d j) free) i within))
 
 pub checks_have_solution : ChecksHaveSolution
 checks_have_solution width times wide field checks n e t s point scale word erased scaled fits few_erased enough short c

@@ -252,3 +252,12 @@ module _ (width : ℕ) (times : ℕ → ℕ → ℕ) (wide : 0 < width) (field :
   root-power r b m first value first_is value_is =
       value_is ∙ ap (λ (z : ℕ). times z (power 1 times r m)) first_is
       ∙ sym (power-add width 1 times field.ring one_fits r b m)
+
+  -- the syndromes of a word of n symbols
+  pub syndrome-read : (n r b m value : ℕ) (word : List ℕ) → length word ≡ n
+      → value ≡ code_value times (length word) (slice_index word) (power 1 times r (b + m))
+      → value ≡ syndrome times n (λ i. power_point times r (n - 1 - i)) (λ i. power_scale times r b (n - 1 - i))
+      (slice_index word) m
+  syndrome-read n r b m value word long is =
+      is ∙ ap (λ (k : ℕ). code_value times k (slice_index word) (power 1 times r (b + m))) long
+      ∙ sym (syndrome-value n r b m (slice_index word))

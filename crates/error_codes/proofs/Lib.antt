@@ -22,3 +22,10 @@ pub mod Registers
 pub mod Massey
 pub mod MasseySteps
 pub mod ShortRegisters
+pub mod Sifting
+pub mod Differences
+pub mod Suspects
+pub mod Marking
+pub mod Meanings
+pub mod Candidates
+pub mod DualBytes

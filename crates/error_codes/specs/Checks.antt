@@ -2,7 +2,7 @@
 -- its points that are 0. For a generator polynomial with the roots r^b, r^(b + 1), .., r^(b + R - 1), point i is r^i
 -- and scale i is point i ^ b. Columns may be scaled in any other way too, and any places left out.
 use Rattle.std.specs.Prelude.{◌≡◌, ◌≢◌, ◌⊎◌, ℕ, ◌+◌, ◌-◌, ◌*◌, ◌^◌, ◌<◌, ◌≤◌, List, length, slice_index, Bool, true}
-use Rattle.std.specs.Prelude.{nat_eq, bit_xor, Option, Some, None}
+use Rattle.std.specs.Prelude.{nat_eq, not, bit_xor, Option, Some, None}
 use Rattle.field_base.specs.Basis.{sum_below}
 use Rattle.field_base.specs.Field.{IsField}
 use Rattle.field_base.specs.Powers.{power}
@@ -54,6 +54,15 @@ SentIsUnique =
     → (c d : ℕ → ℕ) → IsSent width times checks n t point scale word erased c
     → IsSent width times checks n t point scale word erased d
     → (i : ℕ) → i < n → c i ≡ d i
+
+-- two words of the code that differ do so at more places than there are checks: its distance is at least one more than
+-- that, which no code exceeds (R. C. Singleton, Maximum distance q-nary codes, 1964)
+abbrev pub WordsDiffer : Type 0
+WordsDiffer =
+    (width : ℕ) (times : ℕ → ℕ → ℕ) → 0 < width → IsField width times
+    → (checks n : ℕ) (point scale : ℕ → ℕ) → AreScaled width n point scale
+    → (c d : ℕ → ℕ) → IsChecked width times checks n point scale c → IsChecked width times checks n point scale d
+    → (i : ℕ) → i < n → c i ≢ d i → checks < marked_below (λ j. not (nat_eq (c j) (d j))) n
 
 -- where one is, the equations have a solution
 abbrev pub ChecksHaveSolution : Type 0

@@ -7,3 +7,5 @@ pub mod Registers
 pub mod Secrets
 pub mod ByteFields
 pub mod Correcting
+pub mod Filling
+pub mod DualBasis

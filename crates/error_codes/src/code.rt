@@ -5,6 +5,7 @@ ghost use Rattle.field_base.specs.Powers.{power};
 ghost use Rattle.error_codes.specs.ByteFields.{byte_generator, byte_times};
 ghost use Rattle.error_codes.specs.Checks.{AreScaled};
 ghost use Rattle.error_codes.specs.Correcting.{HasOrder, HasRoots, code_value};
+ghost use Rattle.error_codes.specs.Filling.{falling_point, falling_scale};
 ghost use Rattle.error_codes.specs.Generators.{power_point, power_scale};
 ghost use Rattle.error_codes.specs.declared.error.CodeError.TheVariants.{NoSymbols, RepeatedPoints, TooLong};
 
@@ -22,6 +23,8 @@ pub struct CorrectingCode {
     pub(crate) dimension: usize,
     pub(crate) root: u8,
     pub(crate) first_root: usize,
+    pub(crate) points: [u8; 256],
+    pub(crate) scales: [u8; 256],
     pub(crate) roots: [u8; 256],
     pub(crate) generator: [u8; 256],
     ghost some_data: { 0 < dimension },
@@ -29,6 +32,10 @@ pub struct CorrectingCode {
     ghost short: { word_length ≤ 255 },
     ghost scaled: { AreScaled 8 word_length (power_point (byte_times field) root)
         (power_scale (byte_times field) root first_root) },
+    ghost points_are: { (i : ℕ) → i < word_length
+        → slice_index points i ≡ falling_point (byte_times field) root word_length i },
+    ghost scales_are: { (i : ℕ) → i < word_length
+        → slice_index scales i ≡ falling_scale (byte_times field) root first_root word_length i },
     ghost roots_are: { (m : ℕ) → m < word_length - dimension
         → slice_index roots m ≡ power 1 (byte_times field) root (first_root + m) },
     ghost monic: { slice_index generator 0 ≡ 1 },
@@ -73,7 +80,9 @@ impl CorrectingCode {
             return Err(CodeError::RepeatedPoints);
         }
         let checks = word_length - dimension;
-        let roots = rising_powers(field, power_of(field, root, first_root), root, checks);
+        let first = power_of(field, root, first_root);
+        let scales = falling_powers(field, first, word_length);
+        let roots = rising_powers(field, first, root, checks);
         let generator = generator_polynomial(field, &roots, checks);
         Ok(CorrectingCode {
             field,
@@ -81,6 +90,8 @@ impl CorrectingCode {
             dimension,
             root,
             first_root,
+            points,
+            scales,
             roots,
             generator,
         })

@@ -14,3 +14,8 @@ pub enum CodeError {
     #[error("the order of the root is below the length")]
     RepeatedPoints,
 }
+
+/// No code word is so near to a word that the code corrects it to that one.
+#[derive(Clone, Copy, Debug, PartialEq, Eq, Error)]
+#[error("more symbols are wrong or erased than the code corrects")]
+pub struct TooManyErrors;

@@ -4,7 +4,7 @@
 ghost use Rattle.error_codes.specs.Checks.{CheckDecodersAreRight, CheckedAreValues, ChecksHaveSolution};
 ghost use Rattle.error_codes.specs.Checks.{ErasuresMultiply, NullVectorsExist, NullVectorsSolve, RegistersSolve};
 ghost use Rattle.error_codes.specs.Checks.{SentIsUnique};
-ghost use Rattle.error_codes.specs.Checks.{SyndromesCorrect, SyndromesDecode, ValuesAreChecked};
+ghost use Rattle.error_codes.specs.Checks.{SyndromesCorrect, SyndromesDecode, ValuesAreChecked, WordsDiffer};
 ghost use Rattle.error_codes.specs.Decoding.{DecodersAreRight, DecodingIsUnique, DivisionsAreExact, KeyHasSolution};
 ghost use Rattle.error_codes.specs.Decoding.{RestoredIsOnly, SolutionsDecode};
 ghost use Rattle.error_codes.specs.Euclid.{EuclidContinues, EuclidDecodes, EuclidStarts, EuclidStops};
@@ -68,10 +68,15 @@ pub fn euclid_decodes()
 {}
 
 /// States that at most one word with R checks is within t errors, where 2 t + e is at most R (MacWilliams and Sloane,
-/// The theory of error-correcting codes, 1977, chapter 1, theorem 2): two words of the code differ at more than R
-/// places.
+/// The theory of error-correcting codes, 1977, chapter 1, theorem 2).
 pub fn sent_is_unique()
     ensures { SentIsUnique }
+{}
+
+/// States that two words of a code with R checks that differ do so at more than R places, so that the distance of the
+/// code is as large as any code's of so many words (Singleton 1964).
+pub fn words_differ()
+    ensures { WordsDiffer }
 {}
 
 /// States that the equations of the syndromes have a solution where a word of the code is within t errors (Peterson

@@ -1,11 +1,14 @@
-//! Reed-Solomon codes that correct errors: their laws, their encoder over bytes, the shortest shift registers of
-//! sequences, and what shares of a secret hide.
+//! Reed-Solomon codes that correct errors: their laws, their encoder and decoder over bytes, the shortest shift registers
+//! of sequences, and what shares of a secret hide.
 #![tactic(auto)]
 
 mod byte_field;
 mod code;
+mod correcting;
+mod dual_basis;
 mod encoder;
 mod error;
+mod filling;
 pub mod laws;
 mod shift_registers;
 mod standards;
@@ -14,5 +17,7 @@ mod tests;
 
 pub use crate::byte_field::{ByteField, bytes_are_fields};
 pub use crate::code::CorrectingCode;
-pub use crate::error::CodeError;
+pub use crate::correcting::Corrected;
+pub use crate::dual_basis::{dual_bytes_differ, from_dual_basis, to_dual_basis};
+pub use crate::error::{CodeError, TooManyErrors};
 pub use crate::shift_registers::{Register, shortest_register};

@@ -10,8 +10,8 @@ use crate::error::CodeError;
 
 impl CorrectingCode {
     /// The code of telemetry with words of 255 symbols, 223 of them data (CCSDS 131.0-B, section 4): the roots are
-    /// (2^11)^112 to (2^11)^143. The symbols are bytes as `ByteField::Ccsds` has them; the standard sends each in
-    /// another basis.
+    /// (2^11)^112 to (2^11)^143. The symbols are bytes as `ByteField::Ccsds` has them; the standard sends each in the
+    /// dual basis, to which and from which `to_dual_basis` and `from_dual_basis` take it.
     pub fn ccsds_223() -> CorrectingCode
         ensures field { result.field ≡ Ccsds }
         ensures length { result.word_length ≡ 255 }

@@ -1,12 +1,29 @@
-// A published word, and words that are none.
+// Words that are published or come from another library, and words that are none.
 use crate::byte_field::ByteField;
 use crate::code::CorrectingCode;
+use crate::dual_basis::{from_dual_basis, to_dual_basis};
 use std::test::Fail;
 
 // ISO/IEC 18004, annex I: the code words of 01234567 in a symbol of version 1-M.
 const SYMBOL: [u8; 26] = [
     0x10, 0x20, 0x0c, 0x56, 0x61, 0x80, 0xec, 0x11, 0xec, 0x11, 0xec, 0x11, 0xec, 0x11, 0xec, 0x11,
     0xa5, 0x24, 0xd4, 0xc1, 0xed, 0x36, 0xc7, 0x87, 0x2c, 0x55,
+];
+
+// The last symbols of words with the data 7 i + 3, twice, and 5 i + 1 for i = 0, 1, .., modulo 256, as libfec 1.0 writes
+// them: `encode_rs_8`, `encode_rs_ccsds`, and `encode_rs_char` of `init_rs_char(8, 0x11d, 0, 1, 16, 51)`.
+const CCSDS_CHECKS: [u8; 32] = [
+    0x3f, 0x56, 0xaf, 0x81, 0x83, 0xb8, 0xad, 0x23, 0x53, 0x10, 0xd4, 0x8f, 0x4c, 0xe7, 0xc6, 0x0e,
+    0x45, 0x8d, 0x19, 0x48, 0xb6, 0x74, 0x92, 0x3a, 0xb1, 0x00, 0xc1, 0x86, 0xf0, 0xbc, 0x15, 0x19,
+];
+
+const SENT_CHECKS: [u8; 32] = [
+    0x0c, 0x29, 0xd5, 0x65, 0xdd, 0x7f, 0xb9, 0x65, 0x4b, 0xa2, 0x32, 0x07, 0xf8, 0xd9, 0x96, 0x2e,
+    0x04, 0x69, 0x97, 0x84, 0xe7, 0xe2, 0x8d, 0x63, 0xc0, 0x17, 0xba, 0xd5, 0x4b, 0x58, 0x2b, 0xc4,
+];
+
+const DVB_CHECKS: [u8; 16] = [
+    0x98, 0xfb, 0xc7, 0x7b, 0xba, 0x89, 0x2a, 0x9a, 0xc0, 0x9a, 0xc9, 0x9a, 0xae, 0x1a, 0xdb, 0x6e,
 ];
 
 #[test]
@@ -39,5 +56,83 @@ fn codes_of_telemetry_and_of_too_many_symbols(rt: HostRuntime) -> Result<(), Fai
     assert!(rt; CorrectingCode::new(ByteField::Rijndael, 9, 9, 0, 1).is_err());
     assert!(rt; CorrectingCode::new(ByteField::Rijndael, 86, 9, 0, 3).is_err());
     assert!(rt; CorrectingCode::new(ByteField::Rijndael, 85, 9, 0, 3).is_ok());
+    Ok(())
+}
+
+#[test]
+fn a_symbol_is_corrected(rt: HostRuntime) -> Result<(), Fail> {
+    let code = CorrectingCode::qr(26, 16)?;
+    let mut word = SYMBOL;
+    for i in 0..3 {
+        word[7 * i] ^= 0x55;
+    }
+    word[25] = 0;
+    let corrected = code.correct(&mut word, &[25, 1, 3, 8, 25, 300])?;
+    assert_eq!(rt; word, SYMBOL);
+    assert_eq!(rt; corrected.count, 4);
+    assert!(rt; corrected.changed[14]);
+    assert!(rt; !corrected.changed[1]);
+    Ok(())
+}
+
+#[test]
+fn words_of_libfec_are_corrected(rt: HostRuntime) -> Result<(), Fail> {
+    let code = CorrectingCode::ccsds_223();
+    let mut word = [0; 255];
+    for i in 0..223usize {
+        word[i] = ((7 * i + 3) % 256) as u8;
+    }
+    code.encode(&mut word);
+    for j in 0..32 {
+        assert_eq!(rt; word[223 + j], CCSDS_CHECKS[j]);
+    }
+    let sent = word;
+    for j in 0..16 {
+        word[15 * j + 4] ^= 1;
+    }
+    assert_eq!(rt; code.correct(&mut word, &[])?.count, 16);
+    assert_eq!(rt; word, sent);
+    for j in 0..17 {
+        word[15 * j] ^= 1;
+    }
+    let received = word;
+    assert!(rt; code.correct(&mut word, &[]).is_err());
+    assert_eq!(rt; word, received);
+    assert_eq!(rt; code.correct(&mut word, &[15, 30])?.count, 17);
+    assert_eq!(rt; word, sent);
+    Ok(())
+}
+
+#[test]
+fn a_word_of_dvb_is_encoded(rt: HostRuntime) -> Result<(), Fail> {
+    let code = CorrectingCode::dvb_188();
+    let mut word = [0; 204];
+    for i in 0..188usize {
+        word[i] = ((5 * i + 1) % 256) as u8;
+    }
+    code.encode(&mut word);
+    for j in 0..16 {
+        assert_eq!(rt; word[188 + j], DVB_CHECKS[j]);
+    }
+    Ok(())
+}
+
+#[test]
+fn a_word_is_sent_in_the_dual_basis(rt: HostRuntime) -> Result<(), Fail> {
+    let code = CorrectingCode::ccsds_223();
+    let mut word = [0; 255];
+    for i in 0..223usize {
+        word[i] = ((7 * i + 3) % 256) as u8;
+    }
+    let data = word;
+    from_dual_basis(&mut word);
+    code.encode(&mut word);
+    to_dual_basis(&mut word);
+    for i in 0..223 {
+        assert_eq!(rt; word[i], data[i]);
+    }
+    for j in 0..32 {
+        assert_eq!(rt; word[223 + j], SENT_CHECKS[j]);
+    }
     Ok(())
 }

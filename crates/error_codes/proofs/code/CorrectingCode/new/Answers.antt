@@ -1,4 +1,4 @@
-use Rattle.std.proofs.Common.{◌≡◌, ◌≢◌, ℕ, slice_index, refl, sym, ◌∙◌, ap, subst, arith, lit<}
+use Rattle.std.proofs.Common.{◌≡◌, ◌≢◌, ℕ, ◌-◌, slice_index, refl, sym, ◌∙◌, ap, subst, arith, lit<}
 use Rattle.field_base.specs.Powers.{power}
 use Rattle.error_codes.specs.ByteFields.{byte_generator, byte_times}
 use Rattle.error_codes.specs.Correcting.{HasOrder}
@@ -26,9 +26,13 @@ invariant_of-result c =
           (order-of-row 8 times (lit< tt) field c.args.word_length root (slice_index c.falling_powers-points.result)
           c.falling_powers-points.ensures
           (c.has_order.ensures.0 c.if-not-has_order.false));
+      points_are = c.falling_powers-points.ensures;
+      scales_are = λ i below.
+          c.falling_powers-scales.ensures i below
+          ∙ ap (λ (f : ℕ). power 1 times f (c.args.word_length - 1 - i)) c.power_of-first.ensures;
       roots_are = λ m below.
-          root-power 8 times (lit< tt) field root c.args.first_root m c.power_of.result
-          (slice_index c.rising_powers-roots.result m) c.power_of.ensures (c.rising_powers-roots.ensures m below);
+          root-power 8 times (lit< tt) field root c.args.first_root m c.power_of-first.result
+          (slice_index c.rising_powers-roots.result m) c.power_of-first.ensures (c.rising_powers-roots.ensures m below);
       monic = c.generator_polynomial-generator.ensures.monic;
       zeros = c.generator_polynomial-generator.ensures.zeros;
     }

@@ -1,0 +1,29 @@
+use Rattle.std.proofs.Common.{slice_index, refl, ◌∙◌, arith, lit<}
+use Rattle.std.proofs.lemmas.List.{length-set}
+use Rattle.error_codes.specs.ByteFields.{byte_times}
+use Rattle.error_codes.proofs.ByteTables.{bytes_are_fields}
+use Rattle.error_codes.proofs.CodeValues.{entry-more, syndrome-read}
+use Rattle.error_codes.proofs.code.CorrectingCode.filled.Goals as goal
+use Rattle.error_codes.proofs.code.CorrectingCode.filled.Goals.{then-marked-i, else-marked-i}
+
+pub loop-i-init : goal.loop-i-init
+loop-i-init c = (refl, λ sent checked same j below. absurd (omega (arith, below)))
+
+pub loop-i-preserved : goal.loop-i-preserved
+loop-i-preserved c = (
+  length-set c.loop-i.symbols c.loop-i.i _ ∙ c.loop-i.invariant.0,
+  λ sent checked same.
+      (entry-more sent 256 c.loop-i.i _ c.loop-i.symbols
+      (c.loop-i.invariant.0, c.loop-i.invariant.1 sent checked same) (omega arith)
+      (elim c.if-marked-i.branch [
+        | then-marked-i w ↦
+            w.symbol-is
+            ∙ w.difference-symbol.ensures (slice_index c.args.word.now) sent
+            (λ m below.
+            syndrome-read 8 (byte_times c.args.self.now.field) (lit< tt) (bytes_are_fields c.args.self.now.field) c.args.self.now.word_length c.args.self.now.root
+            c.args.self.now.first_root m (slice_index c.syndromes-syndromes.result m) c.args.word.now c.requires.long
+            (c.syndromes-syndromes.ensures.values m below))
+            (λ i below. (c.type_inv.word i).fits) checked same
+        | else-marked-i w ↦ w.symbol-is ∙ same c.loop-i.i c.loop-i-test.true w.if-marked-i.false
+      ])).1,
+)

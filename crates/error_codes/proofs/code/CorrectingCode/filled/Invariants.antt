@@ -1,0 +1,15 @@
+use Rattle.std.proofs.Common.{◌≡◌, ◌<◌, ◌-◌, ℕ, length, slice_index, false}
+use Rattle.error_codes.specs.ByteFields.{byte_times}
+use Rattle.error_codes.specs.Checks.{IsChecked}
+use Rattle.error_codes.specs.Filling.{falling_point, falling_scale, is_marked}
+use Rattle.error_codes.proofs.code.CorrectingCode.filled.Given as goal
+
+abbrev pub invariant-loop-i : goal.invariant-loop-i
+invariant-loop-i l =
+    let times = byte_times l.self.field in
+    let n = l.self.word_length in
+    (length l.symbols ≡ 256)
+    × ((sent : ℕ → ℕ) → IsChecked 8 times (n - l.self.dimension) n (falling_point times l.self.root n)
+    (falling_scale times l.self.root l.self.first_root n) sent
+    → ((i : ℕ) → i < n → is_marked l.marked i ≡ false → slice_index l.word i ≡ sent i)
+    → (j : ℕ) → j < l.i → slice_index l.symbols j ≡ sent j)

@@ -1,0 +1,118 @@
+// Symbols at marked places, no more than there are checks, so that all syndromes are 0 where symbols do that. They come
+// from the syndromes alone (G. D. Forney, On decoding BCH codes, 1965): the sum of the coefficients of a polynomial times
+// the syndromes is the sum of its values times the scaled symbols, so a polynomial that is 0 at all marked places but one
+// leaves the difference there.
+ghost use Rattle.std.specs.Prelude.{◌≡◌, ◌+◌, ◌-◌, ◌<◌, ◌≤◌, ℕ, length, slice_index, true, false, bit_xor};
+ghost use Rattle.field_base.specs.Basis.{sum_below};
+ghost use Rattle.field_base.specs.Powers.{power};
+ghost use Rattle.proximity.specs.Marks.{marked_below};
+ghost use Rattle.error_codes.specs.ByteFields.{byte_times};
+ghost use Rattle.error_codes.specs.Checks.{IsChecked, syndrome};
+ghost use Rattle.error_codes.specs.Filling.{falling_point, falling_scale, is_marked, is_other, marked_product};
+ghost use Rattle.error_codes.specs.Filling.{weighted_sum};
+
+use crate::byte_field::{ByteField, invert, multiply};
+use crate::code::CorrectingCode;
+
+// The sums for a polynomial g become those for (x + point) g: sum m of that is sum m + 1 and point times sum m.
+fn multiply_sums(field: ByteField, sums: &mut [u8; 256], count: usize, point: u8)
+    requires some { 0 < count }
+    requires few { count ≤ 256 }
+    ensures { (m : ℕ) → m < count - 1 → slice_index sums.new m
+        ≡ bit_xor (slice_index sums.old (m + 1)) (byte_times field point (slice_index sums.old m)) }
+{
+    for m in 0..count - 1 {
+        sums[m] = sums[m + 1] ^ multiply(field, point, sums[m]);
+    }
+}
+
+impl CorrectingCode {
+    // The sums for the polynomial 1, which are the syndromes, become those for the product of x + p over the points p of
+    // all marked places but `skipped`. How many are left is returned.
+    pub(crate) fn sift(&self, sums: &mut [u8; 256], marked: &[bool; 256], skipped: usize) -> usize
+        requires { marked_below (is_other marked.now skipped) self.now.word_length
+            ≤ self.now.word_length - self.now.dimension }
+        ensures left { result + marked_below (is_other marked.now skipped) self.now.word_length
+            ≡ self.now.word_length - self.now.dimension }
+        ensures sums { let times = byte_times self.now.field in let n = self.now.word_length in
+            let point = falling_point times self.now.root n in (weight : ℕ → ℕ)
+            → ((m : ℕ) → m < n - self.now.dimension
+            → slice_index sums.old m ≡ sum_below (λ i. times (weight i) (power 1 times (point i) m)) n)
+            → (m : ℕ) → m < result → slice_index sums.new m
+            ≡ weighted_sum times n point weight (marked_product times point (is_other marked.now skipped) n) m }
+    {
+        let mut left = self.word_length - self.dimension;
+        for i in 0..self.word_length {
+            if marked[i] && i != skipped {
+                multiply_sums(self.field, sums, left, self.points[i]);
+                left -= 1;
+            }
+        }
+        left
+    }
+
+    // The scale of a marked place times the product of the differences of its point to those of the other marked places.
+    fn denominator(&self, marked: &[bool; 256], place: usize) -> u8
+        requires { place < self.now.word_length }
+        ensures { let times = byte_times self.now.field in let n = self.now.word_length in
+            let point = falling_point times self.now.root n in
+            result ≡ times (falling_scale times self.now.root self.now.first_root n place)
+            (marked_product times point (is_other marked.now place) n (point place)) }
+    {
+        let mut product = self.scales[place];
+        for j in 0..self.word_length {
+            if marked[j] && j != place {
+                product = multiply(self.field, product, self.points[place] ^ self.points[j]);
+            }
+        }
+        product
+    }
+
+    // What is to be added to the symbol at a marked place, so that the word becomes the code word that has all symbols
+    // which are not marked.
+    fn difference(&self, syndromes: &[u8; 256], marked: &[bool; 256], place: usize) -> u8
+        requires inside { place < self.now.word_length }
+        requires chosen { is_marked marked.now place ≡ true }
+        requires few { marked_below (is_marked marked.now) self.now.word_length
+            ≤ self.now.word_length - self.now.dimension }
+        ensures { let times = byte_times self.now.field in let n = self.now.word_length in
+            let checks = n - self.now.dimension in
+            let point = falling_point times self.now.root n in
+            let scale = falling_scale times self.now.root self.now.first_root n in (word sent : ℕ → ℕ)
+            → ((m : ℕ) → m < checks → slice_index syndromes.now m ≡ syndrome times n point scale word m)
+            → ((i : ℕ) → i < n → word i < 256) → IsChecked 8 times checks n point scale sent
+            → ((i : ℕ) → i < n → is_marked marked.now i ≡ false → word i ≡ sent i)
+            → bit_xor (word place) result ≡ sent place }
+    {
+        let mut sums = *syndromes;
+        let _left = self.sift(&mut sums, marked, place);
+        multiply(
+            self.field,
+            sums[0],
+            invert(self.field, self.denominator(marked, place)),
+        )
+    }
+
+    // The code word that has the symbols of a word at all places that are not marked, where there is one.
+    pub(crate) fn filled(&self, word: &[u8], marked: &[bool; 256]) -> [u8; 256]
+        requires long { length word.now ≡ self.now.word_length }
+        requires few { marked_below (is_marked marked.now) self.now.word_length
+            ≤ self.now.word_length - self.now.dimension }
+        ensures { let times = byte_times self.now.field in let n = self.now.word_length in (sent : ℕ → ℕ)
+            → IsChecked 8 times (n - self.now.dimension) n (falling_point times self.now.root n)
+            (falling_scale times self.now.root self.now.first_root n) sent
+            → ((i : ℕ) → i < n → is_marked marked.now i ≡ false → slice_index word.now i ≡ sent i)
+            → (i : ℕ) → i < n → slice_index result i ≡ sent i }
+    {
+        let syndromes = self.syndromes(word);
+        let mut symbols = [0; 256];
+        for i in 0..self.word_length {
+            let mut symbol = word[i];
+            if marked[i] {
+                symbol = symbol ^ self.difference(&syndromes, marked, i);
+            }
+            symbols[i] = symbol;
+        }
+        symbols
+    }
+}
