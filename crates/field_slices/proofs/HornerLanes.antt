@@ -4,7 +4,7 @@ use Rattle.std.proofs.Common.{◌≡◌, ℕ, zero, suc, ◌+◌, ◌-◌, ◌^�
 use Rattle.std.specs.Prelude.{bit_xor}
 use Rattle.std.specs.Simd.Lanes.{zip2}
 use Rattle.std.proofs.Math.Nat.{add-zero, add-suc}
-use Rattle.std.proofs.lemmas.List.{append_assoc, drop-drop, drop-replicate, length-drop, length-map, length-take-le, take-append-drop}
+use Rattle.std.proofs.lemmas.List.{append_assoc, drop-drop, drop-replicate, length-map, take-append-drop}
 use Rattle.std.proofs.lemmas.Nat.{xor_comm}
 use lib.Bits.{xor_assoc, xor_zero_r}
 use lib.LanesLaws.{map-replicate}
@@ -117,7 +117,7 @@ module _ (width unit : ℕ) (times : ℕ → ℕ → ℕ) (ring : IsRing width u
           ∙ value-zeros nil (m - length last) cs is
 
       -- a block more: the sums times a^k, and the block's coefficients
-      block-before : (k high : ℕ) (sums scaled next block rest : List A) → high ≡ power unit times a k
+      pub block-before : (k high : ℕ) (sums scaled next block rest : List A) → high ≡ power unit times a k
           → length sums ≡ k → length block ≡ k
           → map repr scaled ≡ map (λ x. times high x) (map repr sums)
           → map repr next ≡ zip2 bit_xor (map repr scaled) (map repr block)
@@ -133,25 +133,16 @@ module _ (width unit : ℕ) (times : ℕ → ℕ → ℕ) (ring : IsRing width u
           ∙ xor_comm (times (power unit times a k) (v rest)) (v block)
           ∙ sym (value-append k block rest long_too)
 
-      -- so the sums have the value of the coefficients from a block further on
-      pub block_more : (k high start size : ℕ) (sums scaled next cs tail : List A) → high ≡ power unit times a k
-          → length sums ≡ k → size ≡ k → k ≤ start → start ≤ length cs
-          → map repr scaled ≡ map (λ x. times high x) (map repr sums)
-          → map repr next ≡ zip2 bit_xor (map repr scaled) (map repr (take size (drop (start - k) cs)))
-          → value_of unit times repr sums a ≡ value_of unit times repr (drop start cs ++ tail) a
-          → value_of unit times repr next a ≡ value_of unit times repr (drop (start - k) cs ++ tail) a
-      block_more k high start size sums scaled next cs tail high_is long size_is below within scaled_is next_is so_far =
-          let before = drop (start - k) cs in
-          let block = take size before in
-          let room = length-drop (start - k) cs in
-          let behind : drop size before ≡ drop start cs =
-          drop-drop size (start - k) cs ∙ ap (λ (n : ℕ). drop n cs) (omega (arith, size_is, below)) in
-          block-before k high sums scaled next block (drop start cs ++ tail) high_is long
-          (length-take-le size before (omega (arith, room, size_is, below, within)) ∙ size_is) scaled_is next_is so_far
-          ∙ ap (λ (xs : List A). value_of unit times repr xs a)
-          (sym (append_assoc block (drop start cs) tail)
-          ∙ ap (λ (xs : List A). xs ++ tail) (ap (λ (xs : List A). block ++ xs) (sym behind) ∙ take-append-drop size before))
-
   -- the value depends on the numbers of the coefficients alone
   pub value_of-numbers : {A : Type 0} (f g : A → ℕ) (cs : List A) → map f cs ≡ map g cs → value_of unit times f cs a ≡ value_of unit times g cs a
   value_of-numbers f g cs same = sym (terms-numbers f 0 cs) ∙ ap (terms 0) same ∙ terms-numbers g 0 cs
+
+-- a block, what is behind it, and a tail are the coefficients from the block on and the tail
+pub block_joined : {A : Type 0} (k start size : ℕ) (cs tail : List A) → size ≡ k → k ≤ start
+    → take size (drop (start - k) cs) ++ (drop start cs ++ tail) ≡ drop (start - k) cs ++ tail
+block_joined {A = A} k start size cs tail size_is below =
+    let before = drop (start - k) cs in
+    let behind : drop size before ≡ drop start cs =
+    drop-drop size (start - k) cs ∙ ap (λ (n : ℕ). drop n cs) (omega (arith, size_is, below)) in
+    sym (append_assoc (take size before) (drop start cs) tail)
+    ∙ ap (λ (xs : List A). xs ++ tail) (ap (λ (xs : List A). take size before ++ xs) (sym behind) ∙ take-append-drop size before)

@@ -1,6 +1,6 @@
 // The value of a polynomial that is given by its coefficients.
-ghost use Rattle.std.specs.Prelude.{◌≡◌, ◌%◌, ◌≤◌, ◌++◌, length};
-ghost use Rattle.field_base.specs.Powers.{repeated_square, value_of};
+ghost use Rattle.std.specs.Prelude.{◌≡◌, ◌%◌, ◌≤◌, ◌++◌, ℕ, List, length};
+ghost use Rattle.field_base.specs.Powers.{power, repeated_square, value_of};
 
 use crate::{Elements, Scalars};
 use field_base::traits::Field;
@@ -16,7 +16,7 @@ pub fn evaluate<F: Field>(coefficients: &[F], x: F) -> F
 /// The value at `x` of the polynomial with these coefficients, lowest first, which are elements or words that stand for them. By Horner's
 /// rule from the last coefficient down (D. E. Knuth, The Art of Computer Programming, volume 2, "Evaluation of Polynomials"), so with one
 /// product and one sum for each coefficient. From 512 coefficients on it goes by blocks of 128 and x^128, so that the products of a block
-/// are by one scalar. It takes no memory.
+/// are by one scalar, and the sums of the blocks are folded in half twice in the same way. It takes no memory.
 #[inline]
 pub fn value_at<S: Scalars>(coefficients: &[S::Value], x: S::Value) -> S::Value
     ensures { S.number result ≡ value_of 1 S.product S.number coefficients.now (S.number x) }
@@ -31,7 +31,7 @@ pub fn value_at<S: Scalars>(coefficients: &[S::Value], x: S::Value) -> S::Value
 // How many sums there are: so many that a scalar's tables pay.
 const LANES: usize = 128;
 
-// From how many coefficients on the sums pay, which are added up one by one at the end.
+// From how many coefficients on the sums pay, of which 32 are added up one by one at the end.
 const LEAST_IN_LANES: usize = 4 * LANES;
 
 // The same value by one chain: what is there times x, and the next coefficient.
@@ -46,8 +46,9 @@ fn value_one_by_one<S: Scalars>(coefficients: &[S::Value], x: S::Value) -> S::Va
     value
 }
 
-// The same value by as many chains as a block has coefficients, and then by one through their sums. These start as the last block, which
-// may be short, with zeros behind it. There are at least as many coefficients as sums, so that the sums fit in memory.
+// The same value by as many chains as a block has coefficients, whose sums are folded in half until there are 32, and then by one. The sums
+// start as the last block, which may be short, with zeros behind it. There are at least as many coefficients as sums, so that the sums fit in
+// memory.
 fn value_in_lanes<S: Scalars>(coefficients: &[S::Value], x: S::Value) -> S::Value
     requires { 128 ≤ length coefficients.now }
     ensures { S.number result ≡ value_of 1 S.product S.number coefficients.now (S.number x) }
@@ -55,26 +56,44 @@ fn value_in_lanes<S: Scalars>(coefficients: &[S::Value], x: S::Value) -> S::Valu
     let (blocks, last) = coefficients.split_at(coefficients.len() / LANES * LANES);
     let mut sums = [S::zero(); LANES];
     sums[..last.len()].copy_from_slice(last);
-    add_blocks::<S>(&mut sums, blocks, x);
-    value_one_by_one::<S>(&sums, x)
+    let by_quarter = squared::<S>(x, 5);
+    let by_half = S::square(by_quarter);
+    add_blocks::<S>(&mut sums, blocks, S::square(by_half));
+    let (first, second) = sums.split_at_mut(LANES / 2);
+    fold::<S>(first, second, by_half);
+    let (third, fourth) = second.split_at_mut(LANES / 4);
+    fold::<S>(third, fourth, by_quarter);
+    value_one_by_one::<S>(fourth, x)
 }
 
-// Brings the coefficients of these blocks before the sums: for each block, from the last one down, the sums are multiplied by x^128, and
-// each gets the coefficient at its place.
-fn add_blocks<S: Scalars>(sums: &mut [S::Value], blocks: &[S::Value], x: S::Value)
+// Brings the coefficients of these blocks before the sums: for each block, from the last one down, the sums are multiplied by `high`, which is
+// x^128, and each gets the coefficient at its place.
+fn add_blocks<S: Scalars>(sums: &mut [S::Value], blocks: &[S::Value], high: S::Value)
     requires size { length sums.old ≡ 128 }
     requires whole { length blocks.now % 128 ≡ 0 }
-    ensures { value_of 1 S.product S.number sums.new (S.number x)
-        ≡ value_of 1 S.product S.number (blocks.now ++ sums.old) (S.number x) }
+    ensures long { length sums.new ≡ 128 }
+    ensures value { (x : ℕ) → S.number high ≡ power 1 S.product x 128
+        → value_of 1 S.product S.number sums.new x ≡ value_of 1 S.product S.number (blocks.now ++ sums.old) x }
 {
-    let high = squared::<S>(x, 7);
     let mut start = blocks.len();
     while start > 0 {
         let end = start;
         start -= LANES;
-        S::multiply_by(sums, high);
-        S::add_each(sums, &blocks[start..end]);
+        fold::<S>(&blocks[start..end], sums, high);
     }
+}
+
+// Brings as many coefficients before the sums as these are: the sums are multiplied by `high`, which is the power of x for so many, and each
+// gets the coefficient at its place. Their value was that of `rest`.
+fn fold<S: Scalars>(coefficients: &[S::Value], sums: &mut [S::Value], high: S::Value)
+    requires same { length coefficients.now ≡ length sums.old }
+    ensures long { length sums.new ≡ length sums.old }
+    ensures value { (x k : ℕ) (rest : List S.Value) → length sums.old ≡ k → S.number high ≡ power 1 S.product x k
+        → value_of 1 S.product S.number sums.old x ≡ value_of 1 S.product S.number rest x
+        → value_of 1 S.product S.number sums.new x ≡ value_of 1 S.product S.number (coefficients.now ++ rest) x }
+{
+    S::multiply_by(sums, high);
+    S::add_each(sums, coefficients);
 }
 
 // The value squared `count` times.

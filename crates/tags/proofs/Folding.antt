@@ -1,9 +1,10 @@
 -- The hash of the first blocks of some bytes, one block or four blocks further.
-use Rattle.std.proofs.Common.{◌≡◌, ℕ, ◌+◌, ◌-◌, ◌*◌, ◌≤◌, List, [], ◌∷◌, length, take, drop, replicate, refl, sym, ap, ap₂, ◌∙◌, arith, length-drop, lit≤}
+use Rattle.std.proofs.Common.{◌≡◌, ℕ, ◌+◌, ◌-◌, ◌*◌, ◌≤◌, List, [], ◌∷◌, ◌++◌, length, take, drop, replicate, refl, sym, ap, ap₂, ◌∙◌, arith, length-drop, lit≤}
 use Rattle.std.specs.Prelude.{bit_xor, fold, map}
 use Rattle.std.proofs.lemmas.List.{take-append-le, drop-drop, drop-take, take-take, map-append}
 use Rattle.std.proofs.lemmas.List.Sums.{fold-append}
 use Rattle.tags.specs.Blocks.{block, first_blocks}
+use Rattle.tags.specs.Hash.{polynomial_hash}
 use Rattle.tags.specs.Powers.{added_block}
 use Rattle.tags.specs.Reversed.{ghash_times}
 use Rattle.tags.proofs.Absorbing.{first_blocks_next}
@@ -17,6 +18,12 @@ part m a j within =
     ∙ take-take 16 (64 - j) (drop j (drop a m)) (omega (arith, within))
     ∙ ap (take 16) (drop-drop j a m)
 
+-- the n bytes from place a to place a + n
+pub take_exact : (n : ℕ) (m : List ℕ) (a : ℕ) → take (a + n - a) (drop a m) ≡ take n (drop a m)
+take_exact n m a =
+    let whole : a + n - a ≡ n = omega arith in
+    ap (λ (k : ℕ). take k (drop a m)) whole
+
 module _ (element : List ℕ → ℕ) (key sum : ℕ) (m : List ℕ) where
   -- the hash after the first n blocks
   abbrev pub hash_from : ℕ → ℕ
@@ -26,15 +33,19 @@ module _ (element : List ℕ → ℕ) (key sum : ℕ) (m : List ℕ) where
   unfolding first_blocks
   hash_from_none = refl
 
+  -- and one more, which may be short
+  pub hash_from_block : (n : ℕ) → hash_from (n + 1) ≡ added_block element key (hash_from n) (block m n)
+  hash_from_block n =
+      ap (λ (bs : List (List ℕ)). fold (λ y x. ghash_times (bit_xor y x) key) sum (map element bs)) (first_blocks_next m n)
+      ∙ ap (fold (λ y x. ghash_times (bit_xor y x) key) sum) (map-append element (first_blocks n m) (block m n ∷ []))
+      ∙ fold-append (λ y x. ghash_times (bit_xor y x) key) sum (map element (first_blocks n m)) (element (block m n) ∷ [])
+
   pub hash_from_next : (n : ℕ) → n * 16 + 16 ≤ length m
       → hash_from (n + 1) ≡ added_block element key (hash_from n) (take 16 (drop (n * 16) m))
   hash_from_next n within =
       let whole : block m n ≡ take 16 (drop (n * 16) m) =
       take-append-le 16 (drop (n * 16) m) (replicate 16 0) (omega (arith, length-drop (n * 16) m, within)) in
-      ap (λ (bs : List (List ℕ)). fold (λ y x. ghash_times (bit_xor y x) key) sum (map element bs)) (first_blocks_next m n)
-      ∙ ap (fold (λ y x. ghash_times (bit_xor y x) key) sum) (map-append element (first_blocks n m) (block m n ∷ []))
-      ∙ fold-append (λ y x. ghash_times (bit_xor y x) key) sum (map element (first_blocks n m)) (element (block m n) ∷ [])
-      ∙ ap (added_block element key (hash_from n)) whole
+      hash_from_block n ∙ ap (added_block element key (hash_from n)) whole
 
   -- four blocks further
   pub hash_from_four : (n a : ℕ) → a ≡ n * 16 → a + 64 ≤ length m
@@ -89,3 +100,16 @@ module _ (element : List ℕ → ℕ) (key sum : ℕ) (m : List ℕ) where
     where
       again_four : hash_from (4 * n + 4) ≡ hash_from (4 * (n + 1))
       again_four = ap (λ (z : ℕ). hash_from z) (omega arith)
+
+-- the hash of two lists of blocks and of one block more, in three steps
+pub hash_of_three : (element : List ℕ → ℕ) (key first both all : ℕ) (a t : List (List ℕ)) (l : List ℕ)
+    → first ≡ fold (λ y x. ghash_times (bit_xor y x) key) 0 (map element a)
+    → both ≡ fold (λ y x. ghash_times (bit_xor y x) key) first (map element t)
+    → all ≡ added_block element key both l → all ≡ polynomial_hash ghash_times key (map element (a ++ t ++ l ∷ []))
+hash_of_three element key first both all a t l first_is both_is all_is =
+    let after = λ (y : ℕ) (bs : List (List ℕ)). fold (λ y x. ghash_times (bit_xor y x) key) y (map element bs) in
+    let split = λ (y : ℕ) (bs cs : List (List ℕ)).
+    ap (fold (λ y x. ghash_times (bit_xor y x) key) y) (map-append element bs cs)
+    ∙ fold-append (λ y x. ghash_times (bit_xor y x) key) y (map element bs) (map element cs) in
+    all_is ∙ ap (λ (y : ℕ). added_block element key y l) (both_is ∙ ap (λ (y : ℕ). after y t) first_is ∙ sym (split 0 a t))
+    ∙ sym (split 0 (a ++ t) (l ∷ []))

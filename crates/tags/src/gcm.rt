@@ -5,7 +5,7 @@ ghost use Rattle.tags.specs.Gcm.{ghash};
 ghost use Rattle.tags.specs.Polyval.{polyval};
 
 use crate::encoding::{HighestFirst, LowestFirst};
-use crate::universal::hash_of_parts;
+use crate::short::hash_of_parts;
 use ghash_slices::Width;
 use std::simd::prelude::*;
 

@@ -12,6 +12,7 @@ mod gcm;
 mod interleaved;
 mod laws;
 mod reversal;
+mod short;
 mod state;
 mod universal;
 
@@ -19,5 +20,6 @@ pub use crate::compare::tags_are_equal;
 pub use crate::encoding::{Encoding, HighestFirst, LowestFirst};
 pub use crate::gcm::{gcm_ghash, gcm_ghash_in_vectors, gcm_siv_polyval};
 pub use crate::laws::{few_keys_collide, gcm_is_message, parts_are_encoded, products_are_reversed};
+pub use crate::short::hash_of;
 pub use crate::state::HashState;
 pub use crate::universal::{Ghash, KeyedHash, Polyval, UniversalHash};

@@ -124,7 +124,7 @@ fn lengths(associated_length: u64, text_length: u64) -> [u8; 16]
 }
 
 // Up to 16 bytes as a block, with zeros behind them.
-fn padded_block(bytes: &[u8]) -> [u8; 16]
+pub(crate) fn padded_block(bytes: &[u8]) -> [u8; 16]
     requires { length bytes.now ≤ 16 }
     ensures { result ≡ take 16 (bytes.now ++ replicate 16 0) }
 {

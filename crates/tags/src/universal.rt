@@ -97,8 +97,8 @@ pub type Ghash = KeyedHash<HighestFirst>;
 /// In a block the lowest bit of byte 0 is the coefficient of x^0. What a hash holds is its key and its message.
 pub type Polyval = KeyedHash<LowestFirst>;
 
-// The hash of two parts of a message, each filled up with zeros to whole blocks, and of a block of both lengths in bits.
-pub(crate) fn hash_of_parts<E: Encoding, V: Width>(
+// The hash of two parts of a message, each filled up with zeros to whole blocks, and of a block of both lengths in bits, by powers of the key.
+pub(crate) fn hash_of_long_parts<E: Encoding, V: Width>(
     key: &[u8; 16],
     associated: &[u8],
     text: &[u8],

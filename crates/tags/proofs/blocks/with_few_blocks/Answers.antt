@@ -1,12 +1,6 @@
-use Rattle.std.proofs.Common.{◌≡◌, ℕ, List, ◌+◌, ◌-◌, ◌*◌, ◌/◌, length, take, drop, arith, sym, ap, ◌∙◌}
-use Rattle.tags.proofs.Folding.{hash_from, hash_from_none, hash_from_slice, hash_from_four_slice}
+use Rattle.std.proofs.Common.{◌≡◌, ℕ, ◌*◌, ◌/◌, length, arith, sym, ap, ◌∙◌}
+use Rattle.tags.proofs.Folding.{hash_from, hash_from_none, hash_from_slice, hash_from_four_slice, take_exact}
 use Rattle.tags.proofs.blocks.with_few_blocks.Goals as goal
-
--- the n bytes from place a to place a + n
-take_exact : (n : ℕ) (m : List ℕ) (a : ℕ) → take (a + n - a) (drop a m) ≡ take n (drop a m)
-take_exact n m a =
-    let whole : a + n - a ≡ n = omega arith in
-    ap (λ (k : ℕ). take k (drop a m)) whole
 
 pub fours-init : goal.fours-init
 fours-init g c = λ key are. sym (hash_from_none g.E.Encoding.element key c.args.sum c.args.blocks.now)

@@ -1,7 +1,7 @@
 use Rattle.std.proofs.Common.{[], ◌∷◌, ◌++◌, List, ℕ, ◌∙◌, ap, ap₂, arith}
 use Rattle.tags.specs.Blocks.{blocks_of}
 use Rattle.tags.proofs.Padding.{pieces}
-use Rattle.tags.proofs.universal.hash_of_parts.Goals as goal
+use Rattle.tags.proofs.universal.hash_of_long_parts.Goals as goal
 
 pub returns : goal.returns
 returns g c =

@@ -1,0 +1,13 @@
+use Rattle.std.proofs.Common.{◌<◌, ◌^◌, ◌∙◌}
+use Rattle.std.proofs.lemmas.Nat.{pow_below}
+use Rattle.field_slices.proofs.HornerLanes.{block-before}
+use Rattle.field_slices.proofs.horner.fold.Goals as goal
+
+pub returns-clause-value : goal.returns-clause-value
+returns-clause-value g c x k rest long high_is so_far =
+    let s = g.S.Scalars in
+    let law = g.met.S.Scalars in
+    let one_fits : 1 < 2 ^ s.width = pow_below 0 s.width law.wide_law in
+    block-before s.width 1 s.product law.field_law.ring x s.number one_fits k (s.number c.args.high) c.args.sums.now
+    c.multiply_by.new.values c.add_each.new.values c.args.coefficients.now rest high_is long (c.requires.same ∙ long) c.multiply_by.ensures
+    c.add_each.ensures so_far
