@@ -45,10 +45,10 @@ module _ (level n r : ℕ) (low : level ≤ 7) (room : r ≤ 2 ^ level) (lost : 
   points : 2 ^ r ≤ 2 ^ 2 ^ level
   points = pow-le-pow_right (lit< tt) room
 
-  at-lt : (p : ℕ) → at p < 2 ^ 2 ^ level
+  pub at-lt : (p : ℕ) → at p < 2 ^ 2 ^ level
   at-lt p = point-lt (2 ^ level) cantor_vector (level_cantor level low).below p
 
-  at-apart : (p q : ℕ) → p < 2 ^ r → q < 2 ^ r → at p ≡ at q → p ≡ q
+  pub at-apart : (p q : ℕ) → p < 2 ^ r → q < 2 ^ r → at p ≡ at q → p ≡ q
   at-apart p q p_below q_below same =
       points_are_distinct (2 ^ level) (tower_mul level) cantor_vector wide field.ring (level_vectors level low) 0 p q
       (omega (arith, p_below, points)) (omega (arith, q_below, points)) same
@@ -71,7 +71,7 @@ module _ (level n r : ℕ) (low : level ≤ 7) (room : r ≤ 2 ^ level) (lost : 
 
   module _ (f : ℕ → ℕ) (f_is : IsPolynomial (tower_mul level) (2 ^ n) f) where
     -- an inverse transform of known values gives its coefficients
-    product_is : (c word : ℕ → ℕ)
+    pub product_is : (c word : ℕ → ℕ)
         → ((p : ℕ) → p < 2 ^ r → polynomial_value (tower_mul level) r c (at p) ≡ tower_mul level (word p) (e (at p)))
         → ((p : ℕ) → p < 2 ^ r → lost p ≡ false → word p ≡ f (at p))
         → (x : ℕ) → polynomial_value (tower_mul level) r c x ≡ tower_mul level (e x) (f x)
@@ -97,6 +97,21 @@ module _ (level n r : ℕ) (low : level ≤ 7) (room : r ≤ 2 ^ level) (lost : 
               | inr not ↦ ap (tower_mul level (e (at p))) (known p below not)
             ]
 
+    -- the product of a value and the locator of the others is one of a coefficient fewer than there are points
+    pub others_polynomial : (p : ℕ) → p < 2 ^ r → lost p ≡ true → IsPolynomial (tower_mul level) (2 ^ r - 1) (λ x. tower_mul level (other p x) (f x))
+    others_polynomial p below is =
+        widened (lost_count (others_lost lost p) (2 ^ r) + 2 ^ n) (2 ^ r - 1) (omega (arith, enough, count-without lost p is (2 ^ r) below))
+        (λ x. tower_mul level (other p x) (f x))
+        (polynomial-product (2 ^ level) (tower_mul level) wide field.ring (lost_count (others_lost lost p) (2 ^ r)) (2 ^ n) (other p) f
+        (locator-polynomial (2 ^ level) (tower_mul level) wide field at (others_lost lost p) (2 ^ r)) f_is)
+
+    -- times the difference from the lost point it is the product with the locator
+    pub others_divide : (p : ℕ) → p < 2 ^ r → lost p ≡ true → (x : ℕ)
+        → tower_mul level (e x) (f x) ≡ tower_mul level (bit_xor x (at p)) (tower_mul level (other p x) (f x))
+    others_divide p below is x =
+        ap (λ (v : ℕ). tower_mul level v (f x)) (locator-without (2 ^ level) (tower_mul level) field.ring at lost p x is (2 ^ r) below)
+        ∙ field.ring.assoc (bit_xor x (at p)) (other p x) (f x)
+
     -- and their derivative its value, times the locator of the others
     decoded_is : (c word : ℕ → ℕ)
         → ((p : ℕ) → p < 2 ^ r → polynomial_value (tower_mul level) r c (at p) ≡ tower_mul level (word p) (e (at p)))
@@ -105,14 +120,7 @@ module _ (level n r : ℕ) (low : level ≤ 7) (room : r ≤ 2 ^ level) (lost : 
         → polynomial_value (tower_mul level) r (derived r c) (at p) ≡ tower_mul level (other p (at p)) (f (at p))
     decoded_is c word values known p below is =
         derived_at_root (2 ^ level) (tower_mul level) wide field.ring field (at p) r (at-lt p) room c (λ x. tower_mul level (other p x) (f x))
-        (widened (lost_count (others_lost lost p) (2 ^ r) + 2 ^ n) (2 ^ r - 1) (omega (arith, enough, count-without lost p is (2 ^ r) below))
-        (λ x. tower_mul level (other p x) (f x))
-        (polynomial-product (2 ^ level) (tower_mul level) wide field.ring (lost_count (others_lost lost p) (2 ^ r)) (2 ^ n) (other p) f
-        (locator-polynomial (2 ^ level) (tower_mul level) wide field at (others_lost lost p) (2 ^ r)) f_is))
-        (λ x.
-        product_is c word values known x
-        ∙ ap (λ (v : ℕ). tower_mul level v (f x)) (locator-without (2 ^ level) (tower_mul level) field.ring at lost p x is (2 ^ r) below)
-        ∙ field.ring.assoc (bit_xor x (at p)) (other p x) (f x))
+        (others_polynomial p below is) (λ x. product_is c word values known x ∙ others_divide p below is x)
 
 -- a value comes back from its product by the inverse of a factor
 pub quotient_is : (level value factor inverse : ℕ) → value < 2 ^ 2 ^ level → tower_mul level factor inverse ≡ 1

@@ -111,7 +111,7 @@ module _ (width : ℕ) (times : ℕ → ℕ → ℕ) (wide : 0 < width) (ring : 
   module _ (a : ℕ) where
     -- ---- s_j(x) + s_j(a) = (x + a) slope j x
 
-    unfoldable slope : ℕ → ℕ → ℕ
+    unfoldable pub slope : ℕ → ℕ → ℕ
     slope zero x = 1
     slope (suc n) x = times (bit_xor (times (bit_xor x a) (slope n x)) 1) (slope n x)
 
@@ -143,6 +143,15 @@ module _ (width : ℕ) (times : ℕ → ℕ → ℕ) (wide : 0 < width) (ring : 
         (slope-steps n x ∙ sym (mod-eq_of_lt (ring.below h (slope n x))) ∙ sym (ring.one d))
         ∙ sym (sum_times width 1 times ring d 1 d)
         ∙ times_left_comm width 1 times ring (bit_xor d 1) h (slope n x)
+
+    pub slope-first : (x : ℕ) → slope 0 x ≡ 1
+    unfolding slope
+    slope-first x = refl
+
+    -- by s_n
+    pub slope-next : (n x : ℕ) → slope (suc n) x ≡ times (bit_xor (subspace_value times n (bit_xor x a) % 2 ^ width) 1) (slope n x)
+    unfolding slope
+    slope-next n x = ap (λ (v : ℕ). times (bit_xor v 1) (slope n x)) (sym (slope-steps n x))
 
     slope-own : (n : ℕ) → slope n a ≡ 1
     unfolding slope
@@ -182,11 +191,24 @@ module _ (width : ℕ) (times : ℕ → ℕ → ℕ) (wide : 0 < width) (ring : 
         mod-lt : (v : ℕ) → v % 2 ^ width < 2 ^ width
         mod-lt v = subst (λ (w : ℕ). w < 2 ^ width) (ring.one v) (ring.below 1 v)
 
-    unfoldable quotient : ℕ → (ℕ → ℕ) → ℕ → ℕ
+    unfoldable pub quotient : ℕ → (ℕ → ℕ) → ℕ → ℕ
     quotient zero c x = 0
     quotient (suc n) c x =
         bit_xor (bit_xor (quotient n c x) (times (around n x) (quotient n (λ k. c (2 ^ n + k)) x)))
         (times (value n (λ k. c (2 ^ n + k)) a) (slope n x))
+
+    pub quotient-first : (c : ℕ → ℕ) (x : ℕ) → quotient 0 c x ≡ 0
+    unfolding quotient
+    quotient-first c x = refl
+
+    -- by s_n
+    pub quotient-next : (n : ℕ) (c : ℕ → ℕ) (x : ℕ) → quotient (suc n) c x
+        ≡ bit_xor (bit_xor (quotient n c x) (times (subspace_value times n x % 2 ^ width) (quotient n (λ k. c (2 ^ n + k)) x)))
+        (times (polynomial_value times n (λ k. c (2 ^ n + k)) a) (slope n x))
+    unfolding quotient
+    quotient-next n c x =
+        ap (λ (s : ℕ). bit_xor (bit_xor (quotient n c x) (times s (quotient n (λ k. c (2 ^ n + k)) x)))
+        (times (value n (λ k. c (2 ^ n + k)) a) (slope n x))) (sym (around-is n x))
 
     quotient-polynomial : (n : ℕ) (c : ℕ → ℕ) → IsPolynomial times (2 ^ n - 1) (quotient n c)
     unfolding quotient
@@ -272,13 +294,12 @@ module _ (width : ℕ) (times : ℕ → ℕ → ℕ) (wide : 0 < width) (ring : 
 
   -- ---- roots
 
-  -- where f(x) = (x + a) g(x), the derivative of f at a is g(a), if the field has more elements than g has coefficients
-  pub derived_at_root : IsField width times → (a r : ℕ) → a < 2 ^ width → r ≤ width → (c g : ℕ → ℕ) → IsPolynomial times (2 ^ r - 1) g
-      → ((x : ℕ) → polynomial_value times r c x ≡ times (bit_xor x a) (g x)) → polynomial_value times r (derived r c) a ≡ g a
-  derived_at_root field a r fits few c g g_is divides =
-      sym (quotient-own a r c)
-      ∙ polynomial-unique width times ring field.inverses (2 ^ r - 1) (quotient a r c) g (quotient-polynomial a r c) g_is other others-lt apart
-      (λ i below. same (other i) (others-lt i below) (others-differ i)) a
+  -- where f(x) = (x + a) g(x), the quotient is g, if the field has more elements than g has coefficients
+  pub quotient_at_root : IsField width times → (a r : ℕ) → a < 2 ^ width → r ≤ width → (c g : ℕ → ℕ) → IsPolynomial times (2 ^ r - 1) g
+      → ((x : ℕ) → polynomial_value times r c x ≡ times (bit_xor x a) (g x)) → (x : ℕ) → quotient a r c x ≡ g x
+  quotient_at_root field a r fits few c g g_is divides =
+      polynomial-unique width times ring field.inverses (2 ^ r - 1) (quotient a r c) g (quotient-polynomial a r c) g_is other others-lt apart
+      (λ i below. same (other i) (others-lt i below) (others-differ i))
     where
       other : ℕ → ℕ
       other i = if nat_lt i a then i else suc i
@@ -313,3 +334,8 @@ module _ (width : ℕ) (times : ℕ → ℕ → ℕ) (wide : 0 < width) (ring : 
             | inl e ↦ absurd (differs (xor_nothing x a e))
             | inr e ↦ xor_nothing q (g x) e
           ]
+
+  -- and the derivative of f at a is g(a)
+  pub derived_at_root : IsField width times → (a r : ℕ) → a < 2 ^ width → r ≤ width → (c g : ℕ → ℕ) → IsPolynomial times (2 ^ r - 1) g
+      → ((x : ℕ) → polynomial_value times r c x ≡ times (bit_xor x a) (g x)) → polynomial_value times r (derived r c) a ≡ g a
+  derived_at_root field a r fits few c g g_is divides = sym (quotient-own a r c) ∙ quotient_at_root field a r fits few c g g_is divides a

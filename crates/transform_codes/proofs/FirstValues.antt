@@ -1,10 +1,11 @@
 -- Values at the first 2 ^ n points: as many coefficients have them, once those of the upper halves are added to the lower ones.
 use Rattle.std.proofs.Common.{◌≡◌, ℕ, zero, suc, ◌+◌, ◌-◌, ◌*◌, ◌/◌, ◌^◌, ◌<◌, ◌≤◌, List, ◌++◌, length, get_or, map, lit<, sym, ◌∙◌, ap, ap₂, subst, arith}
 use Rattle.std.specs.Prelude.{bit_xor, slice_index}
+use Rattle.std.specs.Int.{bit_at}
 use Rattle.std.proofs.Math.Nat.{mul-le-mul, pow-le-pow_right, two-pow-succ}
 use Rattle.std.proofs.lemmas.List.{get_or_append_left}
 use Rattle.std.proofs.lemmas.Nat.{pow_pos}
-use Rattle.std.proofs.lemmas.Nat.Bits.{bit_at_above}
+use Rattle.std.proofs.lemmas.Nat.Bits.{bit_at-pow_same, bit_at_above}
 use native.Mathlib.Nat.{div-eq_of_lt, mod-lt}
 use lib.Bits.{xor_zero_r}
 use Rattle.additive_transforms.specs.Columns.{column_of, FitsColumns}
@@ -48,15 +49,15 @@ module _ (level : ℕ) (low : level ≤ 7) where
 
   -- ---- polynomials
 
-  -- s_j is the same at the first 2 ^ j points
-  first_values : (j z p : ℕ) → j < 2 ^ level → p < 2 ^ j → subspace_value times j (at z p) ≡ subspace_value times j z
+  -- at the first 2 ^ (j + 1) points s_j is the same, but for bit j of the point's number
+  values_by_bit : (j z p : ℕ) → j < 2 ^ level → p < 2 ^ suc j → subspace_value times j (at z p) ≡ bit_xor (subspace_value times j z) (bit_at p j)
   unfolding factor
-  first_values j z p staged small =
+  values_by_bit j z p staged small =
       sym
       (factors_are_subspace_values (2 ^ level) times cantor_vector wide (tower_ring level) (level_vectors level low) z (2 ^ level) shifts basis
       (level_twiddles wide z) j p staged fits)
-      ∙ factor-first
-      ∙ shift_at (2 ^ level) times z j staged
+      ∙ ap (λ (v : ℕ). bit_xor v (bit_at p j))
+      (sym (no_image basis (p / 2 ^ suc j) (slice_index shifts j) (div-eq_of_lt small)) ∙ shift_at (2 ^ level) times z j staged)
     where
       shifts : List ℕ
       shifts = level_shifts (2 ^ level) times z
@@ -66,19 +67,25 @@ module _ (level : ℕ) (low : level ≤ 7) where
 
       fits : p < 2 ^ suc (length basis)
       fits =
-          let more : 2 ^ j ≤ 2 ^ 2 ^ level = pow-le-pow_right (lit< tt) (omega (arith, staged)) in
+          let more : 2 ^ suc j ≤ 2 ^ 2 ^ level = pow-le-pow_right (lit< tt) staged in
           subst (λ (b : ℕ). p < 2 ^ b) (sym (basis_length (2 ^ level) cantor_vector wide)) (omega (arith, small, more))
 
-      none : p / 2 ^ suc j ≡ 0
-      none = let twice = two-pow-succ j in div-eq_of_lt (omega (arith, small, twice))
+  -- so at the first 2 ^ j
+  pub first_values : (j z p : ℕ) → j < 2 ^ level → p < 2 ^ j → subspace_value times j (at z p) ≡ subspace_value times j z
+  first_values j z p staged small =
+      let twice = two-pow-succ j in
+      values_by_bit j z p staged (omega (arith, small, twice))
+      ∙ ap (bit_xor (subspace_value times j z)) (bit_at_above p j j small (omega arith)) ∙ xor_zero_r (subspace_value times j z)
 
-      factor-first : factor shifts basis j p ≡ slice_index shifts j
-      factor-first =
-          ap₂ bit_xor (sym (no_image basis (p / 2 ^ suc j) (slice_index shifts j) none)) (bit_at_above p j j small (omega arith))
-          ∙ xor_zero_r (slice_index shifts j)
+  -- and at the next it is 1 more
+  pub next_value : (j z : ℕ) → j < 2 ^ level → subspace_value times j (at z (2 ^ j)) ≡ bit_xor (subspace_value times j z) 1
+  next_value j z staged =
+      let twice = two-pow-succ j in
+      let some = pow_pos j in
+      values_by_bit j z (2 ^ j) staged (omega (arith, some, twice)) ∙ ap (bit_xor (subspace_value times j z)) (bit_at-pow_same j)
 
   -- so they are the values of half as many coefficients
-  folded : (j : ℕ) (c : ℕ → ℕ) (z p t : ℕ) → j < 2 ^ level → p < 2 ^ j → t ≡ subspace_value times j z
+  pub folded : (j : ℕ) (c : ℕ → ℕ) (z p t : ℕ) → j < 2 ^ level → p < 2 ^ j → t ≡ subspace_value times j z
       → polynomial_value times j (λ k. bit_xor (c k) (times t (c (2 ^ j + k)))) (at z p) ≡ polynomial_value times (suc j) c (at z p)
   unfolding polynomial_value
   folded j c z p t staged small is =

@@ -1,3 +1,4 @@
+mod AddedRows
 mod BlockLocators
 mod CodeWordPlaces
 mod CodedColumns
@@ -7,9 +8,12 @@ mod Decoding
 mod DerivedColumns
 mod DerivedValues
 mod FirstValues
+mod KnownSums
 mod LocatorFacts
 mod LostCounts
 mod MendedColumns
+mod PointTotals
 mod RestoredColumns
 mod RowProducts
 mod StripWords
+mod SummedPlaces

@@ -102,7 +102,7 @@ module _ (lost : ℕ → Bool) (i : ℕ) where
   pub others-own : others_lost lost i i ≡ false
   others-own = grind (arith, nat_tests)
 
-  others-apart : (p : ℕ) → p ≢ i → others_lost lost i p ≡ lost p
+  pub others-apart : (p : ℕ) → p ≢ i → others_lost lost i p ≡ lost p
   others-apart p differs = grind (arith, nat_tests)
 
   -- below it none is left out

@@ -18,7 +18,7 @@ module _ {W : Type 0} (zero : W) (k n m size column : ℕ) (shards parity : List
       → word_at zero k n m size column shards parity p ≡ get_or parity ((p - 2 ^ n) * size + column) zero
   word_at-behind p past late below = grind (arith, nat_tests)
 
-  word_at-past : (p : ℕ) → k ≤ p → 2 ^ n ≤ p → 2 ^ n + m ≤ p → word_at zero k n m size column shards parity p ≡ zero
+  pub word_at-past : (p : ℕ) → k ≤ p → 2 ^ n ≤ p → 2 ^ n + m ≤ p → word_at zero k n m size column shards parity p ≡ zero
   word_at-past p past late far = grind (arith, nat_tests)
 
 -- the rows behind the first ones

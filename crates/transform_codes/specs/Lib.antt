@@ -3,6 +3,7 @@ pub mod Codes
 pub mod Columns
 pub mod Derivatives
 pub mod Determined
+pub mod Direct
 pub mod Located
 pub mod Locators
 pub mod Restoring

@@ -8,6 +8,7 @@ ghost use Rattle.transform_codes.specs.Sizes.{CanEncode, CanRebuild, EncodeError
 ghost use Rattle.transform_codes.specs.declared.error.TransformCodeError.TheVariants.{TooFewDataShards, TooFewParityShards, TooManyShards};
 
 use crate::comparing::are_coded;
+use crate::direct::{are_few, restore_places};
 use crate::encoding::encode_columns;
 use crate::error::TransformCodeError;
 use crate::locators::set_factors;
@@ -159,8 +160,9 @@ impl TransformCode {
     /// with, by as many bits of a word as the level has: of the bits above these in a restored word nothing is said. Where they agree with
     /// none, since a word is wrong, the missing ones become anything. The shards at hand stay. What `space` has does not matter: it takes
     /// five words for each of `point_count`, with which four columns are restored at once, and one more of each for each further column, up
-    /// to 32 in all. The level has to have as many points. A column takes two transforms, the second of as many points as reach the last
-    /// missing shard, and all columns together some of `point_count` points for each power of two below that, from 32 on. The error is the
+    /// to 32 in all. The level has to have as many points. Each call takes some transforms of `point_count` points for each power of two
+    /// below that, from 32 on. Besides, where few shards are missing, each word of these is a sum of products of those at hand in its
+    /// column, and else a column takes two transforms, the second of as many points as reach the last missing shard. The error is the
     /// first that applies.
     pub fn reconstruct<R: StoredBytes, L: Level<R>>(
         &self,
@@ -206,6 +208,10 @@ impl TransformCode {
         let count = self.point_count();
         let (factors, rest) = space.split_at_mut(count);
         set_factors::<R, L>(factors, rest, self, present);
+        if are_few(self, missing_count(present), size) {
+            restore_places::<R, L>(self, present, factors, rest, shards, parity, size);
+            return;
+        }
         let most = columns_at_once(rest.len(), count);
         let mut start = 0;
         while start < size {

@@ -5,13 +5,15 @@
 //! the points of the parity encode it (S.-J. Lin, W.-H. Chung and Y. S. Han, Novel polynomial basis and its application to Reed-Solomon
 //! erasure codes, 2014): some log k products a symbol, where a code by matrices takes m.
 //!
-//! Missing shards, no more than there are of parity, are restored by two transforms a column and a derivative between them.
+//! Missing shards, no more than there are of parity, are restored by two transforms a column and a derivative between them, and few of them by
+//! sums of multiples of the others.
 #![tactic(auto)]
 
 mod codec;
 mod columns;
 mod comparing;
 mod derivatives;
+mod direct;
 mod encoding;
 mod error;
 mod laws;

@@ -1,15 +1,17 @@
-// Products of words: of rows by one factor each, many words at once, and of two slices, word by word.
+// Products of words: of rows by one factor each, many words at once, written over them or added to others, and of two slices, word by word.
 ghost use Rattle.std.specs.Prelude.{◌≡◌, ℕ, ◌+◌, ◌*◌, ◌^◌, ◌<◌, ◌≤◌, length, slice_index_or};
 ghost use Rattle.field_base.specs.Tower.{tower_mul};
 ghost use Rattle.additive_transforms.specs.Rows.{level_of};
 ghost use Rattle.transform_codes.specs.Columns.{AreRowProducts, ArePutProducts};
+ghost use Rattle.transform_codes.specs.Direct.{AreAddedProducts};
 ghost use Rattle.transform_codes.specs.Restoring.{is_lost};
 
 use crate::codec::TransformCode;
 use crate::columns::clear_words;
 use crate::points::is_lost;
 use additive_transforms::{
-    ByteMultiples, HalfMultiples, Pair, PlaneScalars, StoredBytes, WordPlanes, multiply_words,
+    ByteMultiples, HalfMultiples, Pair, PlaneScalars, StoredBytes, WordPlanes, add_multiples,
+    multiply_words,
 };
 use std::simd::prelude::*;
 use word_tower::Level;
@@ -139,4 +141,76 @@ pub(crate) fn multiply_each<R: StoredBytes, L: Level<R>>(words: &mut [R], factor
     for i in 0..words.len() {
         words[i] = L::multiply(words[i], factors[i]);
     }
+}
+
+// Adds the products of words from word `from` on by a factor to the sums.
+pub(crate) fn add_products<R: StoredBytes, L: Level<R>>(
+    sums: &mut [R],
+    words: &[R],
+    from: usize,
+    factor: R,
+)
+    requires { from + length sums.old ≤ length words.now }
+    ensures long { length sums.new ≡ length sums.old }
+    ensures added { AreAddedProducts R.Stored.number R.ZERO L.LEVEL (R.Stored.number factor) from (length sums.old) words.now sums.old
+        sums.new }
+{
+    let row = &words[from..from + sums.len()];
+    add_row::<R, L>(sums, row, factor);
+}
+
+// Adds the product of a factor and the word at its place to each sum.
+fn add_row<R: StoredBytes, L: Level<R>>(sums: &mut [R], row: &[R], factor: R)
+    requires { length sums.old ≡ length row.now }
+    ensures long { length sums.new ≡ length sums.old }
+    ensures added { AreAddedProducts R.Stored.number R.ZERO L.LEVEL (R.Stored.number factor) 0 (length sums.old) row.now sums.old sums.new }
+{
+    let done = add_first::<R, L>(sums, row, factor);
+    for c in done..sums.len() {
+        sums[c] = sums[c].xor(L::multiply(factor, row[c]));
+    }
+}
+
+// Adds the first products, where a word has as many bits as the level: as many as fill vectors, and returns how many.
+fn add_first<R: StoredBytes, L: Level<R>>(sums: &mut [R], row: &[R], factor: R) -> usize
+    requires { length sums.old ≡ length row.now }
+    ensures few { result ≤ length sums.old }
+    ensures long { length sums.new ≡ length sums.old }
+    ensures added { AreAddedProducts R.Stored.number R.ZERO L.LEVEL (R.Stored.number factor) 0 result row.now sums.old sums.new }
+{
+    let words = R::in_sixteen();
+    if row.len() < LEAST_IN_PLANES {
+        0
+    } else if words == 16 && L::LEVEL == 3 {
+        add_in_planes::<R, L, Multiples8, Planes8>(sums, row, factor)
+    } else if words == 8 && L::LEVEL == 4 {
+        add_in_planes::<R, L, Multiples16, Planes16>(sums, row, factor)
+    } else if words == 4 && L::LEVEL == 5 {
+        add_in_planes::<R, L, Multiples32, Planes32>(sums, row, factor)
+    } else if words == 2 && L::LEVEL == 6 {
+        add_in_planes::<R, L, Multiples64, Planes64>(sums, row, factor)
+    } else if words == 1 && L::LEVEL == 7 {
+        add_in_planes::<R, L, Multiples128, Planes128>(sums, row, factor)
+    } else {
+        0
+    }
+}
+
+// Adds the first products, as many as fill vectors, and returns how many.
+fn add_in_planes<R: StoredBytes, L: Level<R>, M: Copy, P: WordPlanes<R, R, M> + PlaneScalars<M>>(
+    sums: &mut [R],
+    row: &[R],
+    factor: R,
+) -> usize
+    requires size { R.WordBytes.size ≡ P.Planes.depth }
+    requires level { level_of P.Planes.depth ≡ L.LEVEL }
+    requires same { length sums.old ≡ length row.now }
+    ensures few { result ≤ length sums.old }
+    ensures long { length sums.new ≡ length sums.old }
+    ensures added { AreAddedProducts R.Stored.number R.ZERO L.LEVEL (R.Stored.number factor) 0 result row.now sums.old sums.new }
+{
+    let scalar = L::truncate(factor).to_u128();
+    let multiples = P::multiples(scalar, 1 << L::LEVEL);
+    R::words_fit(sums);
+    add_multiples::<R, R, M, P>(sums, row, &multiples)
 }

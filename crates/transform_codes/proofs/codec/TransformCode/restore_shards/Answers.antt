@@ -14,6 +14,14 @@ set_factors-requires-clause-enough g c =
     enough_known g.L.Level.LEVEL code.data_shards code.levels code.parity_shards code.all_levels _ _ _ c.args.present.now c.requires.can
     code.padded.enough code.all.enough
 
+pub restore_places-requires-clause-fit : goal.restore_places-requires-clause-fit
+restore_places-requires-clause-fit g c =
+    let code = c.args.self.now in
+    let count : c.point_count-count.result ≡ 2 ^ code.all_levels = c.point_count-count.ensures in
+    fits_restoring g.R.Stored.number g.R.Stored.ZERO g.L.Level.LEVEL code.levels code.data_shards code.parity_shards _ code.all_levels
+    _ _ _ _ _ c.args.present.now c.set_factors.new.factors c.requires.can code.padded.enough code.all.enough code.all_low c.requires.whole
+    c.requires.parity_whole c.set_factors.ensures.factors (c.set_factors.ensures.long ∙ omega (arith, count))
+
 pub restore_strip-requires-clause-fit : goal.restore_strip-requires-clause-fit
 restore_strip-requires-clause-fit g c =
     let code = c.args.self.now in
