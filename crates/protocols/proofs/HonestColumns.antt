@@ -63,6 +63,10 @@ module _ {F : Type 0} (repr : F → ℕ) (width : ℕ) (times : ℕ → ℕ → 
             let one = one-mul (2 ^ k) in
             omega (arith, least, one)
 
+    -- which are the values of the table's columns
+    pub row-is-values : map value (range_with_len 0 (2 ^ k)) ≡ column_values times point (2 ^ k) table
+    row-is-values = sym begins ∙ everywhere.begins
+
     row-agrees : (row places : List ℕ) (opened : List F) → row ≡ map value (range_with_len 0 (2 ^ k))
         → ((i : ℕ) → i < length places → slice_index places i < size)
         → ((i : ℕ) → i < length places → row_at height opened i ≡ row_at height columns (slice_index places i))

@@ -1,5 +1,6 @@
 pub mod CodeDistances
 pub mod CodeWords
+pub mod CommitmentScheme
 pub mod Interleaved
 pub mod OpenedTables
 pub mod RootColumns

@@ -1,16 +1,19 @@
-// Soundness of protocols, for every prover, as contracts of functions that compute nothing: of tables of which columns are opened, whatever
-// columns a prover has chosen. It passes on the laws of sum-checks.
+// Soundness of protocols, for every prover, as contracts of functions that compute nothing: of tables of which columns are opened,
+// whatever columns a prover has chosen. It passes on the laws of sum-checks.
 ghost use Rattle.std.specs.Prelude.{◌*◌, ◌^◌, ◌<◌};
+ghost use Rattle.protocols.specs.CommitmentScheme.{FewOpeningsCheat, ValuesAreBound, VerdictsAgree};
 ghost use Rattle.protocols.specs.CodeDistances.{CodeWordsHaveDistance, FewQuarterRateCheats, QuarterRateGap};
 ghost use Rattle.protocols.specs.OpenedTables.{OpenedRowsNeedLuck, OpenedValuesNeedLuck, TableIsOne};
 ghost use Rattle.protocols.specs.RootColumns.{RootsHoldColumns};
 ghost use Rattle.protocols.specs.SoundnessErrors.{FewRunsSave};
 
+use field_bytes::ShortElement;
 use merkle_trees::openings::openings_bind;
 pub use sum_checks::laws::{
     false_claims_need_luck, false_zeros_need_luck, few_challenges_save, honest_reduces,
     lines_have_one_root, zero_check_evaluates, zero_needs_root, zeros_reduce,
 };
+use transcripts::{CanObserve, CanSample, CanSampleUniformBits, GrindingChallenger};
 
 /// States that two code words of n symbols, of messages of 2^k, that differ at no more than n - 2^k places are the same.
 pub fn code_words_have_distance()
@@ -30,8 +33,8 @@ pub fn few_quarter_rate_cheats()
     ensures share { 163 ^ 128 * 2 ^ 83 < 256 ^ 128 }
 {}
 
-/// States the soundness error of sum-check: of all F^n lists of challenges, at most n d F^(n - 1) lead a false claim to a true one, by a prover
-/// that sends each message by the challenges before it, where no term has more than d factors and the field has F elements.
+/// States the soundness error of sum-check: of all F^n lists of challenges, at most n d F^(n - 1) lead a false claim to a true one, by a
+/// prover that sends each message by the challenges before it, where no term has more than d factors and the field has F elements.
 pub fn few_runs_save()
     ensures { FewRunsSave }
 {}
@@ -60,3 +63,36 @@ pub fn roots_hold_columns()
 pub fn table_is_one()
     ensures { TableIsOne }
 {}
+
+/// States soundness of the commitment scheme for every prover: openings of one root that `commitment_scheme::verify` accepts, any number
+/// of them, in transcripts of any challenger and for every hash function whose digests have one length, each show their value of the one
+/// table to which the root's columns commit, or a coordinate of the point is one of few, or the places are; or two of them have two inputs
+/// of the hash function that differ and have one digest.
+pub fn values_are_bound<
+    F: ShortElement,
+    C: CanObserve<F> + CanSample<F> + GrindingChallenger<Witness = F> + CanSampleUniformBits<F>,
+>()
+    ensures { ValuesAreBound C.observes C.gives C.passing C.checks C.gives_bits F.repr F.NUM_BYTES F.width F.product
+        (λ i. F.basis (F.cantor i)) }
+{
+    opened_values_need_luck();
+    roots_hold_columns();
+}
+
+/// States completeness of the commitment scheme with what `commitment_scheme::open` says: in transcripts of the same state, whatever the
+/// challenger and the hash function are, the verdict on one opening is the same. So a verifier accepts what a prover has opened.
+pub fn verdicts_agree<
+    F: ShortElement,
+    C: CanObserve<F> + CanSample<F> + GrindingChallenger<Witness = F> + CanSampleUniformBits<F>,
+>()
+    ensures { VerdictsAgree C.state C.observes C.gives C.passing C.checks C.gives_bits F.repr F.NUM_BYTES F.width F.product
+        (λ i. F.basis (F.cantor i)) }
+{}
+
+/// States the soundness error of an opening as a number of bits over every field of 2^128 elements: of all coordinates that combine rows
+/// and of all numbers of places, at most one of 2^bits accepts a row that is not that of the table to which the columns commit.
+pub fn few_openings_cheat()
+    ensures { FewOpeningsCheat }
+{
+    few_quarter_rate_cheats();
+}

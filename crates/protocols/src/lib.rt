@@ -2,6 +2,7 @@
 //! to and opened, and proofs as bytes. It passes on sum-checks and Merkle trees.
 #![tactic(auto)]
 
+pub mod commitment_scheme;
 pub mod extension;
 pub mod interleaved;
 pub mod laws;
