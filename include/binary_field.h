@@ -26,11 +26,12 @@
  * was looked at.
  *
  * Sections, in this order: gf2, t2, t4, t8, t16, t32, t64, t128, r8, p64, g128, p192, matrices over each field, changes
- * of basis and linear maps, packed matrices over GF(2), transforms, tags, codes over bytes, codes by transforms, lines
- * of text. Each field has functions bf_FIELD_NAME of these names: add, multiply, multiply_by, add_scaled, square,
- * inverse, batch_inverse, square_root, power, product, dot_product, evaluate, add_in_place, multiply_in_place,
- * multiply_by_in_place, square_in_place, inverse_in_place, square_root_in_place, power_in_place, generator,
- * matrix_multiply, matrix_row_reduce, matrix_rank, matrix_determinant, matrix_inverse, matrix_solve.
+ * of basis and linear maps, packed matrices over GF(2), fields of the caller's choice, transforms, tags, codes over
+ * bytes, codes that correct errors, codes by transforms, shares of a secret, lines of text. Each field has functions
+ * bf_FIELD_NAME of these names: add, multiply, multiply_by, add_scaled, square, inverse, batch_inverse, square_root,
+ * power, product, dot_product, evaluate, add_in_place, multiply_in_place, multiply_by_in_place, square_in_place,
+ * inverse_in_place, square_root_in_place, power_in_place, generator, matrix_multiply, matrix_row_reduce, matrix_rank,
+ * matrix_determinant, matrix_inverse, matrix_solve.
  */
 #ifndef BINARY_FIELD_H
 #define BINARY_FIELD_H
@@ -75,6 +76,11 @@ typedef struct bf_polyval_state {
     uint64_t words[13];
 } bf_polyval_state;
 
+/* A field modulo a polynomial of the caller's choice, for the functions bf_field_*. */
+typedef struct bf_field {
+    uint64_t words[5];
+} bf_field;
+
 /* Success. */
 #define BF_OK 0u
 /* Mismatched or invalid lengths. */
@@ -83,12 +89,14 @@ typedef struct bf_polyval_state {
 #define BF_NOT_AN_ELEMENT 2u
 /* Out of memory, which no function of this version returns. */
 #define BF_MEMORY 3u
-/* Invalid shard counts. */
+/* No code or shares have these numbers. */
 #define BF_CODE 4u
-/* Too few shards are present. */
+/* Too few shards or shares are present. */
 #define BF_TOO_FEW_SHARDS 5u
-/* The equations have no solution, or the matrix has no inverse. */
+/* The equations have no solution, the matrix no inverse, or the shares no secret. */
 #define BF_UNSOLVABLE 6u
+/* The modulus is no irreducible polynomial of degree 1 to 128. */
+#define BF_REDUCIBLE 7u
 
 /* The sentence of a status, without a full stop. It never returns NULL. */
 static inline const char *bf_status_text(uint32_t status)
@@ -98,9 +106,10 @@ static inline const char *bf_status_text(uint32_t status)
     case BF_LENGTH: return "mismatched or invalid lengths";
     case BF_NOT_AN_ELEMENT: return "a word is not an element of the field";
     case BF_MEMORY: return "out of memory, which no function of this version returns";
-    case BF_CODE: return "invalid shard counts";
-    case BF_TOO_FEW_SHARDS: return "too few shards are present";
-    case BF_UNSOLVABLE: return "the equations have no solution, or the matrix has no inverse";
+    case BF_CODE: return "no code or shares have these numbers";
+    case BF_TOO_FEW_SHARDS: return "too few shards or shares are present";
+    case BF_UNSOLVABLE: return "the equations have no solution, the matrix no inverse, or the shares no secret";
+    case BF_REDUCIBLE: return "the modulus is no irreducible polynomial of degree 1 to 128";
     default: return "unknown status";
     }
 }
@@ -1663,6 +1672,58 @@ uint32_t bf_bit_matrix_rank(const uint64_t *matrix, size_t matrix_length, size_t
     uint64_t *space, size_t space_length, size_t *places, size_t places_length, size_t *rank) BF_CHECKED BF_NONNULL(9);
 
 /* ------------------------------------------------------------------------------------------------------------------ */
+/* Fields of 2^m elements, m from 1 to 128, modulo any irreducible polynomial: bf_field_init makes a struct of the
+ * caller of it, and tells exactly whether there is such a field. The modulus is x^m and the terms of tail, whose bit
+ * i is the coefficient of x^i. The struct has no address in it and may be copied: words[0] is m, and words[1] and
+ * words[2] the tail. An element is a bf_u128 below 2^m. A call first tests anew that the modulus is irreducible,
+ * which takes as many squarings as m, so that many elements in one call cost less an element; it returns
+ * BF_REDUCIBLE where a struct that bf_field_init did not make names no field. */
+
+/* field: the field of the polynomials modulo x^degree + tail, for the other functions bf_field_*. BF_REDUCIBLE
+ * unless that polynomial is irreducible, of a degree from 1 to 128, and tail has lower terms alone. */
+uint32_t bf_field_init(bf_field *field, size_t degree, const bf_u128 *tail) BF_CHECKED BF_NONNULL(1) BF_NONNULL(3);
+
+/* sums: the sum of the elements at each index. BF_LENGTH unless left, right and sums have one length.
+ * BF_NOT_AN_ELEMENT unless each word that is read is below 2^degree. */
+uint32_t bf_field_add(const bf_field *field, const bf_u128 *left, size_t left_length,
+    const bf_u128 *right, size_t right_length, bf_u128 *sums, size_t sums_length) BF_CHECKED BF_NONNULL(1);
+
+/* products: the product of the elements at each index. BF_LENGTH unless left, right and products have one length.
+ * BF_NOT_AN_ELEMENT unless each word that is read is below 2^degree. */
+uint32_t bf_field_multiply(const bf_field *field, const bf_u128 *left, size_t left_length,
+    const bf_u128 *right, size_t right_length, bf_u128 *products, size_t products_length) BF_CHECKED BF_NONNULL(1);
+
+/* products: the product of each element and the scalar. BF_LENGTH unless values and products have one length.
+ * BF_NOT_AN_ELEMENT unless each word that is read is below 2^degree. */
+uint32_t bf_field_multiply_by(const bf_field *field, const bf_u128 *values, size_t values_length, const bf_u128 *scalar,
+    bf_u128 *products, size_t products_length) BF_CHECKED BF_NONNULL(1) BF_NONNULL(4);
+
+/* squares: the square of each element. BF_LENGTH unless values and squares have one length. BF_NOT_AN_ELEMENT unless
+ * each word that is read is below 2^degree. */
+uint32_t bf_field_square(const bf_field *field, const bf_u128 *values, size_t values_length,
+    bf_u128 *squares, size_t squares_length) BF_CHECKED BF_NONNULL(1);
+
+/* inverses: the inverse of each element, and 0 for 0. BF_LENGTH unless values and inverses have one length.
+ * BF_NOT_AN_ELEMENT unless each word that is read is below 2^degree. */
+uint32_t bf_field_inverse(const bf_field *field, const bf_u128 *values, size_t values_length,
+    bf_u128 *inverses, size_t inverses_length) BF_CHECKED BF_NONNULL(1);
+
+/* roots: the square root of each element. BF_LENGTH unless values and roots have one length. BF_NOT_AN_ELEMENT
+ * unless each word that is read is below 2^degree. */
+uint32_t bf_field_square_root(const bf_field *field, const bf_u128 *values, size_t values_length,
+    bf_u128 *roots, size_t roots_length) BF_CHECKED BF_NONNULL(1);
+
+/* powers: each element to the power of the exponent; to the power 0 it is 1. BF_LENGTH unless values and powers have
+ * one length. BF_NOT_AN_ELEMENT unless each word that is read is below 2^degree. */
+uint32_t bf_field_power(const bf_field *field, const bf_u128 *values, size_t values_length, uint64_t exponent,
+    bf_u128 *powers, size_t powers_length) BF_CHECKED BF_NONNULL(1);
+
+/* traces: the trace of each element over GF(2), which is 0 or 1. BF_LENGTH unless values and traces have one length.
+ * BF_NOT_AN_ELEMENT unless each word that is read is below 2^degree. */
+uint32_t bf_field_trace(const bf_field *field, const bf_u128 *values, size_t values_length,
+    bf_u128 *traces, size_t traces_length) BF_CHECKED BF_NONNULL(1);
+
+/* ------------------------------------------------------------------------------------------------------------------ */
 /* Stages of additive transforms over g128, and the whole transform over g128 and levels of the tower. s_0(x) = x,
  * and s_(j+1)(x) = s_j(x)^2 + s_j(x). The basis of subspace polynomials is the products of the s_j: coefficient k is
  * that of the product of the s_j over the set bits j of k. Point p is the shift, and Cantor vector b for each set
@@ -1921,6 +1982,34 @@ static inline uint32_t BF_CHECKED bf_rs_reconstruct_pointers(
 }
 
 /* ------------------------------------------------------------------------------------------------------------------ */
+/* Reed-Solomon codes over bytes that correct errors. A word has so many symbols, at most 255, of which so many are
+ * data and come first. The first symbol is the coefficient of the highest power, and a word is one of the code where
+ * its polynomial is 0 at each root: g to the power of root_step * (first_root + m), for each m below symbols - data.
+ * The field is that of the modulus, bit i for x^i, and g the generator that standards take: 0x11d (QR codes, DVB)
+ * and 0x187 (CCSDS) with g = x, and 0x11b (AES) with g = x + 1. So QR codes have first_root 0 and root_step 1, DVB
+ * has 204, 188, 0 and 1, and CCSDS 255, 223, 112 and 11, its bytes in the basis 1, x, .., x^7. Words stand one after
+ * the other, and each call finds the code anew, which takes as long as some words: many words at once are faster. */
+
+/* Writes the symbols behind the data of each word, so that it is a word of the code. BF_CODE if modulus is none of
+ * those above, data is 0 or not below symbols, symbols is above 255, or a power of g^root_step with an exponent from
+ * 1 to symbols - 1 is 1. BF_LENGTH unless words has a multiple of symbols. */
+uint32_t bf_code_encode(uint64_t modulus, size_t symbols, size_t data, uint64_t first_root, uint64_t root_step,
+    uint8_t *words, size_t words_length) BF_CHECKED;
+
+/* syndromes: the values of each word at the roots, that at the first root first; symbols - data of them a word.
+ * BF_CODE if modulus is none of those above, data is 0 or not below symbols, symbols is above 255, or a power of
+ * g^root_step with an exponent from 1 to symbols - 1 is 1. BF_LENGTH unless words has a multiple of symbols, and
+ * syndromes symbols - data for each word. */
+uint32_t bf_code_syndromes(uint64_t modulus, size_t symbols, size_t data, uint64_t first_root, uint64_t root_step,
+    const uint8_t *words, size_t words_length, uint8_t *syndromes, size_t syndromes_length) BF_CHECKED;
+
+/* flags: 1 for each word that is one of the code, 0 for each other. BF_CODE if modulus is none of those above, data
+ * is 0 or not below symbols, symbols is above 255, or a power of g^root_step with an exponent from 1 to symbols - 1
+ * is 1. BF_LENGTH unless words has a multiple of symbols, and flags one for each word. */
+uint32_t bf_code_are_words(uint64_t modulus, size_t symbols, size_t data, uint64_t first_root, uint64_t root_step,
+    const uint8_t *words, size_t words_length, uint8_t *flags, size_t flags_length) BF_CHECKED;
+
+/* ------------------------------------------------------------------------------------------------------------------ */
 /* Reed-Solomon codes over t16 by additive transforms, of thousands of shards: column i of the shards, their word i,
  * has the values of one polynomial. With 2^n the least power of two that is at least data, it has a degree below
  * 2^n; shard j of data is its value at point j, shard j of parity that at point 2^n + j, and it is 0 at the points
@@ -1956,6 +2045,31 @@ uint32_t bf_erasure_verify(size_t data, size_t parity, const uint16_t *shards, s
 uint32_t bf_erasure_reconstruct(size_t data, size_t parity, uint16_t *shards, size_t shards_length,
     uint16_t *parity_shards, size_t parity_shards_length, const uint8_t *present, size_t present_length,
     uint16_t *space, size_t space_length) BF_CHECKED;
+
+/* ------------------------------------------------------------------------------------------------------------------ */
+/* Shares of a secret (A. Shamir, How to share a secret, 1979), byte by byte: a byte of the secret is the constant
+ * coefficient of a polynomial over 256 elements, whose other needed - 1 coefficients are drawn bytes, row after row
+ * in draws, that of x first. A share has the values of these polynomials at its index, a byte other than 0. These
+ * calls draw nothing and keep nothing: what was passed to them is left where it is. Bytes of a secret, of draws and
+ * of shares are masked, shifted and added, and nothing is looked up by them. */
+
+/* shares: writes count shares of a secret, any needed of which restore it, where fewer say nothing of it. Share i,
+ * counted from 0, has the index i + 1, is as long as the secret and stands behind those before it. modulus is 0x11b
+ * for the field of AES, or 0x11d for that of libgfshare. draws has needed - 1 times the length of secret bytes,
+ * which the caller draws for this secret alone from a source of cryptographic quality, each from all 256, 0 among
+ * them, and keeps from everybody. BF_CODE if modulus is another number, or not 2 <= needed <= count <= 255.
+ * BF_LENGTH unless secret has a byte or more, draws needed - 1 times as many, and shares count times as many. */
+uint32_t bf_secret_split(uint64_t modulus, size_t needed, size_t count, const uint8_t *secret, size_t secret_length,
+    const uint8_t *draws, size_t draws_length, uint8_t *shares, size_t shares_length) BF_CHECKED;
+
+/* secret: writes the secret of shares with these indexes, of which needed are needed; they stand one after the
+ * other. Of more than needed all have to be those of one secret; whether bytes of needed shares are right cannot be
+ * told. BF_CODE if modulus is another number, or needed is below 2. BF_TOO_FEW_SHARDS unless there are at least
+ * needed indexes. BF_CODE if there are more than 255 indexes, one is 0, or two are equal. BF_LENGTH unless secret
+ * has a byte or more, and shares as many for each of indexes. BF_UNSOLVABLE unless the shares lie, byte by byte, on
+ * polynomials of needed coefficients. */
+uint32_t bf_secret_combine(uint64_t modulus, size_t needed, const uint8_t *indexes, size_t indexes_length,
+    const uint8_t *shares, size_t shares_length, uint8_t *secret, size_t secret_length) BF_CHECKED;
 
 /* ------------------------------------------------------------------------------------------------------------------ */
 /* Lines of text: a field by its name above, an operation (add, mul, square, inv or sqrt) and its operands, with

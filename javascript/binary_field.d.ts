@@ -109,12 +109,33 @@ export interface Erasure {
   };
 }
 
+/** A share of a secret, at its index from 1 to 255. */
+export interface Share {
+  readonly index: number;
+  readonly bytes: Uint8Array;
+}
+
+/** The field of bytes over which a secret is shared: that of AES where none is named, or that of libgfshare. */
+export interface ShareOptions {
+  readonly field?: "aes" | "gfshare";
+}
+
+/** Shares of a secret, any `needed` of which restore it, and fewer say nothing of it. The other bytes are drawn by
+ * `crypto.getRandomValues`. The texts are lines of the program `secret`. */
+export interface Secrets {
+  split(secret: Uint8Array, shares: Count, needed: Count, options?: ShareOptions): Share[];
+  combine(shares: Iterable<Share>, needed: Count, options?: ShareOptions): Uint8Array;
+  splitToText(secret: Uint8Array, shares: Count, needed: Count, options?: ShareOptions): string;
+  combineText(text: string): Uint8Array;
+}
+
 export interface BinaryField extends Fields {
   readonly fields: readonly (keyof Fields)[];
   readonly version: string;
   readonly tags: Tags;
   readonly ReedSolomon: ReedSolomon;
   readonly erasure: Erasure;
+  readonly secrets: Secrets;
   readonly module: WebAssembly.Module;
   /** What the program binfield answers to a line. */
   answer(line: string | Uint8Array): string;
@@ -126,6 +147,12 @@ export interface BinaryField extends Fields {
 export class BinaryFieldError extends RangeError {
   readonly code: string;
   readonly status: number;
+}
+
+/** Why lines of shares give no secret; `line` is counted from 1, where it is one line. */
+export class ShareTextError extends Error {
+  readonly code: string;
+  readonly line?: number;
 }
 
 /** The module's memory may not grow to so many bytes. Nothing has changed. */

@@ -8,10 +8,12 @@
 import { answerOf, erasureOf, reedSolomonOf, tagsOf } from "./codes.mjs";
 import { fieldsOf } from "./fields.mjs";
 import { Library } from "./memory.mjs";
+import { secretsOf } from "./secrets.mjs";
 import { ghashOfStream, polyvalOfStream } from "./streams.mjs";
 import { FIELDS, VERSION_TEXT } from "./tables.mjs";
 
 export { BinaryFieldError, OutOfMemoryError } from "./memory.mjs";
+export { ShareTextError } from "./secrets.mjs";
 
 /** The version of the package and of the library. */
 export const version = VERSION_TEXT;
@@ -65,6 +67,7 @@ export async function load(source, { maximumBytes = MOST_BYTES } = {}) {
     }),
     ReedSolomon: reedSolomonOf(library),
     erasure: erasureOf(library),
+    secrets: secretsOf(library),
     answer: answerOf(library),
     /** How many bytes the module's memory has now. It grows with the largest call, and does not shrink. */
     memoryBytes: () => library.memoryBytes,

@@ -3,7 +3,7 @@
 // The module reads and writes its own memory alone. A call lays what it takes into one room behind the module's own
 // data, and the next call lays it there again, so that nothing is left to free. No code of a caller runs between the
 // first copy and the last: all that was passed is looked at before.
-import { FUNCTIONS, STATE_WORDS, STATUSES, VERSION } from "./tables.mjs";
+import { FIELD_WORDS, FUNCTIONS, STATE_WORDS, STATUSES, VERSION } from "./tables.mjs";
 
 // How many bytes a word has.
 const BYTES = {
@@ -15,7 +15,8 @@ const BYTES = {
   u192: 24,
   usize: 8,
   ghash_state: 8 * STATE_WORDS,
-  polyval_state: 8 * STATE_WORDS
+  polyval_state: 8 * STATE_WORDS,
+  field: 8 * FIELD_WORDS
 };
 const ARRAY_OF = { u8: "Uint8Array", u16: "Uint16Array", u32: "Uint32Array" };
 const PAGE = 65536;

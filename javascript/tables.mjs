@@ -7,15 +7,19 @@ export const VERSION_TEXT = "0.1.0";
 // How many words of 64 bits a hash in pieces has.
 export const STATE_WORDS = 13;
 
+// How many a field that the caller chooses has.
+export const FIELD_WORDS = 5;
+
 // The name of each status, and its sentence.
 export const STATUSES = {
   0: ["BF_OK", "success"],
   1: ["BF_LENGTH", "mismatched or invalid lengths"],
   2: ["BF_NOT_AN_ELEMENT", "a word is not an element of the field"],
   3: ["BF_MEMORY", "out of memory, which no function of this version returns"],
-  4: ["BF_CODE", "invalid shard counts"],
-  5: ["BF_TOO_FEW_SHARDS", "too few shards are present"],
-  6: ["BF_UNSOLVABLE", "the equations have no solution, or the matrix has no inverse"],
+  4: ["BF_CODE", "no code or shares have these numbers"],
+  5: ["BF_TOO_FEW_SHARDS", "too few shards or shares are present"],
+  6: ["BF_UNSOLVABLE", "the equations have no solution, the matrix no inverse, or the shares no secret"],
+  7: ["BF_REDUCIBLE", "the modulus is no irreducible polynomial of degree 1 to 128"],
 };
 
 // The parameters of each function: kind, name and word.
@@ -344,6 +348,15 @@ export const FUNCTIONS = {
   bit_matrix_transpose: [["in", "matrix", "u64"], ["out", "transposed", "u64"], ["count", "rows", "u64"], ["count", "columns", "u64"]],
   bit_matrix_row_reduce: [["inout", "matrix", "u64"], ["count", "rows", "u64"], ["count", "columns", "u64"], ["out", "pivots", "usize"], ["result", "rank", "usize"]],
   bit_matrix_rank: [["in", "matrix", "u64"], ["count", "rows", "u64"], ["count", "columns", "u64"], ["space", "space", "u64"], ["space", "places", "usize"], ["result", "rank", "usize"]],
+  field_init: [["result", "field", "field"], ["count", "degree", "u64"], ["scalar", "tail", "u128"]],
+  field_add: [["scalar", "field", "field"], ["in", "left", "u128"], ["in", "right", "u128"], ["out", "sums", "u128"]],
+  field_multiply: [["scalar", "field", "field"], ["in", "left", "u128"], ["in", "right", "u128"], ["out", "products", "u128"]],
+  field_multiply_by: [["scalar", "field", "field"], ["in", "values", "u128"], ["scalar", "scalar", "u128"], ["out", "products", "u128"]],
+  field_square: [["scalar", "field", "field"], ["in", "values", "u128"], ["out", "squares", "u128"]],
+  field_inverse: [["scalar", "field", "field"], ["in", "values", "u128"], ["out", "inverses", "u128"]],
+  field_square_root: [["scalar", "field", "field"], ["in", "values", "u128"], ["out", "roots", "u128"]],
+  field_power: [["scalar", "field", "field"], ["in", "values", "u128"], ["number", "exponent", "u64"], ["out", "powers", "u128"]],
+  field_trace: [["scalar", "field", "field"], ["in", "values", "u128"], ["out", "traces", "u128"]],
   g128_butterfly_forward: [["inout", "low", "u128"], ["inout", "high", "u128"], ["scalar", "scalar", "u128"]],
   g128_butterfly_inverse: [["inout", "low", "u128"], ["inout", "high", "u128"], ["scalar", "scalar", "u128"]],
   g128_low_stages: [["inout", "values", "u128"], ["in", "shifts", "u128"], ["in", "basis", "u128"], ["count", "first_run", "u64"]],
@@ -381,11 +394,16 @@ export const FUNCTIONS = {
   rs_add_multiple: [["scalar", "factor", "u8"], ["in", "shard", "u8"], ["inout", "sums", "u8"]],
   rs_reconstruct: [["count", "data", "u64"], ["count", "parity", "u64"], ["inout", "shards", "u8"], ["in", "present", "u8"]],
   rs_reconstruct_data: [["count", "data", "u64"], ["count", "parity", "u64"], ["inout", "shards", "u8"], ["in", "present", "u8"]],
+  code_encode: [["number", "modulus", "u64"], ["count", "symbols", "u64"], ["count", "data", "u64"], ["number", "first_root", "u64"], ["number", "root_step", "u64"], ["inout", "words", "u8"]],
+  code_syndromes: [["number", "modulus", "u64"], ["count", "symbols", "u64"], ["count", "data", "u64"], ["number", "first_root", "u64"], ["number", "root_step", "u64"], ["in", "words", "u8"], ["out", "syndromes", "u8"]],
+  code_are_words: [["number", "modulus", "u64"], ["count", "symbols", "u64"], ["count", "data", "u64"], ["number", "first_root", "u64"], ["number", "root_step", "u64"], ["in", "words", "u8"], ["out", "flags", "u8"]],
   erasure_space: [["count", "data", "u64"], ["count", "parity", "u64"], ["result", "length", "u64"]],
   erasure_encode: [["count", "data", "u64"], ["count", "parity", "u64"], ["in", "shards", "u16"], ["out", "parity_shards", "u16"], ["space", "space", "u16"]],
   erasure_verify: [["count", "data", "u64"], ["count", "parity", "u64"], ["in", "shards", "u16"], ["in", "parity_shards", "u16"], ["space", "space", "u16"], ["result", "whole", "u8"]],
   answer: [["in", "line", "u8"], ["out", "answer", "u8"], ["result", "written", "u64"]],
   erasure_reconstruct: [["count", "data", "u64"], ["count", "parity", "u64"], ["inout", "shards", "u16"], ["inout", "parity_shards", "u16"], ["in", "present", "u8"], ["space", "space", "u16"]],
+  secret_split: [["number", "modulus", "u64"], ["count", "needed", "u64"], ["count", "count", "u64"], ["in", "secret", "u8"], ["in", "draws", "u8"], ["out", "shares", "u8"]],
+  secret_combine: [["number", "modulus", "u64"], ["count", "needed", "u64"], ["in", "indexes", "u8"], ["in", "shares", "u8"], ["out", "secret", "u8"]],
 };
 
 // The fields, the levels of the tower first.

@@ -20,19 +20,26 @@ STATUSES = [
     ("BF_LENGTH", 1, "mismatched or invalid lengths"),
     ("BF_NOT_AN_ELEMENT", 2, "a word is not an element of the field"),
     ("BF_MEMORY", 3, "out of memory, which no function of this version returns"),
-    ("BF_CODE", 4, "invalid shard counts"),
-    ("BF_TOO_FEW_SHARDS", 5, "too few shards are present"),
-    ("BF_UNSOLVABLE", 6, "the equations have no solution, or the matrix has no inverse"),
+    ("BF_CODE", 4, "no code or shares have these numbers"),
+    ("BF_TOO_FEW_SHARDS", 5, "too few shards or shares are present"),
+    ("BF_UNSOLVABLE", 6, "the equations have no solution, the matrix no inverse, or the shares no secret"),
+    ("BF_REDUCIBLE", 7, "the modulus is no irreducible polynomial of degree 1 to 128"),
 ]
 
 # How many words of 64 bits a hash in pieces has.
 STATE_WORDS = 13
 
+# How many a field that the caller chooses has.
+FIELD_WORDS = 5
+
 # The word of C for each word of the table. The wide ones are structs of words of 64 bits, the lowest first.
 WORDS = {
     "u8": "uint8_t", "u16": "uint16_t", "u32": "uint32_t", "u64": "uint64_t", "u128": "bf_u128", "u192": "bf_u192", "usize": "size_t",
     "ghash_state": "bf_ghash_state", "polyval_state": "bf_polyval_state",
+    "field": "bf_field",
 }
+# Those that are structs: a scalar of such a word is passed by a pointer.
+STRUCTS = ("u128", "u192", "field")
 
 # For every field, as bf_FIELD_NAME. Arrays have one length unless the text says otherwise.
 FIELD_FUNCTIONS = [
@@ -79,6 +86,14 @@ MATRIX_FUNCTIONS = [
      "be written whatever the status; an unknown that the others leave open is 0"),
 ]
 
+# Of codes that correct errors, as bf_code_NAME, whose parameters follow those that say which code it is.
+CODE_FUNCTIONS = [
+    ("encode", [("inout", "words", "u8")], "writes the symbols behind the data of each word, so that it is a word of the code"),
+    ("syndromes", [("in", "words", "u8"), ("out", "syndromes", "u8")],
+     "the values of each word at the roots, that at the first root first; symbols - data of them a word"),
+    ("are_words", [("in", "words", "u8"), ("out", "flags", "u8")], "1 for each word that is one of the code, 0 for each other"),
+]
+
 # (name, parameters, what it computes). The word of every parameter stands in it.
 OTHER_FUNCTIONS = [
     *[(f"{a.name}_to_{b.name}", [("in", "values", a.word), ("out", "images", a.word)],
@@ -100,6 +115,20 @@ OTHER_FUNCTIONS = [
     ("bit_matrix_rank", [("in", "matrix", "u64"), ("count", "rows"), ("count", "columns"), ("space", "space", "u64"), ("space", "places", "usize"),
                          ("result", "rank", "usize")],
      "the rank of a matrix over GF(2) of rows rows of columns bits, in as much space and rows places, which may be written whatever the status"),
+    ("field_init", [("result", "field", "field"), ("count", "degree"), ("scalar", "tail", "u128")],
+     "the field of the polynomials modulo x^degree + tail, for the other functions bf_field_*"),
+    *[(f"field_{name}", [("scalar", "field", "field"), *parameters], text) for name, parameters, text in [
+        ("add", [("in", "left", "u128"), ("in", "right", "u128"), ("out", "sums", "u128")], "the sum of the elements at each place"),
+        ("multiply", [("in", "left", "u128"), ("in", "right", "u128"), ("out", "products", "u128")], "the product of the elements at each place"),
+        ("multiply_by", [("in", "values", "u128"), ("scalar", "scalar", "u128"), ("out", "products", "u128")],
+         "the product of each element and the scalar"),
+        ("square", [("in", "values", "u128"), ("out", "squares", "u128")], "the square of each element"),
+        ("inverse", [("in", "values", "u128"), ("out", "inverses", "u128")], "the inverse of each element, and 0 for 0"),
+        ("square_root", [("in", "values", "u128"), ("out", "roots", "u128")], "the square root of each element"),
+        ("power", [("in", "values", "u128"), ("number", "exponent"), ("out", "powers", "u128")],
+         "each element to the power of the exponent; to the power 0 it is 1"),
+        ("trace", [("in", "values", "u128"), ("out", "traces", "u128")], "the trace of each element over GF(2), which is 0 or 1"),
+    ]],
     ("g128_butterfly_forward", [("inout", "low", "u128"), ("inout", "high", "u128"), ("scalar", "scalar", "u128")],
      "low += scalar * high, and then high += low, at each place"),
     ("g128_butterfly_inverse", [("inout", "low", "u128"), ("inout", "high", "u128"), ("scalar", "scalar", "u128")],
@@ -165,6 +194,8 @@ OTHER_FUNCTIONS = [
      "writes the missing shards: shard i is missing where present[i] is 0"),
     ("rs_reconstruct_data", [("count", "data"), ("count", "parity"), ("inout", "shards", "u8"), ("in", "present", "u8")],
      "writes the missing shards of data alone"),
+    *[(f"code_{name}", [("number", "modulus"), ("count", "symbols"), ("count", "data"), ("number", "first_root"), ("number", "root_step"), *parameters],
+       text) for name, parameters, text in CODE_FUNCTIONS],
     ("erasure_space", [("count", "data"), ("count", "parity"), ("result", "length", "u64")],
      "how many words of space each call of the code takes: 40 times the least power of two that is at least data, counted up to a power of two, "
      "and parity together"),
@@ -179,6 +210,14 @@ OTHER_FUNCTIONS = [
     ("erasure_reconstruct", [("count", "data"), ("count", "parity"), ("inout", "shards", "u16"), ("inout", "parity_shards", "u16"),
                              ("in", "present", "u8"), ("space", "space", "u16")],
      "writes the missing shards: shard i, of the data and then of the parity, is missing where present[i] is 0"),
+    ("secret_split", [("number", "modulus"), ("count", "needed"), ("count", "count"), ("in", "secret", "u8"), ("in", "draws", "u8"), ("out", "shares", "u8")],
+     "writes count shares of a secret, any needed of which restore it, where fewer say nothing of it. Share i, counted from 0, has the index i + 1, is "
+     "as long as the secret and stands behind those before it. modulus is 0x11b for the field of AES, or 0x11d for that of libgfshare. draws has needed - 1 "
+     "times the length of secret bytes, which the caller draws for this secret alone from a source of cryptographic quality, each from all 256, 0 among "
+     "them, and keeps from everybody"),
+    ("secret_combine", [("number", "modulus"), ("count", "needed"), ("in", "indexes", "u8"), ("in", "shares", "u8"), ("out", "secret", "u8")],
+     "writes the secret of shares with these indexes, of which needed are needed; they stand one after the other. Of more than needed all have to be "
+     "those of one secret; whether bytes of needed shares are right cannot be told"),
 ]
 
 # Of these the proved crate exports a second form too, which gives the same and is made for x86-64-v3, whose vectors have 256 bits. No

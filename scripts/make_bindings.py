@@ -24,6 +24,7 @@ WRITTEN = files.generated("make_bindings.py")
 # The words of the library as Rust passes them, and as an element holds them.
 PASSED = {"u8": "u8", "u16": "u16", "u32": "u32", "u64": "u64", "u128": "[u64; 2]", "u192": "[u64; 3]", "usize": "usize"}
 PASSED |= {it: f"[u64; {c_library.STATE_WORDS}]" for it in ("ghash_state", "polyval_state")}
+PASSED["field"] = f"[u64; {c_library.FIELD_WORDS}]"
 HELD = PASSED | {"u128": "u128"}
 # What a field of the Rust crate calls of the functions that every field has.
 RUST_FUNCTIONS = (
@@ -52,6 +53,9 @@ VERSION_TEXT = "{fields.VERSION_TEXT}"
 
 # How many words of 64 bits a hash in pieces has.
 STATE_WORDS = {c_library.STATE_WORDS}
+
+# How many a field that the caller chooses has.
+FIELD_WORDS = {c_library.FIELD_WORDS}
 
 # The name of each status, and its sentence.
 STATUSES: dict[int, tuple[str, str]] = {{

@@ -14,7 +14,7 @@ import fields
 import files
 
 # The words `W` of slices by those of the table.
-WORDS = {"u128": "Wide", "u192": "Cubic", "ghash_state": "HashState", "polyval_state": "HashState"}
+WORDS = {"u128": "Wide", "u192": "Cubic", "ghash_state": "HashState", "polyval_state": "HashState", "field": "ChosenField"}
 
 # The stored words of kernels that are no integers of Rust, by those of the table.
 STORED = {"u192": "Triple"}
@@ -68,6 +68,23 @@ bit_matrix_row_reduce   bit_matrices  bit_matrices::row_reduce  ReducesBitRows r
 rank.new result
 bit_matrix_rank         bit_matrices  bit_matrices::rank        TakesBitRank rows columns matrix.now (length space.old) (length places.old) \
 rank.old rank.new result
+field_init  chosen  fields::init  PreparesField degree (wide_number tail.now) field.old field.new result
+field_add  chosen  fields::add  OverField field.now (Adds (chosen_field field.now) left.now right.now sums.old sums.new result) \
+sums.old sums.new result
+field_multiply  chosen  fields::multiply  OverField field.now (Multiplies (chosen_field field.now) left.now right.now products.old products.new \
+result) products.old products.new result
+field_multiply_by  chosen  fields::multiply_by  OverField field.now (MultipliesBy (chosen_field field.now) scalar.now values.now products.old \
+products.new result) products.old products.new result
+field_square  chosen  fields::square  OverField field.now (Squares (chosen_field field.now) values.now squares.old squares.new result) \
+squares.old squares.new result
+field_inverse  chosen  fields::inverse  OverField field.now (Inverts (chosen_field field.now) values.now inverses.old inverses.new result) \
+inverses.old inverses.new result
+field_square_root  chosen  fields::square_root  OverField field.now (TakesRoots (chosen_field field.now) values.now roots.old roots.new result) \
+roots.old roots.new result
+field_power  chosen  fields::power  OverField field.now (RaisesTo (chosen_field field.now) exponent values.now powers.old powers.new result) \
+powers.old powers.new result
+field_trace  chosen  fields::trace  OverField field.now (TakesTraces (chosen_field field.now) values.now traces.old traces.new result) \
+traces.old traces.new result
 g128_butterfly_forward  transforms  butterfly_forward  ButterfliesForward (wide_number scalar.now) low.old high.old low.new high.new result
 g128_butterfly_inverse  transforms  butterfly_inverse  ButterfliesInverse (wide_number scalar.now) low.old high.old low.new high.new result
 g128_low_stages         transforms  low_stages         RunsLowStages shifts.now basis.now first_run values.old values.new result
@@ -92,6 +109,8 @@ tag_gcm_ghash           messages    gcm_ghash          Hashes ((length associate
 (ghash key.now (gcm_blocks associated.now ciphertext.now)) hash.old hash.new result
 tags_are_equal          messages    tags_are_equal     Compares left.now right.now equal.new result
 answer                  lines       answer_line        AnswersLine line.now answer.old written.old answer.new written.new result
+secret_split            secrets     split_secret       SplitsSecret modulus needed count secret.now draws.now shares.old shares.new result
+secret_combine          secrets     combine_shares     CombinesShares modulus needed indexes.now shares.now secret.old secret.new result
 rs_encode               shards      encode             Encodes «data» parity shards.old shards.new result
 rs_verify               shards      verify             Verifies «data» parity shards.now whole.old whole.new result
 rs_tables_length        shards      tables_length      TellsTablesLength «data» parity length.old length.new result
@@ -125,6 +144,14 @@ for _name, _clause in (
 ):
     OTHER_CALLS[f"erasure_{_name}"] = ["erasure", f"erasure_{_name}::<u16, Bits16>", _clause]
 
+# The calls of codes that correct errors, whose contracts begin with what says which code it is.
+for _name, _contract, _clause in (
+    ("encode", "EncodesWords", "words.old words.new result"),
+    ("syndromes", "WritesSyndromes", "words.now syndromes.old syndromes.new result"),
+    ("are_words", "TellsCodeWords", "words.now flags.old flags.new result"),
+):
+    OTHER_CALLS[f"code_{_name}"] = ["codes", f"codes::{_name}", f"{_contract} modulus symbols «data» first_root root_step {_clause}"]
+
 # The functions of matrices: the contract over a field.
 MATRIX_CALLS = {row.split()[0]: row.split(maxsplit=1)[1] for row in """\
 matrix_multiply     MultipliesMatrices {} rows inner columns left.now right.now product.old product.new result
@@ -139,11 +166,14 @@ matrix_solve        SolvesEquations {} rows columns matrix.now right.now (length
 ABOUT = {
     "bit_matrices": "Calls over matrices over GF(2), whose rows are packed in words of 64 bits.",
     "changes": "Calls over slices of elements of a level of the tower, and of their images in a field of polynomials.",
+    "codes": "Calls of Reed-Solomon codes over bytes that correct errors, on words that stand one after the other.",
+    "chosen": "Calls over slices of elements of a field that the caller chooses.",
     "erasure": "Calls of erasure codes by transforms, over words of 16 bits: shards of data, and those of parity, stand one after the other.",
     "linear": "Calls that map words linearly.",
     "lines": "Calls over lines of text.",
     "transforms": "Calls that transform values in the field of GHASH, and in levels of the tower.",
     "messages": "Calls over messages.",
+    "secrets": "Calls that share a secret: its shares stand one after the other.",
     "shards": "Calls over shards, which stand one after the other and have one size: those of data, and then those of parity.",
     "wide": "Second forms of calls, made for x86-64-v3, whose vectors have 256 bits.",
 }
@@ -163,9 +193,12 @@ HOMES = {
         "AddsOneMultiple", "AddsOneShard", "BeginsHash", "ChangesMessage", "Compares", "Encodes", "EncodesPrepared", "EndsHash", "Hashes",
         "Prepares", "Reconstructs", "TellsFactors", "TellsTablesLength", "Verifies", "VerifiesPrepared",
     ],
+    "c_calls.specs.Codes": ["EncodesWords", "TellsCodeWords", "WritesSyndromes"],
+    "c_calls.specs.ChosenFields": ["OverField", "PreparesField", "TakesTraces", "chosen_field"],
     "c_calls.specs.Erasure": ["EncodesErasure", "ReconstructsErasure", "TellsSpace", "VerifiesErasure"],
     "c_calls.specs.Linear": ["MapsLinearly"],
     "c_calls.specs.Lines": ["AnswersLine"],
+    "c_calls.specs.Secrets": ["CombinesShares", "SplitsSecret"],
     "c_calls.specs.Transforms": [
         "ButterfliesForward", "ButterfliesInverse", "InvertsLevelTransform", "InvertsTransform", "RunsLowStages", "Transforms", "TransformsLevel",
     ],
@@ -179,6 +212,8 @@ HOMES = {
 
 # The columns of a line of code, of those that `rt fmt` does not break, and of a contract.
 COLUMNS, LONG_COLUMNS, CONTRACT_COLUMNS = 100, 135, 140
+# The columns that the arguments of a call have on a line of their own at most.
+ARGUMENT_COLUMNS = 60
 # The length of an argument that shares a line where a call does not fit one.
 SHORT = 10
 
@@ -237,7 +272,7 @@ def function(name, parameters, text, called, clause, more=(), inside=()):
         contract = textwrap.fill(contract, COLUMNS, subsequent_indent=" " * 8, drop_whitespace=True)
     passed = [*arguments, *more]
     body = f"    {called}({', '.join(passed)})"
-    if len(body) > COLUMNS:
+    if len(body) > COLUMNS or len(", ".join(passed)) > ARGUMENT_COLUMNS:
         # Short arguments share their lines.
         lines = [", ".join(passed)] if all(len(it) <= SHORT for it in passed) else passed
         rows = "".join(f"        {it},\n" for it in lines)

@@ -66,6 +66,11 @@ LENGTHS = {
     "bit_matrix_row_reduce": "matrix has rows * ceil(columns / 64) words, and pivots rows places",
     "bit_matrix_rank": "matrix and space have rows * ceil(columns / 64) words, and places has rows places",
     "answer": "answer has at least as many bytes as are written, for which 48 are enough",
+    "code_encode": "words has a multiple of symbols",
+    "code_syndromes": "words has a multiple of symbols, and syndromes symbols - data for each word",
+    "code_are_words": "words has a multiple of symbols, and flags one for each word",
+    "secret_split": "secret has a byte or more, draws needed - 1 times as many, and shares count times as many",
+    "secret_combine": "secret has a byte or more, and shares as many for each of indexes",
     "erasure_space": "",
     "erasure_encode": ERASURE_LENGTHS,
     "erasure_verify": ERASURE_LENGTHS,
@@ -89,13 +94,32 @@ def lengths_of(name, parameters):
 
 def statuses_of(name, parameters, bits):
     """The statuses besides BF_OK that a function returns, each with its condition."""
+    if name == "field_init":
+        yield "BF_REDUCIBLE", "that polynomial is irreducible, of a degree from 1 to 128, and tail has lower terms alone"
+        return
+    if name.startswith("field_"):
+        yield from field_statuses(name, parameters)
+        return
     if name.startswith("rs_") and any(it[1] == "data" for it in parameters):
         yield "BF_CODE", "data and parity are not both at least 1 and together at most 256"
     if name.startswith("erasure_"):
         yield "BF_CODE", "data and parity are not both at least 1, or data, counted up to a power of two, and parity are together more than 65536"
+    if name.startswith("code_"):
+        yield "BF_CODE", (
+            "modulus is none of those above, data is 0 or not below symbols, symbols is above 255, or a power of g^root_step with an exponent from 1 to "
+            "symbols - 1 is 1"
+        )
+    if name == "secret_split":
+        yield "BF_CODE", "modulus is another number, or not 2 <= needed <= count <= 255"
+    if name == "secret_combine":
+        yield "BF_CODE", "modulus is another number, or needed is below 2"
+        yield "BF_TOO_FEW_SHARDS", "there are at least needed indexes"
+        yield "BF_CODE", "there are more than 255 indexes, one is 0, or two are equal"
     lengths = lengths_of(name, parameters)
     if lengths:
         yield "BF_LENGTH", lengths
+    if name == "secret_combine":
+        yield "BF_UNSOLVABLE", "the shares lie, byte by byte, on polynomials of needed coefficients"
     if bits < 8 and any(it[0] in ("in", "inout", "scalar") for it in parameters):
         yield "BF_NOT_AN_ELEMENT", f"each word that is read is below {1 << bits}"
     if name.endswith("matrix_inverse"):
@@ -104,6 +128,14 @@ def statuses_of(name, parameters, bits):
         yield "BF_UNSOLVABLE", "there is a solution"
     if "reconstruct" in name or name == "rs_shard_factors":
         yield "BF_TOO_FEW_SHARDS", "at least as many entries of present as data are not 0"
+
+
+def field_statuses(name, parameters):
+    """Those of a function over a field that the caller chooses."""
+    if lengths := lengths_of(name, parameters):
+        yield "BF_LENGTH", lengths
+    if any(it[0] == "in" for it in parameters):
+        yield "BF_NOT_AN_ELEMENT", "each word that is read is below 2^degree"
 
 
 def comment(text):
@@ -141,7 +173,7 @@ def declared(parameters):
             yield f"{POINTERS[kind]}{it} *{name}, size_t {name}_length"
         elif kind in ("result", "state"):
             yield f"{it} *{name}"
-        elif kind == "scalar" and word in ("u128", "u192"):
+        elif kind == "scalar" and word in c_library.STRUCTS:
             yield f"const {it} *{name}"
         else:
             yield f"size_t {name}" if kind == "count" else f"{it} {name}"
@@ -152,7 +184,7 @@ def attributes(parameters):
     place = 1
     yield "BF_CHECKED"
     for kind, _, word in parameters:
-        if kind in ("result", "state") or kind == "scalar" and word in ("u128", "u192"):
+        if kind in ("result", "state") or kind == "scalar" and word in c_library.STRUCTS:
             yield f"BF_NONNULL({place})"
         place += 2 if kind in ARRAYS else 1
 
@@ -237,8 +269,8 @@ def statuses():
 def header():
     """The header."""
     parts = list(sections())
-    out = [about(parts), HEAD.format(version=fields.VERSION_NUMBER, number=fields.VERSION_TEXT, state_words=c_library.STATE_WORDS),
-           statuses()]
+    out = [about(parts), HEAD.format(version=fields.VERSION_NUMBER, number=fields.VERSION_TEXT, state_words=c_library.STATE_WORDS,
+                                       field_words=c_library.FIELD_WORDS), statuses()]
     for name, word, text in (*c_library.PLAIN_FUNCTIONS, *c_library.CHOICE_FUNCTIONS):
         out.append(f"{comment(sentence(text))}{word} bf_{name}(void);\n\n".replace("* bf_", "*bf_"))
     return "".join([*out, *(it.text() for it in parts), TAIL])
@@ -252,6 +284,14 @@ determine.
 PACKED = """\
 Matrices over GF(2) whose rows are packed in words of 64 bits, row after row: a row of so many columns takes ceil(columns / 64) words, and
 column j of it is bit j % 64 of its word j / 64. The bits behind the columns are 0: a word where they are not is no element.
+"""
+
+CHOSEN = """\
+Fields of 2^m elements, m from 1 to 128, modulo any irreducible polynomial: bf_field_init makes a struct of the caller of it, and tells
+exactly whether there is such a field. The modulus is x^m and the terms of tail, whose bit i is the coefficient of x^i. The struct has no
+address in it and may be copied: words[0] is m, and words[1] and words[2] the tail. An element is a bf_u128 below 2^m. A call first tests
+anew that the modulus is irreducible, which takes as many squarings as m, so that many elements in one call cost less an element; it
+returns BF_REDUCIBLE where a struct that bf_field_init did not make names no field.
 """
 
 TRANSFORMS = """\
@@ -271,12 +311,28 @@ goes so by POLYVAL, over the plain text: behind that come bf_tag_polyval_pad, 16
 the lowest first, and bf_tag_polyval_final.
 """
 
+CORRECTING = """\
+Reed-Solomon codes over bytes that correct errors. A word has so many symbols, at most 255, of which so many are data and come first. The
+first symbol is the coefficient of the highest power, and a word is one of the code where its polynomial is 0 at each root: g to the power
+of root_step * (first_root + m), for each m below symbols - data. The field is that of the modulus, bit i for x^i, and g the generator
+that standards take: 0x11d (QR codes, DVB) and 0x187 (CCSDS) with g = x, and 0x11b (AES) with g = x + 1. So QR codes have first_root 0 and
+root_step 1, DVB has 204, 188, 0 and 1, and CCSDS 255, 223, 112 and 11, its bytes in the basis 1, x, .., x^7. Words stand one after the
+other, and each call finds the code anew, which takes as long as some words: many words at once are faster.
+"""
+
 ERASURE = """\
 Reed-Solomon codes over t16 by additive transforms, of thousands of shards: column i of the shards, their word i, has the values of one
 polynomial. With 2^n the least power of two that is at least data, it has a degree below 2^n; shard j of data is its value at point j,
 shard j of parity that at point 2^n + j, and it is 0 at the points from data to 2^n. Point p is the sum of Cantor vector b for each set
 bit b of p, as above. Shards of data stand one after the other, and so do those of parity, in an array of their own. A call works in
 space, with as many columns at once as pays; what that has before does not matter, and behind the call nothing is said of it.
+"""
+
+SECRETS = """\
+Shares of a secret (A. Shamir, How to share a secret, 1979), byte by byte: a byte of the secret is the constant coefficient of a polynomial
+over 256 elements, whose other needed - 1 coefficients are drawn bytes, row after row in draws, that of x first. A share has the values of
+these polynomials at its index, a byte other than 0. These calls draw nothing and keep nothing: what was passed to them is left where it is.
+Bytes of a secret, of draws and of shares are masked, shifted and added, and nothing is looked up by them.
 """
 
 LINES = """\
@@ -374,13 +430,16 @@ CASES    default: return "unknown status";
 SUBJECTS = [
     ("changes of basis and linear maps", "Changes of basis, and linear maps over GF(2).", [r"_to_", r"_linear_map$"]),
     ("packed matrices over GF(2)", PACKED, [r"^bit_matrix_"]),
+    ("fields of the caller's choice", CHOSEN, [rf"^field_{it}" for it in ("init$", "")]),
     ("transforms", TRANSFORMS, [r"_butterfly_|_low_stages$", r"_transform$"]),
     ("tags", TAGS, [r"ghash|polyval", r"^tags_"]),
     # What others call comes first.
     ("codes over bytes", CODES, [
         rf"^rs_{it}" for it in ("tables_length$", "prepare$", "add_shard$", "encode", "verify", "shard_factors$", "add_multiple$", "reconstruct")
     ]),
+    ("codes that correct errors", CORRECTING, [r"^code_"]),
     ("codes by transforms", ERASURE, [r"^erasure_"]),
+    ("shares of a secret", SECRETS, [r"^secret_"]),
     ("lines of text", LINES, ["^answer$"]),
 ]
 
@@ -451,6 +510,11 @@ typedef struct bf_ghash_state {{
 typedef struct bf_polyval_state {{
     uint64_t words[{state_words}];
 }} bf_polyval_state;
+
+/* A field modulo a polynomial of the caller's choice, for the functions bf_field_*. */
+typedef struct bf_field {{
+    uint64_t words[{field_words}];
+}} bf_field;
 
 """
 

@@ -48,6 +48,9 @@ export const VERSION_TEXT = "{fields.VERSION_TEXT}";
 // How many words of 64 bits a hash in pieces has.
 export const STATE_WORDS = {c_library.STATE_WORDS};
 
+// How many a field that the caller chooses has.
+export const FIELD_WORDS = {c_library.FIELD_WORDS};
+
 // The name of each status, and its sentence.
 export const STATUSES = {{
 {statuses}}};

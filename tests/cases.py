@@ -20,6 +20,7 @@ STATUS = {name: value for name, value, _ in c_library.STATUSES}
 FUNCTIONS = {name: parameters for name, parameters, _ in c_library.functions()}
 SIZES = {"u8": 1, "u16": 2, "u32": 4, "u64": 8, "u128": 16, "u192": 24, "usize": 8}
 SIZES |= {it: 8 * c_library.STATE_WORDS for it in ("ghash_state", "polyval_state")}
+SIZES["field"] = 8 * c_library.FIELD_WORDS
 UNWRITTEN = published.UNWRITTEN
 
 
@@ -193,6 +194,41 @@ def packed(matrix, rows, columns):
         row = sum(bit << j for j, bit in enumerate(matrix[i * columns : (i + 1) * columns]))
         words += [row >> (64 * at) & (1 << 64) - 1 for at in range(-(-columns // 64))]
     return words
+
+
+# Fields that a caller chooses: a degree, and the other terms of a modulus.
+CHOSEN = [(1, 0), (1, 1), (2, 3), (3, 5), (8, 0x1D), (8, 0x1B), (16, 0x2D), (61, 0x27), (64, 0x1B), (127, 3), (128, 0x87)]
+
+
+def chosen_cases(draw):
+    """The functions over a field that the caller chooses, and what is no field."""
+    for degree, tail in CHOSEN:
+        modulus, size = 1 << degree | tail, 9
+        words = definitions.field_words(degree, tail)
+        yield case("field_init", [words], degree, tail)
+        few = [0, 1, (1 << degree) - 1] + [draw.getrandbits(degree) for _ in range(size - 3)]
+        left, right = few, [draw.choice(few) for _ in few]
+        times = lambda a, b: definitions.chosen_product(modulus, a, b)
+        yield case("field_add", words, left, right, [a ^ b for a, b in zip(left, right)], each=size)
+        yield case("field_multiply", words, left, right, [times(a, b) for a, b in zip(left, right)], each=size)
+        for scalar in (1, few[2], few[-1]):
+            yield case("field_multiply_by", words, left, scalar, [times(a, scalar) for a in left], each=size)
+        yield case("field_square", words, left, [times(a, a) for a in left], each=size)
+        power = lambda a, exponent: definitions.chosen_power(modulus, a, exponent)
+        yield case("field_inverse", words, left, [power(a, (1 << degree) - 2) if a else 0 for a in left], each=size)
+        yield case("field_square_root", words, left, [power(a, 1 << degree - 1) for a in left], each=size)
+        for exponent in (0, 1, 5, (1 << 64) - 1):
+            yield case("field_power", words, left, exponent, [power(a, exponent) for a in left], each=size)
+        yield case("field_trace", words, left, [definitions.total(power(a, 1 << i) for i in range(degree)) for a in left], each=size)
+        if degree < 128:
+            for at in (0, size - 1):
+                wrong = [1 << degree if it == at else a for it, a in enumerate(left)]
+                yield refused(case("field_multiply", words, wrong, right, [0] * size), "BF_NOT_AN_ELEMENT")
+                yield refused(case("field_multiply", words, right, wrong, [0] * size), "BF_NOT_AN_ELEMENT")
+                yield refused(case("field_inverse", words, wrong, [0] * size), "BF_NOT_AN_ELEMENT")
+            yield refused(case("field_multiply_by", words, left, 1 << degree, [0] * size), "BF_NOT_AN_ELEMENT")
+    for degree, tail in ((0, 0), (0, 1), (129, 3), ((1 << 64) - 1, 1), (4, 0b101), (8, 0x11B), (8, 1), (8, 0), (2, 0), (128, 0), (64, 1 << 64 | 0x1B)):
+        yield refused(case("field_init", [0], degree, tail), "BF_REDUCIBLE")
 
 
 def bit_matrix_cases(draw):
@@ -378,6 +414,45 @@ def factor_cases(draw, data, parity):
         yield refused(case("rs_shard_factors", data, parity, present, other, factors), "BF_LENGTH")
 
 
+# Codes of standards and others: a modulus, symbols of a word and of its data, the first root and the step from one to the next.
+CORRECTING_CODES = [
+    (0x187, 255, 223, 112, 11), (0x11D, 204, 188, 0, 1), (0x11D, 26, 16, 0, 1), (0x11B, 85, 9, 1, 3), (0x11D, 2, 1, 0, 1), (0x11B, 255, 1, 7, 2),
+    (0x187, 5, 3, (1 << 64) - 1, (1 << 64) - 2), (0x11D, 3, 2, 5, 85),
+]
+
+# No codes: a modulus that is none of these, no data, nothing but data, words that are too long, and roots that come again.
+NO_CODES = [
+    (0x12D, 5, 3, 0, 1), (0x1D, 5, 3, 0, 1), (1 << 32 | 0x11D, 5, 3, 0, 1), (0x11D, 5, 0, 0, 1), (0x11D, 5, 5, 0, 1), (0x11D, 5, 6, 0, 1),
+    (0x11D, 256, 3, 0, 1), (0x11B, (1 << 64) - 1, 3, 0, 1), (0x11D, 2, 1, 0, 0), (0x187, 86, 9, 0, 3), (0x11D, 4, 2, 5, 85), (0x11D, 2, 1, 0, 255),
+]
+
+
+def correcting_cases(draw):
+    """Codes that correct errors, over many words, of which some are changed."""
+    for code in CORRECTING_CODES:
+        symbols, checks = code[1], code[1] - code[2]
+        for count in (0, 1, 5):
+            words = [definitions.code_word(code, draw.randbytes(code[2])) for _ in range(count)]
+            drawn_ends = [[*it[: code[2]], *draw.randbytes(checks)] for it in words]
+            yield case("code_encode", *code, (sum(drawn_ends, []), sum(words, [])))
+            for at in range(1, count, 2):
+                words[at][draw.randrange(symbols)] ^= 1 << draw.randrange(8)
+            flags = [int(at % 2 == 0) for at in range(count)]
+            values = [definitions.code_syndromes(code, it) for it in words]
+            assert flags == [int(not any(it)) for it in values]
+            yield case("code_syndromes", *code, sum(words, []), sum(values, []))
+            yield case("code_are_words", *code, sum(words, []), flags)
+            # Flags or values of a word that is not there, and a word of which a symbol is not.
+            yield refused(case("code_are_words", *code, sum(words, []), [*flags, 0]), "BF_LENGTH")
+            yield refused(case("code_syndromes", *code, sum(words, []), [*sum(values, []), 0]), "BF_LENGTH")
+            yield refused(case("code_encode", *code, ([*sum(words, []), 7], [])), "BF_LENGTH")
+    for code in NO_CODES:
+        for words in ([], [0] * 10):
+            yield refused(case("code_encode", *code, (words, words)), "BF_CODE")
+            yield refused(case("code_syndromes", *code, words, [0] * 4), "BF_CODE")
+            yield refused(case("code_are_words", *code, words, [0] * 2), "BF_CODE")
+
+
 def erasure_cases(draw):
     """Erasure codes by transforms, with shards lost."""
     for data, parity, size in ((1, 1, 1), (2, 1, 5), (3, 9, 4), (4, 2, 17), (5, 3, 33), (10, 6, 8), (16, 4, 3), (17, 20, 2), (1, 31, 2)):
@@ -405,6 +480,50 @@ def erasure_cases(draw):
         yield refused(case("erasure_verify", data, parity, [0], [0], 64, [0]), "BF_CODE")
         yield refused(case("erasure_reconstruct", data, parity, ([0], [0]), ([0], [0]), [1, 1], 64), "BF_CODE")
     yield case("erasure_space", 32768, 32768, [40 << 16])
+
+
+def secret_cases(draw):
+    """Secrets that are split, and restored from shares in any order, as many as are needed and more; and what is refused."""
+    for modulus, needed, count, size in (
+        (0x11B, 2, 2, 1), (0x11B, 3, 5, 16), (0x11D, 2, 5, 33), (0x11D, 4, 4, 7), (0x11B, 2, 255, 2), (0x11D, 20, 30, 3), (0x11B, 255, 255, 1),
+    ):
+        secret, draws = draw.randbytes(size), draw.randbytes((needed - 1) * size)
+        shares = [definitions.share(modulus, secret, draws, index) for index in range(1, count + 1)]
+        split = case("secret_split", modulus, needed, count, secret, draws, list(b"".join(shares)))
+        yield split
+        yield case("secret_split", modulus, needed, count, secret, bytes(len(draws)), list(secret * count))
+        for taken in sorted({needed, min(needed + 1, count), count}):
+            indexes = draw.sample(range(1, count + 1), taken)
+            left = b"".join(shares[it - 1] for it in indexes)
+            yield case("secret_combine", modulus, needed, indexes, left, list(secret))
+            wrong = bytearray(left)
+            wrong[draw.randrange(len(wrong))] ^= 1 << draw.randrange(8)
+            changed = case("secret_combine", modulus, needed, indexes, wrong, list(secret))
+            if taken > needed:
+                yield refused(changed, "BF_UNSOLVABLE")
+            twice = [indexes[-1], *indexes[1:]]
+            for given in ([0, *indexes[1:]], twice):
+                yield refused(case("secret_combine", modulus, needed, given, left, list(secret)), "BF_CODE")
+                # Wrong indexes are told before lengths, and too few shares before both.
+                yield refused(case("secret_combine", modulus, needed, given, b"", list(secret)), "BF_CODE")
+                if taken < 255:
+                    yield refused(case("secret_combine", modulus, 255, given, b"", list(secret)), "BF_TOO_FEW_SHARDS")
+        few = list(range(1, needed))
+        yield refused(case("secret_combine", modulus, needed, few, b"".join(shares[: needed - 1]), list(secret)), "BF_TOO_FEW_SHARDS")
+        for other in (0, 0x1B, 0x11C, 0x1011B, (1 << 64) - 1):
+            yield refused(with_argument(split, 0, before=[other], after=[other]), "BF_CODE")
+            yield refused(case("secret_combine", other, needed, few, b"", list(secret)), "BF_CODE")
+        for few_needed in (0, 1):
+            yield refused(case("secret_combine", modulus, few_needed, few, b"", list(secret)), "BF_CODE")
+            yield refused(with_argument(split, 1, before=[few_needed], after=[few_needed]), "BF_CODE")
+        for other in (needed - 1, 256, (1 << 64) - 1):
+            yield refused(with_argument(split, 2, before=[other], after=[other]), "BF_CODE")
+    yield refused(case("secret_combine", 0x11B, 2, [1 + it % 255 for it in range(256)], [7] * 256, [0]), "BF_CODE")
+    yield refused(case("secret_combine", 0x11B, 2, [1, 2], [], []), "BF_LENGTH")
+    yield refused(case("secret_split", 0x11B, 2, 3, [], [], []), "BF_LENGTH")
+    # The other shares of these bytes are those of SLIP-0039's field and of libgfshare's: 2 times 0x80 tells them apart.
+    for modulus, double in ((0x11B, 0x1B), (0x11D, 0x1D)):
+        yield case("secret_split", modulus, 2, 2, [0], [0x80], [0x80, double])
 
 
 def line_cases(draw):
@@ -464,8 +583,8 @@ def whole_case(it, n):
     return dataclasses.replace(it, arguments=arguments, each=None)
 
 
-# Arrays whose length says nothing to those of the others.
-FREE = {"coefficients", "message", "blocks", "associated", "ciphertext", "line"}
+# Arrays whose length says nothing to those of the others; of indexes that are too few or too many other things are told first.
+FREE = {"coefficients", "message", "blocks", "associated", "ciphertext", "line", "indexes"}
 
 
 def length_cases(it):
@@ -473,7 +592,7 @@ def length_cases(it):
     if it.name == "tags_are_equal":
         return
     arrays = [at for at, a in enumerate(it.arguments) if a.kind in ARRAYS and a.name not in FREE]
-    if len(arrays) == 1 and not it.name.startswith(("tag", "rs", "g128_transform", "g128_inverse_transform")):
+    if len(arrays) == 1 and not it.name.startswith(("tag", "rs", "code", "g128_transform", "g128_inverse_transform")):
         return
     for at in arrays:
         length = len(it.arguments[at].after)
@@ -483,8 +602,9 @@ def length_cases(it):
             no_values = it.name == "g128_low_stages" and at == 0 and other == 0
             shards = it.name.startswith("rs_") and it.arguments[at].name == "shards"
             more_space = it.arguments[at].kind == "space" and other > length
+            whole_words = it.name == "code_encode" and other % it.arguments[1].after[0] == 0
             whole_shards = shards and other and other % (it.arguments[0].after[0] + it.arguments[1].after[0]) == 0
-            if other >= 0 and not (power or longer_basis or no_values or more_space or whole_shards):
+            if other >= 0 and not (power or longer_basis or no_values or more_space or whole_words or whole_shards):
                 yield refused(of_length(it, at, other), "BF_LENGTH")
 
 
@@ -565,11 +685,14 @@ def empty_cases():
         own = name.partition("_")[2]
         taken = sum(kind == "count" for kind, _, _ in parameters)
         for counts in itertools.product((0, 1 << 63, most), repeat=taken) if taken else ():
-            status = "BF_CODE" if name.startswith(("rs_", "erasure_")) else "BF_LENGTH"
+            refusing = ("rs_", "erasure_", "code_", "secret_")
+            status = "BF_CODE" if name.startswith(refusing) else "BF_REDUCIBLE" if name == "field_init" else "BF_LENGTH"
+            if name == "secret_combine" and counts[0]:
+                status = "BF_TOO_FEW_SHARDS"
             if own in EMPTY and EMPTY[own](*counts):
                 status = "BF_OK"
             left = iter(counts)
-            given = {"in": [], "out": [], "inout": ([], []), "state": ([0], [0]), "space": 0}
+            given = {"in": [], "out": [], "inout": ([], []), "state": ([0], [0]), "space": 0, "scalar": 0, "number": 0x11D}
             given["result"] = [1 if own == "matrix_determinant" else 0]
             made = case(name, *(next(left) if kind == "count" else given[kind] for kind, _, _ in parameters))
             yield made if status == "BF_OK" else refused(made, status)
@@ -599,7 +722,11 @@ def all_cases():
     for field in FIELDS.values():
         cases += field_cases(field, draw)
         cases += matrix_cases(field, draw)
-    for them in (basis_cases, bit_matrix_cases, stage_cases, tag_cases, code_cases, erasure_cases, long_cases, line_cases):
+    others = (
+        basis_cases, chosen_cases, bit_matrix_cases, stage_cases, tag_cases, code_cases, correcting_cases, erasure_cases, secret_cases, long_cases,
+        line_cases,
+    )
+    for them in others:
         cases += them(draw)
     worked = [case(name, *values) for name, *values in published.rows()]
     cases += [*status_cases(cases), *worked]

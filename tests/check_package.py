@@ -405,6 +405,44 @@ class Counted:
         return [function(it) for it in items]
 
 
+
+class CorrectingCodes(unittest.TestCase):
+    """Codes that correct errors."""
+
+    def test_words_are_those_of_the_definitions(self):
+        draw = random.Random(5)
+        for n, k, c, step, field in ((255, 223, 112, 11, 0x187), (26, 16, 0, 1, 0x11D), (9, 4, 1, 3, 0x11B)):
+            code, numbers = bf.CorrectingCode(n, k, c=c, root_step=step, field=field), (field, n, k, c, step)
+            data = [[list(draw.randbytes(k)) for _ in range(3)] for _ in range(2)]
+            words = code.encode(data)
+            self.assertEqual(words.tolist(), [[definitions.code_word(numbers, it) for it in row] for row in data])
+            self.assertEqual(code.encode(np.array(data), output="parity").tolist(), words[..., k:].tolist())
+            self.assertFalse(code.detect(words).any())
+            words[1, 2, 0] ^= 1
+            self.assertEqual(code.detect(words).tolist(), [[False] * 3, [False, False, True]])
+            self.assertEqual(code.syndromes(words)[1, 2].tolist(), definitions.code_syndromes(numbers, words[1, 2].tolist()))
+            self.assertEqual(code.roots.tolist(), definitions.code_roots(*numbers))
+            # A shortened word is one with zeros before it.
+            short = code.encode(data[0][0][:3])
+            self.assertEqual(code.encode([0] * (k - 3) + data[0][0][:3])[k - 3 :].tolist(), short.tolist())
+            self.assertIs(code.detect(short), False)
+            self.assertEqual(pickle.loads(pickle.dumps(code)).encode(data[0][0]).tolist(), words[0, 0].tolist())
+
+    def test_what_is_no_code_or_no_word_is_refused(self):
+        for n, k in ((256, 9), (5, 5), (5, 0), (5, -1), (1 << 64, 3)):
+            self.assertRaises(ValueError, bf.CorrectingCode, n, k)
+        self.assertRaises(ValueError, bf.CorrectingCode, 5, 3, field=0x12D)
+        self.assertRaises(ValueError, bf.CorrectingCode, 4, 2, root_step=85)
+        self.assertRaises(ValueError, bf.CorrectingCode, 5)
+        self.assertRaises(ValueError, bf.CorrectingCode, 5, 3, 3)
+        self.assertEqual(bf.CorrectingCode(5, d=3).k, 3)
+        code = bf.CorrectingCode(5, 3)
+        for data in ([], [1, 2, 3, 4], [256], [-1], [0.5], 7):
+            self.assertRaises(ValueError, code.encode, data)
+        self.assertRaises(ValueError, code.encode, [1], output="word")
+        for words in ([1, 2], [0] * 6):
+            self.assertRaises(ValueError, code.detect, words)
+
 class Bytes(unittest.TestCase):
     """Tags and codes."""
 

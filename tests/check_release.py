@@ -6,6 +6,7 @@ names the crates of the kit that crates.txt names, with the versions that the ki
 """
 
 import hashlib
+import json
 import os
 import pathlib
 import re
@@ -17,6 +18,7 @@ import zipfile
 
 TOP = pathlib.Path(__file__).resolve().parent.parent
 sys.path.insert(0, str(TOP / "scripts"))
+import build_module
 import crates
 import fields
 
@@ -52,7 +54,7 @@ def check_sums(folder):
 
 def members(path):
     """The files of an archive below its one folder, whose owner, time and modes are those of a release."""
-    folder, found = re.sub(r"\.tar\.gz$|\.crate$", "", path.name), {}
+    folder, found = "package" if path.suffix == ".tgz" else re.sub(r"\.tar\.gz$|\.crate$", "", path.name), {}
     made = int(os.environ.get("SOURCE_DATE_EPOCH") or said("git", "log", "-1", "--format=%ct"))
     with tarfile.open(path) as archive:
         entries = archive.getmembers()
@@ -128,6 +130,18 @@ def check_crate(path):
     same(set(members(path)), tracked | {"LICENSE-MIT", "LICENSE-APACHE"}, path.name)
 
 
+def check_package(path):
+    """The JavaScript package: its files are those that package.json names, the licences and the page, its version is the release's, and its
+    module has no imports and the library's functions."""
+    found = members(path)
+    of_package = {it.name for it in (TOP / "javascript").iterdir() if it.suffix in (".mjs", ".ts")}
+    same(set(found), of_package | {"package.json", "README.md", "LICENSE-MIT", "LICENSE-APACHE", "binary_field.wasm"}, path.name)
+    same(json.loads(found["package.json"])["version"], VERSION, f"the version of {path.name}")
+    build_module.require_library(found["binary_field.wasm"])
+    for name, data in found.items():
+        same(re.search(rb"/tmp/|/root/|" + re.escape(bytes(TOP)), data), None, f"a folder of this machine in {name}")
+
+
 def check_proved(text, gate):
     """PROVED.txt: the commit, the kit, and of every crate of crates.txt the line that the gate has."""
     heads = [f"commit {said('git', 'rev-parse', 'HEAD').strip()}", f"kit {said('rt', 'version').strip()}"]
@@ -175,6 +189,8 @@ def main():
         check_wheel(it, archives)
     same(len(list(folder.glob("*.whl"))), len(archives), "how many wheels there are")
     check_crate(folder / f"binary-field-{VERSION}.crate")
+    for it in folder.glob("*.tgz"):
+        check_package(it)
     check_proved((folder / "PROVED.txt").read_text(), gate.read_text())
     check_list((folder / f"binary_field-{VERSION}.spdx").read_text())
     print(f"check_release: {len(archives)} archives ({', '.join(sorted(archives))}), as they have to be")

@@ -169,6 +169,30 @@ def running(values, step, first):
     return result
 
 
+def chosen_product(modulus, a, b):
+    """The remainder of the product of two polynomials modulo a third."""
+    product = total(a << i for i in range(b.bit_length()) if b >> i & 1)
+    while (above := product.bit_length() - modulus.bit_length()) >= 0:
+        product ^= modulus << above
+    return product
+
+
+def chosen_power(modulus, a, exponent):
+    """A polynomial to the power of an exponent modulo another."""
+    result = 1
+    for bit in bin(exponent)[2:]:
+        result = chosen_product(modulus, result, result)
+        if bit == "1":
+            result = chosen_product(modulus, result, a)
+    return result
+
+
+def field_words(degree, tail):
+    """The words of a field that a caller chooses, as one number, the lowest first: the degree, the terms of the modulus below that, and two
+    that are kept for later versions."""
+    return degree | tail << 64
+
+
 def columns(width, inverted):
     """The images of the bits of a level of the tower in the polynomial basis of the same degree, or those back."""
     found = next(it for it in fields.FIELDS if it.modulus and it.bits == width).columns
@@ -392,6 +416,70 @@ def encoded(data, parity, content):
     size = len(content) // data
     columns = [codeword(content[at::size], data + parity) for at in range(size)]
     return b"".join(bytes(shard) for shard in zip(*columns))
+
+
+# ---- codes that correct errors, over bytes
+
+# The generators that standards take, by moduli.
+CODE_GENERATORS = {0x11D: 2, 0x187: 2, 0x11B: 3}
+
+
+@functools.cache
+def code_product(modulus, a, b):
+    """The product of two bytes, bit by bit."""
+    product = total(a << place for place in range(8) if b >> place & 1)
+    for place in range(14, 7, -1):
+        product ^= (product >> place & 1) * (modulus << place - 8)
+    return product
+
+
+@functools.cache
+def code_power(modulus, exponent):
+    """A power of the generator."""
+    return 1 if exponent == 0 else code_product(modulus, code_power(modulus, exponent - 1), CODE_GENERATORS[modulus])
+
+
+def code_roots(modulus, symbols, data, first_root, root_step):
+    """The roots of a code."""
+    return [code_power(modulus, root_step * (first_root + m) % 255) for m in range(symbols - data)]
+
+
+def code_value(modulus, word, x):
+    """The value at x of the polynomial whose coefficients are the symbols of a word, that of the highest power first."""
+    value, power = 0, 1
+    for symbol in reversed(word):
+        value ^= code_product(modulus, symbol, power)
+        power = code_product(modulus, power, x)
+    return value
+
+
+def code_syndromes(code, word):
+    """The values of a word at the roots of a code, which is the numbers that a call takes."""
+    return [code_value(code[0], word, it) for it in code_roots(*code)]
+
+
+def code_word(code, data):
+    """The word with these data, behind which stands the rest of their polynomial, times a power of x, by the product of x + r over the roots r."""
+    modulus, roots = code[0], code_roots(*code)
+    generator = [1]
+    for root in roots:
+        generator = [a ^ code_product(modulus, root, b) for a, b in zip([*generator, 0], [0, *generator])]
+    rest = [*data, *[0] * len(roots)]
+    for at in range(len(data)):
+        factor = rest[at]
+        for place, it in enumerate(generator):
+            rest[at + place] ^= code_product(modulus, factor, it)
+    return [*data, *rest[len(data):]]
+# ---- shares of a secret
+
+
+def share(modulus, secret, draws, index):
+    """The share at an index: byte by byte the sum of the coefficients times powers of the index, the lowest the byte of the secret."""
+    rows = [secret, *(draws[at : at + len(secret)] for at in range(0, len(draws), len(secret)))]
+    return bytes(
+        total(polynomials.multiply(modulus, row[place], polynomials.power(modulus, index, k)) for k, row in enumerate(rows))
+        for place in range(len(secret))
+    )
 
 
 # ---- erasure codes by transforms, over t16

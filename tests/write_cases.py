@@ -29,7 +29,7 @@ def caller(name, parameters):
     arguments = []
     for at, (kind, _, word) in enumerate(parameters):
         c_word = c_library.WORDS[word]
-        if kind in ("number", "count") or (kind == "scalar" and word not in ("u128", "u192")):
+        if kind in ("number", "count") or (kind == "scalar" and word not in c_library.STRUCTS):
             arguments.append(f"*(const {c_word} *)b[{at}].data")
         else:
             constant = "const " if kind in ("in", "scalar") else ""

@@ -32,6 +32,8 @@ from ._bytes import (
     polyval,
     tags_are_equal,
 )
+from ._chosen import GF
+from ._codes import CorrectingCode
 from ._fields import (
     BinaryField2,
     BinaryField4,
@@ -50,6 +52,7 @@ from ._functions import VERSION_TEXT as __version__
 from ._hardware import hardware
 from ._library import processor
 from ._poly import Poly, conway_poly, crt, egcd, gcd, irreducible_poly, lagrange_poly, lcm, primitive_poly
+from ._secrets import combine_secret, split_secret
 from ._transforms import (
     butterfly_forward,
     butterfly_inverse,
@@ -69,9 +72,10 @@ for _module in [it for name, it in _sys.modules.items() if name.startswith(f"{__
 
 __all__ = [
     "BinaryField128", "BinaryField16", "BinaryField2", "BinaryField32", "BinaryField4", "BinaryField64",
-    "BinaryField8", "FieldArray", "Gf2", "Ghash", "Ghash128", "Poly", "Poly192", "Poly64", "Polyval", "ReedSolomon",
-    "Rijndael8b", "TransformCode", "answer", "butterfly_forward", "butterfly_inverse", "conway_poly", "crt", "egcd",
-    "from_powers", "gcd", "gcm_ghash", "get_workers", "ghash", "hardware", "inverse_transform", "irreducible_poly",
-    "lagrange_poly", "lcm", "linear_map", "low_stages", "polyval", "primitive_poly", "processor", "set_workers",
-    "tags_are_equal", "to_powers", "transform", "transform_points",
+    "BinaryField8", "CorrectingCode", "FieldArray", "GF", "Gf2", "Ghash", "Ghash128", "Poly", "Poly192", "Poly64",
+    "Polyval", "ReedSolomon", "Rijndael8b", "TransformCode", "answer", "butterfly_forward", "butterfly_inverse",
+    "combine_secret", "conway_poly", "crt", "egcd", "from_powers", "gcd", "gcm_ghash", "get_workers", "ghash",
+    "hardware", "inverse_transform", "irreducible_poly", "lagrange_poly", "lcm", "linear_map", "low_stages",
+    "polyval", "primitive_poly", "processor", "set_workers", "split_secret", "tags_are_equal", "to_powers",
+    "transform", "transform_points",
 ]

@@ -9,7 +9,7 @@ from typing import Any, Callable, TypeVar, Union
 
 import numpy as np
 
-from ._library import Words, call, call_of_one, is_packed, packed
+from ._library import FEW, Words, call, call_of_few, call_of_one, is_packed, packed
 from ._matrices import Matrices, product
 from ._workers import set_workers
 
@@ -133,6 +133,8 @@ class FieldArray(Matrices):
     def _called(self: A, function: str, *operands: Any, out: A | None = None) -> A:
         """Calls a function of the library that writes an array of the first operand's shape, into `out` where one is given. Where that is the
         first operand, the function's form in place is called."""
+        if out is None and all(getattr(it, "size", 1) <= FEW for it in operands):
+            return self._of(call_of_few(f"{self._name}_{function}", *operands))
         result = None if out is None or not is_packed(out._words) else out._words
         in_place = operands[0] is result and function in _IN_PLACE
         if result is None or any(isinstance(it, np.ndarray) and np.may_share_memory(it, result) for it in operands[in_place:]):

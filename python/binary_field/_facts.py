@@ -27,6 +27,8 @@ _PRIMES = (
 )
 # Above this degree 2**n - 1 has a prime for which baby steps are too many.
 _LOGARITHM_BITS = 64
+# And so has it where a prime is larger.
+_LARGEST_PRIME = 1 << 44
 
 
 class Facts(Drawn):
@@ -43,6 +45,11 @@ class Facts(Drawn):
         """
         element = cls._single(element)
         return bool(element) and element.multiplicative_order() == cls.order - 1
+
+    @classmethod
+    def _group_primes(cls) -> tuple[int, ...]:
+        """Primes, of which those that divide the number of the elements but 0 are all."""
+        return _PRIMES
 
     @classmethod
     def _single(cls: type[S], element: Any) -> Any:
@@ -69,7 +76,7 @@ class Facts(Drawn):
         if not elements.all():
             raise ArithmeticError(f"0 of {type(self).__name__} has no multiplicative order")
         group, orders = type(self).order - 1, np.full(self.shape, 1, dtype=object)
-        for prime in _PRIMES:
+        for prime in self._group_primes():
             rest = group
             while rest % prime == 0:
                 rest //= prime
@@ -171,16 +178,24 @@ class Facts(Drawn):
         return self._integers(np.asarray(logarithms, dtype=object))
 
     def _logarithms(self) -> Words:
-        """Those to the primitive element: the Chinese remainder of those in the groups of prime order, since no square divides 2**n - 1."""
+        """Those to the primitive element: the Chinese remainder of those in the groups whose orders are powers of a prime, each of which is
+        found digit by digit."""
         elements: Any = self
         generator: Any = type(self).primitive_element
         group = type(self).order - 1
         result = np.full(self.shape, 0, dtype=object)
-        for prime in _PRIMES:
-            if group % prime == 0:
-                rest = group // prime
-                digits = _in_prime_group(elements**rest, generator**rest, prime)
-                result = (result + digits.astype(object) * (rest * pow(rest, -1, prime))) % group
+        for prime in self._group_primes():
+            if group % prime:
+                continue
+            if prime > _LARGEST_PRIME:
+                raise ValueError(f"there are no logarithms where a prime of 2**{self.degree} - 1 is above 2**44, as {prime} is")
+            found, power, base = np.full(self.shape, 0, dtype=object), 1, generator ** (group // prime)
+            while group % (power * prime) == 0:
+                rest = group // (power * prime)
+                left = elements**rest if power == 1 else (elements / generator**found) ** rest
+                found, power = found + power * _in_prime_group(left, base, prime).astype(object), power * prime
+            rest = group // power
+            result = (result + found * (rest * pow(rest, -1, power))) % group
         return np.asarray(result, dtype=object)
 
     # ---- subfields

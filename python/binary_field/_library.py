@@ -12,7 +12,7 @@ from typing import Any, Callable
 
 import numpy as np
 
-from ._functions import FUNCTIONS, STATE_WORDS, STATUSES, VERSION
+from ._functions import FIELD_WORDS, FUNCTIONS, STATE_WORDS, STATUSES, VERSION
 from ._workers import get_workers, in_pieces
 
 ARRAYS = ("in", "inout", "out", "space")
@@ -25,6 +25,10 @@ WORDS: dict[str, np.dtype[Any]] = {it: np.dtype(f"<u{int(it[1:]) // 8}") for it 
 WORDS |= {it: np.dtype([("words", "<u8", (int(it[1:]) // 64,))], align=True) for it in ("u128", "u192")}
 # A hash in pieces.
 WORDS |= {it: np.dtype([("words", "<u8", (STATE_WORDS,))], align=True) for it in ("ghash_state", "polyval_state")}
+# A field that is chosen.
+WORDS["field"] = np.dtype([("words", "<u8", (FIELD_WORDS,))], align=True)
+# What the functions of a fixed field are for one that is chosen, by their names.
+CHOSEN: dict[str, Callable[..., None]] = {}
 # A place in an array, as columns of matrices are told.
 WORDS["usize"] = PLACE = np.dtype(np.uintp)
 # The functions whose result at a place is made of what is at that place of the arrays, and of all of those that are taken whole.
@@ -87,8 +91,11 @@ def processor() -> str:
 
 # A parameter: its name, whether it is a plain number, an array, and written, and the type of numpy that holds an element.
 Parameter = tuple[str, bool, bool, bool, np.dtype[Any]]
-# Memory for a call of single elements: of each parameter an array of one, and the call of the function with their addresses.
-Room = tuple[list[Words], Callable[[], int]]
+# Arrays of at most so many elements are copied to a room and out of it, which takes less time than to ask each for its address.
+FEW = 128
+# Memory for a call of few elements: of each parameter but plain numbers an array and its address, the first element of each, and the call
+# of the function with those. The arrays are of integers: numpy copies these in less time than structures.
+Room = tuple[list[tuple[Words, int]], list[Words], Callable[[], int]]
 
 
 def _parameter(kind: str, name: str, word: str) -> Parameter:
@@ -107,10 +114,11 @@ class Calls:
             self.called[name] = function, [_parameter(*it) for it in FUNCTIONS[name]]
 
     def room(self, name: str) -> Room:
-        """Memory for a call of a function of single elements, each an array of the function's."""
+        """Memory for a call of a function of few elements, each array a part of one of the function's."""
         function, parameters = self.called[name]
-        arrays = [np.empty((), it[-1]) for it in parameters]
-        return arrays, functools.partial(function, *(value for it in arrays for value in (it.ctypes.data, 1)))
+        arrays = [np.empty(FEW, dtype) for _, is_plain, _, _, dtype in parameters if not is_plain]
+        placed = [(_integers(it), it.ctypes.data) for it in arrays]
+        return placed, [it[:1].reshape(()) for it in arrays], functools.partial(function, *(value for _, it in placed for value in (it, 1)))
 
 
 _PROVED = Calls(_FUNCTIONS)
@@ -175,22 +183,67 @@ def packed(words: Words) -> Words:
     return words if is_packed(words) else np.array(words, order="C")
 
 
+def _integers(words: Words) -> Words:
+    """The integers that elements are, or that their structures hold."""
+    integers: Words = words["words"] if words.dtype.names else words
+    return integers
+
+
+def _taken(calls: Calls, name: str) -> Room:
+    """A room that is free, or a new one."""
+    try:
+        return calls.rooms[name].pop()
+    except IndexError:
+        return calls.room(name)
+
+
 def call_of_one(name: str, *elements: Words) -> Words:
     """What a function that reads arrays and then writes one makes of single elements, each an array of no dimensions of the function's words.
     They are copied to where the function finds them, which takes a fifth of the time that it takes to ask an array for its address."""
     calls = _calls
-    rooms = calls.rooms[name]
-    try:
-        room = rooms.pop()
-    except IndexError:
-        room = calls.room(name)
-    arrays, function = room
-    for array, it in zip(arrays, elements):
+    if name in CHOSEN:
+        made = np.empty((), elements[0].dtype)
+        CHOSEN[name](*elements, made)
+        return made
+    room = _taken(calls, name)
+    _, ones, function = room
+    for array, it in zip(ones, elements):
         array[()] = it
     _test(name, function())
-    result = np.empty((), arrays[-1].dtype)
-    result[()] = arrays[-1]
-    rooms.append(room)
+    result = np.empty((), ones[-1].dtype)
+    result[()] = ones[-1]
+    calls.rooms[name].append(room)
+    return result
+
+
+def call_of_few(name: str, *arguments: Any) -> Words:
+    """What a function makes that writes, as its last parameter, an array of the shape of its first one. The arguments are those before it,
+    as `call` takes them, but that an array need not be packed; none has more than FEW elements. They are copied like single elements."""
+    calls = _calls
+    if name in CHOSEN:
+        made = np.empty(arguments[0].shape, arguments[0].dtype)
+        CHOSEN[name](*arguments, made)
+        return made
+    room = _taken(calls, name)
+    function, parameters = calls.called[name]
+    free = iter(room[0])
+    given: list[int] = []
+    for (parameter, is_plain, is_array, _, dtype), value in zip(parameters, arguments):
+        if is_plain:
+            given.append(value)
+            continue
+        if value.dtype is not dtype and value.dtype != dtype:
+            raise TypeError(f"{name}: {parameter} must be an array of {dtype}")
+        array, start = next(free)
+        size = value.size
+        array[:size] = _integers(value if value.ndim < 2 else value.ravel())
+        given += (start, size) if is_array else (start,)
+    (array, start), first = next(free), arguments[0]
+    size = first.size
+    _test(name, function(*given, start, size))
+    result = np.empty(first.shape, parameters[-1][-1])
+    _integers(result if first.ndim == 1 else result.reshape(size))[...] = array[:size]
+    calls.rooms[name].append(room)
     return result
 
 
@@ -208,6 +261,8 @@ def call(name: str, *arguments: Any) -> None:
 
     What the library reads and writes is exactly what numpy holds, and what it writes nothing else shares: no other place hands out an
     address, but for `Calls.room`, whose arrays nobody else has."""
+    if name in CHOSEN:
+        return CHOSEN[name](*arguments)
     function, parameters = _calls.called[name]
     given: list[int] = []
     held: list[tuple[Words, int, int, bool]] = []

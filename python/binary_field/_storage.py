@@ -323,6 +323,9 @@ class Stored(metaclass=_Constants):
             raise TypeError("elements are converted to a field, a class as BinaryField8")
         if field._name == self._name:
             return self if type(self) is field else field._of(self._words)
+        images: Callable[[Any], S] | None = getattr(field, "_images", None)
+        if images is not None:
+            return images(self)
         if self._partner == field._name:
             result = field.zeros(self.shape)
             call(f"{self._name}_to_{field._name}", self._words, result._words)

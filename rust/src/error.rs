@@ -19,12 +19,14 @@ pub enum Error {
     NotAnElement,
     /// Out of memory, which no function of this version returns.
     Memory,
-    /// Invalid shard counts.
+    /// No code or shares have these numbers.
     Code,
-    /// Too few shards are present.
+    /// Too few shards or shares are present.
     TooFewShards,
-    /// The equations have no solution, or the matrix has no inverse.
+    /// The equations have no solution, the matrix no inverse, or the shares no secret.
     Unsolvable,
+    /// The modulus is no irreducible polynomial of degree 1 to 128.
+    Reducible,
 }
 
 impl Error {
@@ -38,6 +40,7 @@ impl Error {
             functions::BF_CODE => Err(Error::Code),
             functions::BF_TOO_FEW_SHARDS => Err(Error::TooFewShards),
             functions::BF_UNSOLVABLE => Err(Error::Unsolvable),
+            functions::BF_REDUCIBLE => Err(Error::Reducible),
             other => panic!("the library has no status {other}"),
         }
     }
@@ -62,9 +65,10 @@ impl fmt::Display for Error {
             Error::Length => "mismatched or invalid lengths",
             Error::NotAnElement => "a word is not an element of the field",
             Error::Memory => "out of memory",
-            Error::Code => "invalid shard counts",
-            Error::TooFewShards => "too few shards are present",
+            Error::Code => "no code or shares have these numbers",
+            Error::TooFewShards => "too few shards or shares are present",
             Error::Unsolvable => "the equations have no solution",
+            Error::Reducible => "the modulus is no irreducible polynomial of degree 1 to 128",
         })
     }
 }

@@ -14,12 +14,14 @@ pub const BF_LENGTH: u32 = 1;
 pub const BF_NOT_AN_ELEMENT: u32 = 2;
 /// Out of memory, which no function of this version returns.
 pub const BF_MEMORY: u32 = 3;
-/// Invalid shard counts.
+/// No code or shares have these numbers.
 pub const BF_CODE: u32 = 4;
-/// Too few shards are present.
+/// Too few shards or shares are present.
 pub const BF_TOO_FEW_SHARDS: u32 = 5;
-/// The equations have no solution, or the matrix has no inverse.
+/// The equations have no solution, the matrix no inverse, or the shares no secret.
 pub const BF_UNSOLVABLE: u32 = 6;
+/// The modulus is no irreducible polynomial of degree 1 to 128.
+pub const BF_REDUCIBLE: u32 = 7;
 
 unsafe extern "C" {
     /// The processor whose form of the functions is called: "x86-64-v2", "x86-64-v3" or "aarch64", and never NULL.
@@ -2841,6 +2843,91 @@ unsafe extern "C" {
         places_length: usize,
         rank: *mut usize,
     ) -> u32;
+    /// field: the field of the polynomials modulo x^degree + tail, for the other functions bf_field_*. BF_REDUCIBLE
+    /// unless that polynomial is irreducible, of a degree from 1 to 128, and tail has lower terms alone.
+    pub fn bf_field_init(
+        field: *mut [u64; 5],
+        degree: usize,
+        tail: *const [u64; 2],
+    ) -> u32;
+    /// sums: the sum of the elements at each place. BF_LENGTH unless left, right and sums have one length.
+    /// BF_NOT_AN_ELEMENT unless each word that is read is below 2^degree.
+    pub fn bf_field_add(
+        field: *const [u64; 5],
+        left: *const [u64; 2],
+        left_length: usize,
+        right: *const [u64; 2],
+        right_length: usize,
+        sums: *mut [u64; 2],
+        sums_length: usize,
+    ) -> u32;
+    /// products: the product of the elements at each place. BF_LENGTH unless left, right and products have one
+    /// length. BF_NOT_AN_ELEMENT unless each word that is read is below 2^degree.
+    pub fn bf_field_multiply(
+        field: *const [u64; 5],
+        left: *const [u64; 2],
+        left_length: usize,
+        right: *const [u64; 2],
+        right_length: usize,
+        products: *mut [u64; 2],
+        products_length: usize,
+    ) -> u32;
+    /// products: the product of each element and the scalar. BF_LENGTH unless values and products have one length.
+    /// BF_NOT_AN_ELEMENT unless each word that is read is below 2^degree.
+    pub fn bf_field_multiply_by(
+        field: *const [u64; 5],
+        values: *const [u64; 2],
+        values_length: usize,
+        scalar: *const [u64; 2],
+        products: *mut [u64; 2],
+        products_length: usize,
+    ) -> u32;
+    /// squares: the square of each element. BF_LENGTH unless values and squares have one length. BF_NOT_AN_ELEMENT
+    /// unless each word that is read is below 2^degree.
+    pub fn bf_field_square(
+        field: *const [u64; 5],
+        values: *const [u64; 2],
+        values_length: usize,
+        squares: *mut [u64; 2],
+        squares_length: usize,
+    ) -> u32;
+    /// inverses: the inverse of each element, and 0 for 0. BF_LENGTH unless values and inverses have one length.
+    /// BF_NOT_AN_ELEMENT unless each word that is read is below 2^degree.
+    pub fn bf_field_inverse(
+        field: *const [u64; 5],
+        values: *const [u64; 2],
+        values_length: usize,
+        inverses: *mut [u64; 2],
+        inverses_length: usize,
+    ) -> u32;
+    /// roots: the square root of each element. BF_LENGTH unless values and roots have one length. BF_NOT_AN_ELEMENT
+    /// unless each word that is read is below 2^degree.
+    pub fn bf_field_square_root(
+        field: *const [u64; 5],
+        values: *const [u64; 2],
+        values_length: usize,
+        roots: *mut [u64; 2],
+        roots_length: usize,
+    ) -> u32;
+    /// powers: each element to the power of the exponent; to the power 0 it is 1. BF_LENGTH unless values and powers
+    /// have one length. BF_NOT_AN_ELEMENT unless each word that is read is below 2^degree.
+    pub fn bf_field_power(
+        field: *const [u64; 5],
+        values: *const [u64; 2],
+        values_length: usize,
+        exponent: u64,
+        powers: *mut [u64; 2],
+        powers_length: usize,
+    ) -> u32;
+    /// traces: the trace of each element over GF(2), which is 0 or 1. BF_LENGTH unless values and traces have one
+    /// length. BF_NOT_AN_ELEMENT unless each word that is read is below 2^degree.
+    pub fn bf_field_trace(
+        field: *const [u64; 5],
+        values: *const [u64; 2],
+        values_length: usize,
+        traces: *mut [u64; 2],
+        traces_length: usize,
+    ) -> u32;
     /// low += scalar * high, and then high += low, at each place. BF_LENGTH unless low and high have one length.
     pub fn bf_g128_butterfly_forward(
         low: *mut [u64; 2],
@@ -3164,6 +3251,47 @@ unsafe extern "C" {
         present: *const u8,
         present_length: usize,
     ) -> u32;
+    /// Writes the symbols behind the data of each word, so that it is a word of the code. BF_CODE if modulus is none
+    /// of those above, data is 0 or not below symbols, symbols is above 255, or a power of g^root_step with an
+    /// exponent from 1 to symbols - 1 is 1. BF_LENGTH unless words has a multiple of symbols.
+    pub fn bf_code_encode(
+        modulus: u64,
+        symbols: usize,
+        data: usize,
+        first_root: u64,
+        root_step: u64,
+        words: *mut u8,
+        words_length: usize,
+    ) -> u32;
+    /// syndromes: the values of each word at the roots, that at the first root first; symbols - data of them a word.
+    /// BF_CODE if modulus is none of those above, data is 0 or not below symbols, symbols is above 255, or a power of
+    /// g^root_step with an exponent from 1 to symbols - 1 is 1. BF_LENGTH unless words has a multiple of symbols, and
+    /// syndromes symbols - data for each word.
+    pub fn bf_code_syndromes(
+        modulus: u64,
+        symbols: usize,
+        data: usize,
+        first_root: u64,
+        root_step: u64,
+        words: *const u8,
+        words_length: usize,
+        syndromes: *mut u8,
+        syndromes_length: usize,
+    ) -> u32;
+    /// flags: 1 for each word that is one of the code, 0 for each other. BF_CODE if modulus is none of those above,
+    /// data is 0 or not below symbols, symbols is above 255, or a power of g^root_step with an exponent from 1 to
+    /// symbols - 1 is 1. BF_LENGTH unless words has a multiple of symbols, and flags one for each word.
+    pub fn bf_code_are_words(
+        modulus: u64,
+        symbols: usize,
+        data: usize,
+        first_root: u64,
+        root_step: u64,
+        words: *const u8,
+        words_length: usize,
+        flags: *mut u8,
+        flags_length: usize,
+    ) -> u32;
     /// length: how many words of space each call of the code takes: 40 times the least power of two that is at least
     /// data, counted up to a power of two, and parity together. BF_CODE if data and parity are not both at least 1,
     /// or data, counted up to a power of two, and parity are together more than 65536.
@@ -3218,6 +3346,40 @@ unsafe extern "C" {
         present_length: usize,
         space: *mut u16,
         space_length: usize,
+    ) -> u32;
+    /// shares: writes count shares of a secret, any needed of which restore it, where fewer say nothing of it. Share
+    /// i, counted from 0, has the index i + 1, is as long as the secret and stands behind those before it. modulus is
+    /// 0x11b for the field of AES, or 0x11d for that of libgfshare. draws has needed - 1 times the length of secret
+    /// bytes, which the caller draws for this secret alone from a source of cryptographic quality, each from all 256,
+    /// 0 among them, and keeps from everybody. BF_CODE if modulus is another number, or not 2 <= needed <= count <=
+    /// 255. BF_LENGTH unless secret has a byte or more, draws needed - 1 times as many, and shares count times as
+    /// many.
+    pub fn bf_secret_split(
+        modulus: u64,
+        needed: usize,
+        count: usize,
+        secret: *const u8,
+        secret_length: usize,
+        draws: *const u8,
+        draws_length: usize,
+        shares: *mut u8,
+        shares_length: usize,
+    ) -> u32;
+    /// secret: writes the secret of shares with these indexes, of which needed are needed; they stand one after the
+    /// other. Of more than needed all have to be those of one secret; whether bytes of needed shares are right cannot
+    /// be told. BF_CODE if modulus is another number, or needed is below 2. BF_TOO_FEW_SHARDS unless there are at
+    /// least needed indexes. BF_CODE if there are more than 255 indexes, one is 0, or two are equal. BF_LENGTH unless
+    /// secret has a byte or more, and shares as many for each of indexes. BF_UNSOLVABLE unless the shares lie, byte
+    /// by byte, on polynomials of needed coefficients.
+    pub fn bf_secret_combine(
+        modulus: u64,
+        needed: usize,
+        indexes: *const u8,
+        indexes_length: usize,
+        shares: *const u8,
+        shares_length: usize,
+        secret: *mut u8,
+        secret_length: usize,
     ) -> u32;
     /// Writes to the front of answer what the program binfield answers to the line, as 41 to t8 mul 10 10, without a
     /// line feed; written is how many bytes that is, at most 48, and the bytes of answer behind them stay. BF_LENGTH

@@ -42,6 +42,8 @@ pub mod bit_matrices;
 mod bits;
 mod bytes;
 pub mod challenger;
+mod codes;
+pub mod chosen;
 mod erasure;
 #[rustfmt::skip]
 mod error;
@@ -64,6 +66,7 @@ mod prime;
 mod processor;
 mod raw_data;
 mod ring;
+mod secrets;
 mod small;
 mod space;
 mod text;
@@ -76,6 +79,7 @@ pub use bits::{
 };
 pub use bytes::{Ghash, Polyval, Prepared, ReedSolomon, gcm_ghash, ghash, polyval, tags_are_equal};
 pub use challenger::BinaryChallenger;
+pub use codes::CorrectingCode;
 pub use erasure::TransformCode;
 pub use error::Error;
 pub use field::Field;
@@ -99,6 +103,7 @@ pub use prime::{Order, PrimeField, PrimeField32, PrimeField64, QuotientMap};
 pub use processor::processor;
 pub use raw_data::RawDataSerializable;
 pub use ring::{Powers, PrimeCharacteristicRing};
+pub use secrets::{ShareField, combine_secret, split_secret};
 pub use space::{
     Algebra, AlgebraIdentity, BasedVectorSpace, ExtensionField, HasFrobenius, HasSubfield,
     TowerLevel,

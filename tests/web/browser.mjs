@@ -18,9 +18,14 @@ const TYPES = {
 // Keys that browsers know by a number.
 const KEY_CODES = { Tab: 9, Enter: 13, " ": 32, ArrowLeft: 37, ArrowUp: 38, ArrowRight: 39, ArrowDown: 40 };
 
-/** Serves a folder on this machine; its address, and what ends it. */
-export async function serve(folder) {
+/** Serves a folder on this machine; its address, and what ends it. What is posted is handed on. */
+export async function serve(folder, onReport = () => {}) {
   const server = http.createServer((request, response) => {
+    if (request.method === "POST") {
+      let text = "";
+      request.setEncoding("utf8").on("data", (it) => (text += it)).on("end", () => (response.end(), onReport(text)));
+      return;
+    }
     const place = path.join(folder, path.normalize(decodeURIComponent(new URL(request.url, "http://x").pathname)));
     const file = place.endsWith(path.sep) ? path.join(place, "index.html") : place;
     fs.readFile(file, (error, content) => {

@@ -137,6 +137,40 @@ test("codes", () => {
   assert.throws(() => bf.ReedSolomon.reconstruct(4, 2, damaged, [0, 0, 0, 1, 1, 1]), { code: "BF_TOO_FEW_SHARDS" });
 });
 
+test("shares of a secret", () => {
+  const secret = bytes(100);
+  for (const field of ["aes", "gfshare"]) {
+    const shares = bf.secrets.split(secret, 7, 4, { field });
+    assert.deepEqual(shares.map((it) => it.index), [1, 2, 3, 4, 5, 6, 7]);
+    for (const left of [shares.slice(3), shares.slice(0, 4), [...shares].reverse()]) {
+      assert.deepEqual(bf.secrets.combine(left, 4, { field }), secret);
+    }
+    // A wrong byte among more than are needed is told, and draws are others each time.
+    shares[5].bytes[9] ^= 1;
+    assert.throws(() => bf.secrets.combine(shares, 4, { field }), { code: "BF_UNSOLVABLE" });
+    assert.throws(() => bf.secrets.combine(shares.slice(0, 3), 4, { field }), { code: "BF_TOO_FEW_SHARDS" });
+    assert.notDeepEqual(bf.secrets.split(secret, 7, 4, { field })[0].bytes, shares[0].bytes);
+  }
+  const long = bytes(65_536);
+  assert.deepEqual(bf.secrets.combine(bf.secrets.split(long, 255, 2), 2), long);
+  const text = bf.secrets.splitToText(secret, 5, 3);
+  const lines = text.split("\n");
+  assert.deepEqual(bf.secrets.combineText(`\n${lines.slice(1, 4).reverse().join("\n\n")}`), secret);
+  assert.match(text, /^share-1-1b0301/);
+  const again = bf.secrets.splitToText(secret, 5, 3).split("\n");
+  for (
+    const [given, code, line] of [
+      [["", ""], "NO_SHARE", undefined],
+      [[lines[0], "share-2-1b"], "NO_SHARE", 2],
+      [[lines[0], lines[1], lines[2].slice(0, -1)], "MISTYPED", 3],
+      [[lines[0], lines[1].replace(/.$/, (it) => (it === "0" ? "1" : "0"))], "MISTYPED", 2],
+      [[lines[0], again[1]], "OTHER_SET", 2],
+      [lines.slice(0, 2), "BF_TOO_FEW_SHARDS", undefined],
+      [[lines[0], lines[1], lines[1]], "BF_CODE", undefined],
+    ]
+  ) assert.throws(() => bf.secrets.combineText(given.join("\n")), { name: "ShareTextError", code, line });
+});
+
 test("lines", () => {
   for (
     const [line, answer] of [
@@ -154,6 +188,7 @@ const detached = () => {
 };
 const [T8, G128, GF2] = [bf.BinaryField8, bf.Ghash128, bf.Gf2];
 const eight = () => new Uint8Array(8);
+const sharesAt = (...indexes) => indexes.map((index) => ({ index, bytes: eight() }));
 const liar = Object.defineProperty(eight(), "length", { value: 1 << 20 });
 const MISUSES = [
   ["an array of another type", () => T8.multiply(new Uint16Array(8), eight()), TypeError],
@@ -201,6 +236,20 @@ const MISUSES = [
   ["a matrix without an inverse", () => T8.matrix.inverse(new Uint8Array(4), 2), { code: "BF_UNSOLVABLE" }],
   ["zeros of a huge number", () => T8.zeros(2 ** 45), RangeError],
   ["a line that is a number", () => bf.answer(5), TypeError],
+  ["a secret that is a text", () => bf.secrets.split("key", 5, 3), TypeError],
+  ["an empty secret", () => bf.secrets.split(new Uint8Array(0), 5, 3), { code: "BF_LENGTH" }],
+  ["one share needed", () => bf.secrets.split(eight(), 5, 1), { code: "BF_CODE" }],
+  ["more shares needed than there are", () => bf.secrets.split(eight(), 5, 6), { code: "BF_CODE" }],
+  ["256 shares", () => bf.secrets.split(eight(), 256, 3), { code: "BF_CODE" }],
+  ["a field that is none", () => bf.secrets.split(eight(), 5, 3, { field: "toString" }), RangeError],
+  [
+    "shares of unlike lengths",
+    () => bf.secrets.combine([{ index: 1, bytes: eight() }, { index: 2, bytes: new Uint8Array(9) }], 2),
+    RangeError
+  ],
+  ["a share at index 0", () => bf.secrets.combine(sharesAt(0, 1), 2), { code: "BF_CODE" }],
+  ["an index above 255", () => bf.secrets.combine(sharesAt(256, 1), 2), RangeError],
+  ["shares that are no list", () => bf.secrets.combine(5, 2), TypeError],
   ["a function that is not there", () => bf.call("t8_divide", eight(), eight()), TypeError],
   ["another number of arguments", () => bf.call("t8_square", eight()), TypeError],
 ];

@@ -1,6 +1,6 @@
 // The page in headless Chromium, clicked through as a person would: check_page.mjs BROWSER FOLDER CASES [PICTURE].
 // FOLDER has web/ and cases/ as scripts/test-web lays them out; CASES is a step for the replay of the cases in the
-// browser. The program `shards` is taken from SHARDS, if there.
+// browser. The programs `shards` and `secret` are taken from SHARDS and SECRET, if there.
 import assert from "node:assert/strict";
 import { spawnSync } from "node:child_process";
 import { createHash, randomBytes } from "node:crypto";
@@ -14,7 +14,7 @@ const { address, close } = await serve(folder);
 const work = fs.mkdtempSync(path.join(os.tmpdir(), "page-"));
 const page = await Page.open(browser);
 const say = (text) => console.log(`check_page: ${text}`);
-const SHARDS = process.env.SHARDS;
+const { SHARDS, SECRET } = process.env;
 
 /** What the page has to be within a second of the start of its load, on a machine that has little else to do. */
 async function load() {
@@ -205,6 +205,77 @@ async function transform() {
   await page.type("#coefficients", "0 0 0 0 0 1 0 0");
 }
 
+/** A secret is shared, lines are taken away and mistyped, and lines go to the program `secret` and back. */
+async function secrets() {
+  const says = () => page.text("#secret-says");
+  const lines = () => page.value(`document.querySelector("#share-lines").value`);
+  const give = async (left) => {
+    await page.type("#share-lines", left);
+    return page.text("#combined");
+  };
+  await page.type("#secret", "a kéy of no door");
+  await page.type("#secret-shares", "6");
+  await page.click("#secret-split");
+  assert.match(await says(), /^6 shares, of which any 3 give the secret/);
+  assert.equal(await page.text("#combined"), "as text: a kéy of no door");
+  const all = (await lines()).trim().split("\n");
+  assert.equal(all.length, 6);
+  assert.ok(all.every((it, at) => it.startsWith(`share-1-1b030${at + 1}`) && it.length === all[0].length));
+  for (let left = 5; left >= 3; left--) {
+    await page.click("#secret-lose");
+    assert.equal(await says(), `${left} shares give the secret.`);
+    assert.equal(await page.text("#combined"), "as text: a kéy of no door");
+  }
+  await page.click("#secret-lose");
+  assert.deepEqual(
+    [await says(), await page.text("#combined")], ["There is no secret: there are fewer shares than are needed.", ""]
+  );
+  const capitals = all[0].toUpperCase().replace("SHARE", "share");
+  assert.equal(await give(`\n${all[4]}\n\n${capitals}\n${all[2]}`), "as text: a kéy of no door");
+  const mistyped = all[2].slice(0, 40) + (all[2][40] === "7" ? "8" : "7") + all[2].slice(41);
+  const other = (await page.value(`(document.querySelector("#secret-split").click(), 0)`), (await lines()).split("\n"));
+  assert.notEqual(other[0], all[0]);
+  const wrong = [
+    [[all[0], all[1], mistyped], "the share in line 3 is mistyped: its check sum is another"],
+    [[all[0], all[1], `${all[2]}0`], "the share in line 3 is mistyped: its check sum is another"],
+    [[all[0], "share-2-00"], "line 2 is no share"],
+    [[all[0], other[1], all[2]], "the share in line 2 is of another set than the first"],
+    [[all[0], all[1], all[1]], "two shares have one index"],
+  ];
+  for (const [given, reason] of wrong) {
+    assert.equal(await give(given.join("\n")), "");
+    assert.equal(await says(), `There is no secret: ${reason}.`);
+    if (SECRET) assert.equal(secret(["combine"], `${given.join("\n")}\n`, 1).stderr.toString(), `secret: ${reason}\n`);
+  }
+  await page.choose("#secret-form", "hex");
+  await page.type("#secret", "00 ff0a0");
+  await page.click("#secret-split");
+  assert.match(await says(), /no hexadecimal number of whole bytes/);
+  await page.type("#secret-needed", "7");
+  await page.type("#secret", "00ff0a00");
+  await page.click("#secret-split");
+  assert.match(await says(), /^At least 2 shares are needed/);
+  await page.type("#secret-needed", "3");
+  await page.click("#secret-split");
+  assert.equal(await page.text("#combined"), "in hexadecimal: 00ff0a00");
+  if (!SECRET) return say("left out: shares of the program `secret`, which is not there");
+  const left = (await lines()).split("\n").slice(2, 5).join("\n");
+  assert.deepEqual([...secret(["combine"], left).stdout], [0, 255, 10, 0]);
+  for (const field of ["aes", "gfshare"]) {
+    const words = ["split", "--shares", "9", "--needed", "4", "--field", field];
+    const made = secret(words, "from the program").stdout.toString().split("\n");
+    assert.equal(await give(made.slice(3, 8).join("\n")), "as text: from the program");
+  }
+  say("the program `secret` combines shares of the page, and the page those of the program");
+}
+
+// Runs the program `secret`.
+function secret(words, input, status = 0) {
+  const ran = spawnSync(SECRET, words, { input });
+  assert.equal(ran.status, status, ran.stderr.toString());
+  return ran;
+}
+
 /** Each control has a name, as a screen reader says it, and the focus goes through all of them. */
 async function accessible() {
   const { nodes } = await page.send("Accessibility.getFullAXTree");
@@ -217,8 +288,8 @@ async function accessible() {
   assert.deepEqual(unnamed.map((it) => it.role.value), []);
   assert.ok(controls.length > 20, `${controls.length} controls`);
   assert.deepEqual(
-    nodes.filter((it) => it.role?.value === "heading").map((it) => it.name.value).slice(0, 4),
-    ["Binary fields, proved", "Ask", "Lose a shard", "See a transform"]
+    nodes.filter((it) => it.role?.value === "heading").map((it) => it.name.value).slice(0, 5),
+    ["Binary fields, proved", "Ask", "Lose a shard", "See a transform", "Share a secret"]
   );
   await page.value(`document.activeElement.blur(), scrollTo(0, 0), getSelection().collapse(document.body, 0)`);
   const seen = new Set();
@@ -239,7 +310,11 @@ async function accessible() {
       "split",
       "coefficients",
       "stage",
-      "forth"
+      "forth",
+      "secret",
+      "secret-needed",
+      "share-lines",
+      "secret-lose"
     ]
   ) assert.ok(seen.has(it), `${it} has no focus by the keyboard`);
   // Texts have the contrast of WCAG's level AA, and nothing is wider than a telephone, in light and in dark.
@@ -295,13 +370,14 @@ try {
   await load();
   await ask();
   await transform();
+  await secrets();
   await shards();
   await accessible();
   if (picture) {
     await page.choose("#field", "t4");
     await page.choose("#operation", "mul");
     await page.send(
-      "Emulation.setDeviceMetricsOverride", { width: 1000, height: 2590, deviceScaleFactor: 1, mobile: false }
+      "Emulation.setDeviceMetricsOverride", { width: 1000, height: 3180, deviceScaleFactor: 1, mobile: false }
     );
     await page.value("document.activeElement.blur(), scrollTo(0, 0)");
     await page.picture(picture);

@@ -13,10 +13,12 @@ export async function main(): Promise<void> {
   const { shards } = await split(bf, new Blob([hash]), 4, 2, { signal: new AbortController().signal });
   const names: readonly string[] = bf.fields;
   const text: string = bf.answer("t8 mul 10 10");
+  const restored: Uint8Array = bf.secrets.combine(bf.secrets.split(hash, 5, 3), 3);
+  const lines: string = bf.secrets.splitToText(restored, 5, 3, { field: "gfshare" });
   try {
     bf.ReedSolomon.encode(4, 2, new Uint8Array(shards.length));
   } catch (error) {
-    if (error instanceof BinaryFieldError) console.log(error.code, names, text);
+    if (error instanceof BinaryFieldError) console.log(error.code, names, text, lines);
   }
   // @ts-expect-error: an array of another field
   bf.BinaryField16.square(words);

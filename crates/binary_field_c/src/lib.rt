@@ -5,6 +5,8 @@
 
 mod bit_matrices;
 mod changes;
+mod chosen;
+mod codes;
 mod erasure;
 mod g128;
 mod gf2;
@@ -14,6 +16,7 @@ mod messages;
 mod p192;
 mod p64;
 mod r8;
+mod secrets;
 mod shards;
 mod t128;
 mod t16;

@@ -1,8 +1,11 @@
 mod Calls
+mod ChosenCalls
 mod Endings
 mod Equations
 mod ErasureCounts
 mod ErasureRestored
 mod FactorsTold
 pub mod LowNumbers
+mod ManyWords
 mod PackedRows
+mod ShareCalls

@@ -1,6 +1,8 @@
 pub mod BitMatrices
 pub mod Bytes
 pub mod Calls
+pub mod ChosenFields
+pub mod Codes
 pub mod Erasure
 pub mod Fields
 pub mod Fits
@@ -9,5 +11,6 @@ pub mod Lines
 pub mod Low
 pub mod LowLemmas
 pub mod Matrices
+pub mod Secrets
 pub mod Transforms
 pub mod WideLemmas

@@ -12,11 +12,14 @@ pub const NOT_AN_ELEMENT: u32 = 2;
 /// Memory was refused.
 pub const MEMORY: u32 = 3;
 
-/// No code has so many shards of data and of parity.
+/// No code or shares have these numbers.
 pub const CODE: u32 = 4;
 
-/// Fewer shards are present than the data have.
+/// Fewer shards are present than the data have, or fewer shares than are needed.
 pub const TOO_FEW_SHARDS: u32 = 5;
 
-/// The equations have no solution, or the matrix has no inverse.
+/// The equations have no solution, the matrix no inverse, or the shares no secret.
 pub const UNSOLVABLE: u32 = 6;
+
+/// No field has the modulus: it is no irreducible polynomial of degree 1 to 128.
+pub const REDUCIBLE: u32 = 7;

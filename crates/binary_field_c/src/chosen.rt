@@ -1,0 +1,113 @@
+// Calls over slices of elements of a field that the caller chooses.
+// Written by scripts/make_c_exports.py; do not edit.
+ghost use Rattle.c_calls.specs.ChosenFields.{OverField, PreparesField, TakesTraces, chosen_field};
+ghost use Rattle.c_calls.specs.Calls.{Adds, Inverts, Multiplies, MultipliesBy, RaisesTo, Squares, TakesRoots};
+ghost use Rattle.c_calls.specs.Fields.{wide_number};
+
+use c_calls::{ChosenField, Wide};
+
+/// The field of the polynomials modulo x^degree + tail, for the other functions bf_field_*.
+#[unsafe(no_mangle)]
+pub extern "C" fn bf_field_init(field: &mut ChosenField, degree: u64, tail: &Wide) -> u32
+    ensures { PreparesField degree (wide_number tail.now) field.old field.new result }
+{
+    c_calls::fields::init(field, degree, *tail)
+}
+
+/// The sum of the elements at each place.
+#[unsafe(no_mangle)]
+pub extern "C" fn bf_field_add(
+    field: &ChosenField,
+    left: &[Wide],
+    right: &[Wide],
+    sums: &mut [Wide],
+) -> u32
+    ensures { OverField field.now (Adds (chosen_field field.now) left.now right.now sums.old sums.new result) sums.old sums.new result }
+{
+    c_calls::fields::add(*field, left, right, sums)
+}
+
+/// The product of the elements at each place.
+#[unsafe(no_mangle)]
+pub extern "C" fn bf_field_multiply(
+    field: &ChosenField,
+    left: &[Wide],
+    right: &[Wide],
+    products: &mut [Wide],
+) -> u32
+    ensures { OverField field.now (Multiplies (chosen_field field.now) left.now right.now
+        products.old products.new result) products.old products.new result }
+{
+    c_calls::fields::multiply(*field, left, right, products)
+}
+
+/// The product of each element and the scalar.
+#[unsafe(no_mangle)]
+pub extern "C" fn bf_field_multiply_by(
+    field: &ChosenField,
+    values: &[Wide],
+    scalar: &Wide,
+    products: &mut [Wide],
+) -> u32
+    ensures { OverField field.now (MultipliesBy (chosen_field field.now) scalar.now values.now
+        products.old products.new result) products.old products.new result }
+{
+    c_calls::fields::multiply_by(*field, values, *scalar, products)
+}
+
+/// The square of each element.
+#[unsafe(no_mangle)]
+pub extern "C" fn bf_field_square(field: &ChosenField, values: &[Wide], squares: &mut [Wide]) -> u32
+    ensures { OverField field.now (Squares (chosen_field field.now) values.now squares.old
+        squares.new result) squares.old squares.new result }
+{
+    c_calls::fields::square(*field, values, squares)
+}
+
+/// The inverse of each element, and 0 for 0.
+#[unsafe(no_mangle)]
+pub extern "C" fn bf_field_inverse(
+    field: &ChosenField,
+    values: &[Wide],
+    inverses: &mut [Wide],
+) -> u32
+    ensures { OverField field.now (Inverts (chosen_field field.now) values.now inverses.old
+        inverses.new result) inverses.old inverses.new result }
+{
+    c_calls::fields::inverse(*field, values, inverses)
+}
+
+/// The square root of each element.
+#[unsafe(no_mangle)]
+pub extern "C" fn bf_field_square_root(
+    field: &ChosenField,
+    values: &[Wide],
+    roots: &mut [Wide],
+) -> u32
+    ensures { OverField field.now (TakesRoots (chosen_field field.now) values.now roots.old roots.new result) roots.old roots.new result }
+{
+    c_calls::fields::square_root(*field, values, roots)
+}
+
+/// Each element to the power of the exponent; to the power 0 it is 1.
+#[unsafe(no_mangle)]
+pub extern "C" fn bf_field_power(
+    field: &ChosenField,
+    values: &[Wide],
+    exponent: u64,
+    powers: &mut [Wide],
+) -> u32
+    ensures { OverField field.now (RaisesTo (chosen_field field.now) exponent values.now powers.old
+        powers.new result) powers.old powers.new result }
+{
+    c_calls::fields::power(*field, values, exponent, powers)
+}
+
+/// The trace of each element over GF(2), which is 0 or 1.
+#[unsafe(no_mangle)]
+pub extern "C" fn bf_field_trace(field: &ChosenField, values: &[Wide], traces: &mut [Wide]) -> u32
+    ensures { OverField field.now (TakesTraces (chosen_field field.now) values.now traces.old
+        traces.new result) traces.old traces.new result }
+{
+    c_calls::fields::trace(*field, values, traces)
+}

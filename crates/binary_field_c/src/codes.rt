@@ -1,0 +1,52 @@
+// Calls of Reed-Solomon codes over bytes that correct errors, on words that stand one after the other.
+// Written by scripts/make_c_exports.py; do not edit.
+ghost use Rattle.c_calls.specs.Codes.{EncodesWords, TellsCodeWords, WritesSyndromes};
+
+/// Writes the symbols behind the data of each word, so that it is a word of the code.
+#[unsafe(no_mangle)]
+pub extern "C" fn bf_code_encode(
+    modulus: u64,
+    symbols: u64,
+    data: u64,
+    first_root: u64,
+    root_step: u64,
+    words: &mut [u8],
+) -> u32
+    ensures { EncodesWords modulus symbols «data» first_root root_step words.old words.new result }
+{
+    c_calls::codes::encode(modulus, symbols, data, first_root, root_step, words)
+}
+
+/// The values of each word at the roots, that at the first root first; symbols - data of them a word.
+#[unsafe(no_mangle)]
+pub extern "C" fn bf_code_syndromes(
+    modulus: u64,
+    symbols: u64,
+    data: u64,
+    first_root: u64,
+    root_step: u64,
+    words: &[u8],
+    syndromes: &mut [u8],
+) -> u32
+    ensures { WritesSyndromes modulus symbols «data» first_root root_step words.now syndromes.old syndromes.new result }
+{
+    c_calls::codes::syndromes(
+        modulus, symbols, data, first_root, root_step, words, syndromes,
+    )
+}
+
+/// 1 for each word that is one of the code, 0 for each other.
+#[unsafe(no_mangle)]
+pub extern "C" fn bf_code_are_words(
+    modulus: u64,
+    symbols: u64,
+    data: u64,
+    first_root: u64,
+    root_step: u64,
+    words: &[u8],
+    flags: &mut [u8],
+) -> u32
+    ensures { TellsCodeWords modulus symbols «data» first_root root_step words.now flags.old flags.new result }
+{
+    c_calls::codes::are_words(modulus, symbols, data, first_root, root_step, words, flags)
+}

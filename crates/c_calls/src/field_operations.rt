@@ -1,0 +1,156 @@
+// Operations on one element and on two of a field that a caller chooses, which calls over slices apply.
+ghost use Rattle.std.specs.Prelude.{◌≡◌, ◌<◌, ◌^◌, ℕ, bit_xor};
+ghost use Rattle.field_base.specs.Field.{IsInverseOrZero};
+ghost use Rattle.field_base.specs.Powers.{power, sum_of_squarings};
+ghost use Rattle.any_field.specs.Contexts.{field_product};
+
+use any_field::BinaryExtension;
+
+/// An operation on one element.
+pub(crate) trait AtOne {
+    // The bits of its operand, and how its result is related to that.
+    ghost width: { Self → ℕ };
+
+    ghost gives: { Self → ℕ → ℕ → Type 0 };
+
+    /// Its result at an element.
+    fn at(&self, x: u128) -> u128
+        requires { x < 2 ^ width self.now }
+        ensures { gives self.now x result };
+}
+
+/// An operation on two words.
+pub(crate) trait AtTwo {
+    // How its result is related to its operands.
+    ghost gives: { Self → ℕ → ℕ → ℕ → Type 0 };
+
+    /// Its result at two words.
+    fn at(&self, x: u128, y: u128) -> u128
+        ensures { gives self.now x y result };
+}
+
+/// The product by a scalar.
+#[derive(Drop)]
+pub(crate) struct Multiple {
+    pub(crate) field: BinaryExtension,
+    pub(crate) scalar: u128,
+}
+
+impl AtOne for Multiple {
+    ghost width = { λ operation. operation.field.degree };
+
+    ghost gives = { λ operation x y. y ≡ field_product operation.field.degree operation.field.tail x operation.scalar };
+
+    fn at(&self, x: u128) -> u128 {
+        self.field.multiply(x, self.scalar)
+    }
+}
+
+/// The square.
+#[derive(Drop)]
+pub(crate) struct Squared {
+    pub(crate) field: BinaryExtension,
+}
+
+impl AtOne for Squared {
+    ghost width = { λ operation. operation.field.degree };
+
+    ghost gives = { λ operation x y. y ≡ field_product operation.field.degree operation.field.tail x x };
+
+    fn at(&self, x: u128) -> u128 {
+        self.field.multiply(x, x)
+    }
+}
+
+/// The power of an exponent.
+#[derive(Drop)]
+pub(crate) struct Raised {
+    pub(crate) field: BinaryExtension,
+    pub(crate) exponent: u64,
+}
+
+impl AtOne for Raised {
+    ghost width = { λ operation. operation.field.degree };
+
+    ghost gives = { λ operation x y. y ≡ power 1 (field_product operation.field.degree operation.field.tail) x operation.exponent };
+
+    fn at(&self, x: u128) -> u128 {
+        self.field.power(x, u128::from(self.exponent))
+    }
+}
+
+/// The square root.
+#[derive(Drop)]
+pub(crate) struct Rooted {
+    pub(crate) field: BinaryExtension,
+}
+
+impl AtOne for Rooted {
+    ghost width = { λ operation. operation.field.degree };
+
+    ghost gives = { λ operation x y. (y < 2 ^ operation.field.degree)
+        × (field_product operation.field.degree operation.field.tail y y ≡ x) };
+
+    fn at(&self, x: u128) -> u128 {
+        self.field.square_root(x)
+    }
+}
+
+/// The inverse, and 0 for 0.
+#[derive(Drop)]
+pub(crate) struct Inverted {
+    pub(crate) field: BinaryExtension,
+}
+
+impl AtOne for Inverted {
+    ghost width = { λ operation. operation.field.degree };
+
+    ghost gives = { λ operation x y. (y < 2 ^ operation.field.degree)
+        × IsInverseOrZero (field_product operation.field.degree operation.field.tail) x y };
+
+    fn at(&self, x: u128) -> u128 {
+        self.field.invert(x)
+    }
+}
+
+/// The trace over GF(2).
+#[derive(Drop)]
+pub(crate) struct Traced {
+    pub(crate) field: BinaryExtension,
+}
+
+impl AtOne for Traced {
+    ghost width = { λ operation. operation.field.degree };
+
+    ghost gives = { λ operation x y. y ≡ sum_of_squarings 1 (field_product operation.field.degree operation.field.tail)
+        operation.field.degree x };
+
+    fn at(&self, x: u128) -> u128 {
+        self.field.trace(x)
+    }
+}
+
+/// The sum.
+pub(crate) struct Together;
+
+impl AtTwo for Together {
+    ghost gives = { λ operation x y z. z ≡ bit_xor x y };
+
+    fn at(&self, x: u128, y: u128) -> u128 {
+        x ^ y
+    }
+}
+
+/// The product.
+#[derive(Drop)]
+pub(crate) struct Times {
+    pub(crate) field: BinaryExtension,
+}
+
+impl AtTwo for Times {
+    ghost gives = { λ operation x y z. z ≡ field_product operation.field.degree operation.field.tail x y };
+
+    fn at(&self, x: u128, y: u128) -> u128 {
+        self.field.multiply(x, y)
+    }
+}

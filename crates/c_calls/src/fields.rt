@@ -1,0 +1,233 @@
+// Calls over slices of elements of a field that the caller chooses: modulo any irreducible polynomial of degree 1 to 128.
+ghost use Rattle.std.specs.Prelude.{◌≡◌, ◌^◌, ◌<◌, ◌↔◌, IfNone, IfSome, IsTrue};
+ghost use Rattle.any_field.specs.Contexts.{IsFieldModulus};
+ghost use Rattle.many_words.specs.Words.{AreElements};
+ghost use Rattle.c_calls.specs.Calls.{Adds, CallOnEach, CallOnTwo, Inverts, Multiplies, MultipliesBy, RaisesTo, Squares, TakesRoots};
+ghost use Rattle.c_calls.specs.ChosenFields.{NamesAField, OverField, PreparesField, TakesTraces};
+ghost use Rattle.c_calls.specs.ChosenFields.{chosen_field, residue_field};
+ghost use Rattle.c_calls.specs.Fields.{wide_number};
+
+use crate::field_operations::{
+    AtOne, AtTwo, Inverted, Multiple, Raised, Rooted, Squared, Times, Together, Traced,
+};
+use crate::field_words::ChosenField;
+use crate::status;
+use crate::wide::Wide;
+use any_field::BinaryExtension;
+use field_base::{Holds, Reads};
+
+/// Writes the words of the field modulo x^degree + tail.
+pub fn init(field: &mut ChosenField, degree: u64, tail: Wide) -> u32
+    ensures { PreparesField degree (wide_number tail) field.old field.new result }
+{
+    match extension_of(degree, tail.stored()) {
+        None => status::REDUCIBLE,
+        Some(_) => {
+            let spare = Wide::of_stored(0);
+            *field = ChosenField {
+                degree,
+                tail,
+                spare,
+            };
+            status::OK
+        }
+    }
+}
+
+// The field modulo x^degree + tail.
+fn extension_of(degree: u64, tail: u128) -> Option<BinaryExtension>
+    ensures some { IfSome result (λ field. (field.degree ≡ degree) × (field.tail ≡ tail) × IsFieldModulus degree tail) }
+    ensures none { IfNone result (IsFieldModulus degree tail → ⊥) }
+{
+    if degree > 128 {
+        return None;
+    }
+    match BinaryExtension::new(degree as u32, tail) {
+        Ok(field) => Some(field),
+        Err(_) => None,
+    }
+}
+
+// The field of the words. That the modulus is irreducible is tested anew.
+fn field_of_words(words: ChosenField) -> Option<BinaryExtension>
+    ensures some { IfSome result (λ field. (field.degree ≡ words.degree) × (field.tail ≡ wide_number words.tail) × NamesAField words) }
+    ensures none { IfNone result (NamesAField words → ⊥) }
+{
+    extension_of(words.degree, words.tail.stored())
+}
+
+// Whether every word is an element.
+fn are_elements(field: BinaryExtension, words: &[Wide]) -> bool
+    ensures { IsTrue result ↔ AreElements (residue_field field.degree field.tail) words.now }
+{
+    let mut all = true;
+    for word in words {
+        all = field.is_element(word.stored()) && all;
+    }
+    all
+}
+
+// Whether every word of both slices is an element.
+fn are_both_elements(field: BinaryExtension, left: &[Wide], right: &[Wide]) -> bool
+    ensures { IsTrue result ↔ (AreElements (residue_field field.degree field.tail) left.now
+        × AreElements (residue_field field.degree field.tail) right.now) }
+{
+    are_elements(field, left) && are_elements(field, right)
+}
+
+// Writes the result of the operation at the word at each place.
+fn write_at_each<O: AtOne>(
+    field: BinaryExtension,
+    words: &[Wide],
+    results: &mut [Wide],
+    operation: &O,
+) -> u32
+    requires { O.width operation.now ≡ field.degree }
+    ensures { CallOnEach (residue_field field.degree field.tail) (O.gives operation.now) words.now results.old results.new result }
+{
+    if words.len() != results.len() {
+        return status::LENGTH;
+    }
+    if !are_elements(field, words) {
+        return status::NOT_AN_ELEMENT;
+    }
+    for place in 0..results.len() {
+        results[place] = Wide::of_stored(operation.at(words[place].stored()));
+    }
+    status::OK
+}
+
+// Writes the result of the operation at the words of two slices at each place.
+fn write_at_two<O: AtTwo>(
+    field: BinaryExtension,
+    left: &[Wide],
+    right: &[Wide],
+    results: &mut [Wide],
+    operation: &O,
+) -> u32
+    ensures { CallOnTwo (residue_field field.degree field.tail) (O.gives operation.now) left.now right.now results.old results.new result }
+{
+    if left.len() != results.len() || right.len() != results.len() {
+        return status::LENGTH;
+    }
+    if !are_both_elements(field, left, right) {
+        return status::NOT_AN_ELEMENT;
+    }
+    for place in 0..results.len() {
+        results[place] = Wide::of_stored(operation.at(left[place].stored(), right[place].stored()));
+    }
+    status::OK
+}
+
+/// Writes the sum of the elements at each place.
+pub fn add(field: ChosenField, left: &[Wide], right: &[Wide], sums: &mut [Wide]) -> u32
+    ensures { OverField field (Adds (chosen_field field) left.now right.now sums.old sums.new result) sums.old sums.new result }
+{
+    match field_of_words(field) {
+        None => status::REDUCIBLE,
+        Some(found) => write_at_two(found, left, right, sums, &Together),
+    }
+}
+
+/// Writes the product of the elements at each place.
+pub fn multiply(field: ChosenField, left: &[Wide], right: &[Wide], products: &mut [Wide]) -> u32
+    ensures { OverField field (Multiplies (chosen_field field) left.now right.now products.old products.new result)
+        products.old products.new result }
+{
+    match field_of_words(field) {
+        None => status::REDUCIBLE,
+        Some(found) => write_at_two(found, left, right, products, &Times { field: found }),
+    }
+}
+
+/// Writes the product of each element and the scalar.
+pub fn multiply_by(field: ChosenField, words: &[Wide], scalar: Wide, products: &mut [Wide]) -> u32
+    ensures { OverField field (MultipliesBy (chosen_field field) scalar words.now products.old products.new result)
+        products.old products.new result }
+{
+    match field_of_words(field) {
+        None => status::REDUCIBLE,
+        Some(found) => write_multiples(found, words, scalar, products),
+    }
+}
+
+// Writes the product of each element and the scalar.
+fn write_multiples(
+    field: BinaryExtension,
+    words: &[Wide],
+    scalar: Wide,
+    products: &mut [Wide],
+) -> u32
+    ensures { MultipliesBy (residue_field field.degree field.tail) scalar words.now products.old products.new result }
+{
+    if words.len() != products.len() {
+        return status::LENGTH;
+    }
+    let number = scalar.stored();
+    if !field.is_element(number) {
+        return status::NOT_AN_ELEMENT;
+    }
+    let operation = Multiple {
+        field,
+        scalar: number,
+    };
+    write_at_each(field, words, products, &operation)
+}
+
+/// Writes the square of each element.
+pub fn square(field: ChosenField, words: &[Wide], squares: &mut [Wide]) -> u32
+    ensures { OverField field (Squares (chosen_field field) words.now squares.old squares.new result) squares.old squares.new result }
+{
+    match field_of_words(field) {
+        None => status::REDUCIBLE,
+        Some(found) => write_at_each(found, words, squares, &Squared { field: found }),
+    }
+}
+
+/// Writes the inverse of each element, and 0 for 0.
+pub fn inverse(field: ChosenField, words: &[Wide], inverses: &mut [Wide]) -> u32
+    ensures { OverField field (Inverts (chosen_field field) words.now inverses.old inverses.new result) inverses.old inverses.new result }
+{
+    match field_of_words(field) {
+        None => status::REDUCIBLE,
+        Some(found) => write_at_each(found, words, inverses, &Inverted { field: found }),
+    }
+}
+
+/// Writes the square root of each element.
+pub fn square_root(field: ChosenField, words: &[Wide], roots: &mut [Wide]) -> u32
+    ensures { OverField field (TakesRoots (chosen_field field) words.now roots.old roots.new result) roots.old roots.new result }
+{
+    match field_of_words(field) {
+        None => status::REDUCIBLE,
+        Some(found) => write_at_each(found, words, roots, &Rooted { field: found }),
+    }
+}
+
+/// Writes each element to the power of the exponent; to the power of 0 it is 1.
+pub fn power(field: ChosenField, words: &[Wide], exponent: u64, powers: &mut [Wide]) -> u32
+    ensures { OverField field (RaisesTo (chosen_field field) exponent words.now powers.old powers.new result) powers.old powers.new result }
+{
+    match field_of_words(field) {
+        None => status::REDUCIBLE,
+        Some(found) => write_at_each(
+            found,
+            words,
+            powers,
+            &Raised {
+                field: found,
+                exponent,
+            },
+        ),
+    }
+}
+
+/// Writes the trace of each element over GF(2): 0 or 1.
+pub fn trace(field: ChosenField, words: &[Wide], traces: &mut [Wide]) -> u32
+    ensures { OverField field (TakesTraces (chosen_field field) words.now traces.old traces.new result) traces.old traces.new result }
+{
+    match field_of_words(field) {
+        None => status::REDUCIBLE,
+        Some(found) => write_at_each(found, words, traces, &Traced { field: found }),
+    }
+}

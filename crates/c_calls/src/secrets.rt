@@ -1,0 +1,70 @@
+// Shares of a secret, which stand one after the other, over the field of bytes whose modulus is named.
+ghost use Rattle.std.specs.Prelude.{◌≡◌, ◌≢◌, MatchOption};
+ghost use Rattle.secret_sharing.specs.Fields.{modulus_of};
+ghost use Rattle.secret_sharing.specs.declared.field.ShareField.{ShareField};
+ghost use Rattle.c_calls.specs.Secrets.{CombinesShares, SplitsSecret};
+
+use crate::status;
+use secret_sharing::{ShareField, SharingError};
+
+/// Writes `count` shares of a secret, any `needed` of which restore it, from drawn bytes.
+pub fn split_secret(
+    modulus: u64,
+    needed: u64,
+    count: u64,
+    secret: &[u8],
+    draws: &[u8],
+    shares: &mut [u8],
+) -> u32
+    ensures { SplitsSecret modulus needed count secret.now draws.now shares.old shares.new result }
+{
+    let Some(field) = field_of(modulus) else {
+        return status::CODE;
+    };
+    match secret_sharing::split(
+        field,
+        needed as usize,
+        secret,
+        draws,
+        count as usize,
+        shares,
+    ) {
+        Ok(()) => status::OK,
+        Err(SharingError::EmptySecret | SharingError::WrongDraws | SharingError::UnequalLengths) =>
+            status::LENGTH,
+        Err(_) => status::CODE,
+    }
+}
+
+/// Restores a secret from shares with these indexes, `needed` of which are needed.
+pub fn combine_shares(
+    modulus: u64,
+    needed: u64,
+    indexes: &[u8],
+    shares: &[u8],
+    secret: &mut [u8],
+) -> u32
+    ensures { CombinesShares modulus needed indexes.now shares.now secret.old secret.new result }
+{
+    let Some(field) = field_of(modulus) else {
+        return status::CODE;
+    };
+    match secret_sharing::combine(field, needed as usize, indexes, shares, secret) {
+        Ok(()) => status::OK,
+        Err(SharingError::TooFewShares) => status::TOO_FEW_SHARDS,
+        Err(SharingError::EmptySecret | SharingError::UnequalLengths) => status::LENGTH,
+        Err(SharingError::WrongShare) => status::UNSOLVABLE,
+        Err(_) => status::CODE,
+    }
+}
+
+// The field with that modulus.
+fn field_of(modulus: u64) -> Option<ShareField>
+    ensures { MatchOption result ((field : ShareField) → modulus_of field ≢ modulus) (λ field. modulus_of field ≡ modulus) }
+{
+    match modulus {
+        0x11b => Some(ShareField::Rijndael),
+        0x11d => Some(ShareField::Gfshare),
+        _ => None,
+    }
+}

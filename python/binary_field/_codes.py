@@ -1,0 +1,211 @@
+"""Reed-Solomon codes over bytes that correct errors, with the names of galois."""
+
+from __future__ import annotations
+
+import operator
+from typing import Any
+
+import numpy as np
+
+from ._library import Words, call
+from ._storage import Stored
+
+# What a call takes of an integer: a number of 64 bits.
+_END = 1 << 64
+
+
+def _symbols(value: Any) -> Words:
+    """Symbols as an array of bytes: of an object that lends them or a list of such, of elements that are bytes, or of integers."""
+    if isinstance(value, Stored):
+        value = value.to_words()
+    if isinstance(value, (bytes, bytearray, memoryview)):
+        return np.frombuffer(value, np.uint8)
+    if isinstance(value, (list, tuple)) and value and isinstance(value[0], (bytes, bytearray, memoryview)):
+        value = [np.frombuffer(it, np.uint8) for it in value]
+    symbols = np.asarray(value)
+    if symbols.dtype != np.uint8:
+        if symbols.dtype.kind not in "iu" or symbols.size and not 0 <= int(symbols.min()) <= int(symbols.max()) <= 255:
+            raise ValueError("expected symbols, which are integers from 0 to 255")
+        symbols = symbols.astype(np.uint8)
+    return np.asarray(symbols, order="C")
+
+
+class CorrectingCode:
+    """A Reed-Solomon code over bytes that corrects errors: words of `n` symbols, at most 255, of which the first `k` are data. `ReedSolomon`
+    is another code, which restores what is known to be lost.
+
+    The first symbol is the coefficient of the highest power, and a word is one of the code where its polynomial is 0 at each of n - k roots:
+    the powers root_step * c, root_step * (c + 1), .. of the field's generator. The field is given by its modulus, as an integer whose bit i
+    is that of x^i: 0x11d (QR codes, DVB) and 0x187 (CCSDS) with the generator 2, and 0x11b (AES) with 3. Instead of `k` there may be the
+    minimum distance `d`, which is n - k + 1. Calls take one word, or arrays of words in their last axis, and return bytes. A word may be
+    shortened: then it lacks symbols of data at its front.
+
+    >>> code = bf.CorrectingCode(15, 9, c=1, field=0x11d)
+    >>> code.n, code.k, code.d, code.t
+    (15, 9, 7, 3)
+    >>> words = code.encode([b"some data", b"more data"])
+    >>> words[0].tobytes()[:9], words.shape
+    (b'some data', (2, 15))
+    >>> words[1, 4] ^= 1
+    >>> code.detect(words).tolist()
+    [False, True]
+    >>> code.encode(b"short").shape
+    (11,)
+    """
+
+    def __init__(self, n: int, k: int | None = None, d: int | None = None, *, c: int = 1, root_step: int = 1, field: int = 0x11D) -> None:
+        self._n, self._c, self._step, self._field = (operator.index(it) for it in (n, c, root_step, field))
+        if k is not None and d is None:
+            self._k = operator.index(k)
+        elif d is not None and k is None:
+            self._k = self._n + 1 - operator.index(d)
+        else:
+            raise ValueError("expected k or d, and not both")
+        if not all(0 <= it < _END for it in (self._n, self._k, self._c, self._step, self._field)):
+            raise ValueError("no code has a number below 0, or of more than 64 bits")
+        # This tells whether there is such a code.
+        call("code_encode", *self._of(self._n), np.empty(0, np.uint8))
+
+    @classmethod
+    def ccsds_223(cls) -> CorrectingCode:
+        """The code of telemetry, with 223 symbols of data in words of 255 (CCSDS 131.0-B, section 4), over bytes in the basis of powers of x.
+
+        >>> bf.CorrectingCode.ccsds_223()
+        CorrectingCode(255, 223, c=112, root_step=11, field=0x187)
+        """
+        return cls(255, 223, c=112, root_step=11, field=0x187)
+
+    @classmethod
+    def dvb_188(cls) -> CorrectingCode:
+        """The code of DVB, with 188 symbols of data in words of 204 (ETSI EN 300 421, section 4.4.2).
+
+        >>> bf.CorrectingCode.dvb_188().t
+        8
+        """
+        return cls(204, 188, c=0)
+
+    @classmethod
+    def qr(cls, n: int, k: int) -> CorrectingCode:
+        """The code of a block of a QR code (ISO/IEC 18004, section 7.5).
+
+        >>> bf.CorrectingCode.qr(26, 16).encode(bytes.fromhex("10200c566180ec11ec11ec11ec11ec11"))[16:].tobytes().hex()
+        'a524d4c1ed36c7872c55'
+        """
+        return cls(n, k, c=0)
+
+    @property
+    def n(self) -> int:
+        """How many symbols a word has."""
+        return self._n
+
+    @property
+    def k(self) -> int:
+        """How many symbols of a word are data."""
+        return self._k
+
+    @property
+    def d(self) -> int:
+        """At how many places two words of the code differ at least."""
+        return self._n - self._k + 1
+
+    @property
+    def t(self) -> int:
+        """How many errors, wherever they are, leave one word of the code that is nearest."""
+        return (self._n - self._k) // 2
+
+    @property
+    def c(self) -> int:
+        """The exponent of the first root, which is that power of the second one over the first."""
+        return self._c
+
+    @property
+    def root_step(self) -> int:
+        """The exponent of the field's generator from one root to the next."""
+        return self._step
+
+    @property
+    def field(self) -> int:
+        """The modulus of the field."""
+        return self._field
+
+    @property
+    def is_systematic(self) -> bool:
+        """Whether a word begins with its data, which is so."""
+        return True
+
+    @property
+    def is_narrow_sense(self) -> bool:
+        """Whether c is 1."""
+        return self._c == 1
+
+    @property
+    def roots(self) -> Words:
+        """The roots, each the value of x at itself.
+
+        >>> bf.CorrectingCode(15, 9, c=1).roots.tolist()
+        [2, 4, 8, 16, 32, 64]
+        """
+        return self.syndromes([*[0] * (self._n - 2), 1, 0])
+
+    @property
+    def generator_poly(self) -> Words:
+        """The coefficients of the product of x + r over the roots r, that of the highest power first: the word with 1 as its only data.
+
+        >>> bf.CorrectingCode(5, 3, c=1).generator_poly.tolist()
+        [1, 6, 8]
+        """
+        return self.encode([1])
+
+    def __repr__(self) -> str:
+        return f"CorrectingCode({self.n}, {self.k}, c={self.c}, root_step={self.root_step}, field={self.field:#x})"
+
+    def encode(self, message: Any, output: str = "codeword") -> Words:
+        """The words with these data, k symbols or fewer; with output="parity" only what stands behind the data.
+
+        >>> bf.CorrectingCode(5, 3).encode([[1, 2, 3], [0, 0, 1]], output="parity").tolist()
+        [[74, 152], [6, 8]]
+        """
+        if output not in ("codeword", "parity"):
+            raise ValueError('output is "codeword" or "parity"')
+        data = _symbols(message)
+        if not data.ndim or not 0 < data.shape[-1] <= self._k:
+            raise ValueError(f"expected 1 to {self._k} symbols of data in the last axis")
+        words = np.zeros((*data.shape[:-1], data.shape[-1] + self._n - self._k), np.uint8)
+        words[..., : data.shape[-1]] = data
+        call("code_encode", *self._of(words.shape[-1]), words)
+        return words if output == "codeword" else words[..., data.shape[-1] :].copy()
+
+    def syndromes(self, codeword: Any) -> Words:
+        """The values of words at the roots, in the last axis: all 0 for a word of the code.
+
+        >>> bf.CorrectingCode(5, 3).syndromes([0, 0, 0, 1, 0]).tolist()
+        [2, 4]
+        """
+        words = self._words(codeword)
+        values = np.empty((*words.shape[:-1], self._n - self._k), np.uint8)
+        call("code_syndromes", *self._of(words.shape[-1]), words, values)
+        return values
+
+    def detect(self, codeword: Any) -> Any:
+        """Whether words have errors that are seen: those that are no words of the code. Fewer than d errors are always seen.
+
+        >>> code = bf.CorrectingCode(5, 3)
+        >>> code.detect(code.encode([1, 2, 3])), code.detect([1, 2, 3, 74, 153])
+        (False, True)
+        """
+        words = self._words(codeword)
+        flags = np.empty(words.shape[:-1], np.uint8)
+        call("code_are_words", *self._of(words.shape[-1]), words, flags)
+        return flags == 0 if flags.ndim else not flags
+
+    def _words(self, codeword: Any) -> Words:
+        """Words, which may be shortened."""
+        words = _symbols(codeword)
+        checks = self._n - self._k
+        if not words.ndim or not checks < words.shape[-1] <= self._n:
+            raise ValueError(f"expected {checks + 1} to {self._n} symbols of a word in the last axis")
+        return words
+
+    def _of(self, symbols: int) -> tuple[int, int, int, int, int]:
+        """What a call is told of the code with words of so many symbols."""
+        return self._field, symbols, symbols - (self._n - self._k), self._c, self._step

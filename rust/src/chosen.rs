@@ -1,0 +1,164 @@
+//! Fields of 2^m elements, m from 1 to 128, modulo any irreducible polynomial that the program chooses. An element is a number below 2^m,
+//! whose bit i is the coefficient of x^i, and a sum is the exclusive or. A call fails with `Error::Length` where slices have unlike lengths,
+//! and with `Error::NotAnElement` where a word has a bit at m or above it. On an error nothing is changed.
+
+use crate::Error;
+use crate::functions::*;
+use alloc::vec;
+use alloc::vec::Vec;
+
+// The words that the library takes, the low half of an element first.
+fn words_of(numbers: &[u128]) -> Vec<[u64; 2]> {
+    numbers.iter().map(|it| halves(*it)).collect()
+}
+
+fn halves(number: u128) -> [u64; 2] {
+    [number as u64, (number >> 64) as u64]
+}
+
+fn whole(words: [u64; 2]) -> u128 {
+    u128::from(words[1]) << 64 | u128::from(words[0])
+}
+
+/// A field modulo an irreducible polynomial. A call first tests anew that the modulus is irreducible, which takes as many squarings as its
+/// degree, so that many elements in one call cost less an element.
+#[derive(Clone, Copy, Debug, PartialEq, Eq, Hash)]
+pub struct ChosenField {
+    words: [u64; 5],
+}
+
+impl ChosenField {
+    /// The field modulo x^degree and the terms of `tail`: `Error::Reducible` exactly where that is no irreducible polynomial of degree 1 to
+    /// 128, or the tail has a term at the degree or above it.
+    ///
+    /// ```
+    /// use binary_field::{Error, chosen::ChosenField};
+    ///
+    /// let field = ChosenField::new(8, 0x1d)?;
+    /// let mut products = [0; 2];
+    /// field.multiply(&[2, 0x80], &[2, 2], &mut products)?;
+    /// assert_eq!(products, [4, 0x1d]);
+    /// assert_eq!(ChosenField::new(4, 0b101), Err(Error::Reducible));
+    /// # Ok::<(), Error>(())
+    /// ```
+    pub fn new(degree: usize, tail: u128) -> Result<ChosenField, Error> {
+        let (mut words, tail) = ([0; 5], halves(tail));
+        Error::of(call!(bf_field_init: &raw mut words, degree, &raw const tail))?;
+        Ok(ChosenField { words })
+    }
+
+    /// The degree of the modulus.
+    pub fn degree(&self) -> usize {
+        self.words[0] as usize
+    }
+
+    /// The modulus, but for its highest term.
+    pub fn tail(&self) -> u128 {
+        whole([self.words[1], self.words[2]])
+    }
+
+    // What a call over words of the library leaves, as numbers.
+    fn written(
+        &self,
+        results: &mut [u128],
+        call: impl FnOnce(&mut [[u64; 2]]) -> u32,
+    ) -> Result<(), Error> {
+        let mut made = vec![[0; 2]; results.len()];
+        Error::of(call(&mut made))?;
+        for (result, it) in results.iter_mut().zip(made) {
+            *result = whole(it);
+        }
+        Ok(())
+    }
+
+    /// Writes the sum of the elements at each place.
+    pub fn add(&self, left: &[u128], right: &[u128], sums: &mut [u128]) -> Result<(), Error> {
+        let (left, right) = (words_of(left), words_of(right));
+        self.written(
+            sums,
+            |made| call!(bf_field_add: &raw const self.words, [left], [right], [mut made]),
+        )
+    }
+
+    /// Writes the product of the elements at each place.
+    pub fn multiply(
+        &self,
+        left: &[u128],
+        right: &[u128],
+        products: &mut [u128],
+    ) -> Result<(), Error> {
+        let (left, right) = (words_of(left), words_of(right));
+        self.written(
+            products,
+            |made| call!(bf_field_multiply: &raw const self.words, [left], [right], [mut made]),
+        )
+    }
+
+    /// Writes the product of each element and the scalar.
+    pub fn multiply_by(
+        &self,
+        values: &[u128],
+        scalar: u128,
+        products: &mut [u128],
+    ) -> Result<(), Error> {
+        let (values, scalar) = (words_of(values), halves(scalar));
+        self.written(
+            products,
+            |made| call!(bf_field_multiply_by: &raw const self.words, [values], &raw const scalar, [mut made]),
+        )
+    }
+
+    /// Writes the square of each element.
+    pub fn square(&self, values: &[u128], squares: &mut [u128]) -> Result<(), Error> {
+        let values = words_of(values);
+        self.written(
+            squares,
+            |made| call!(bf_field_square: &raw const self.words, [values], [mut made]),
+        )
+    }
+
+    /// Writes the inverse of each element, and 0 for 0.
+    ///
+    /// ```
+    /// use binary_field::chosen::ChosenField;
+    ///
+    /// let mut inverses = [0; 3];
+    /// ChosenField::new(3, 3)?.inverse(&[0, 1, 2], &mut inverses)?;
+    /// assert_eq!(inverses, [0, 1, 5]);
+    /// # Ok::<(), binary_field::Error>(())
+    /// ```
+    pub fn inverse(&self, values: &[u128], inverses: &mut [u128]) -> Result<(), Error> {
+        let values = words_of(values);
+        self.written(
+            inverses,
+            |made| call!(bf_field_inverse: &raw const self.words, [values], [mut made]),
+        )
+    }
+
+    /// Writes the square root of each element.
+    pub fn square_root(&self, values: &[u128], roots: &mut [u128]) -> Result<(), Error> {
+        let values = words_of(values);
+        self.written(
+            roots,
+            |made| call!(bf_field_square_root: &raw const self.words, [values], [mut made]),
+        )
+    }
+
+    /// Writes each element to the power of the exponent; to the power of 0 it is 1.
+    pub fn power(&self, values: &[u128], exponent: u64, powers: &mut [u128]) -> Result<(), Error> {
+        let values = words_of(values);
+        self.written(
+            powers,
+            |made| call!(bf_field_power: &raw const self.words, [values], exponent, [mut made]),
+        )
+    }
+
+    /// Writes the trace of each element over GF(2), which is 0 or 1.
+    pub fn trace(&self, values: &[u128], traces: &mut [u128]) -> Result<(), Error> {
+        let values = words_of(values);
+        self.written(
+            traces,
+            |made| call!(bf_field_trace: &raw const self.words, [values], [mut made]),
+        )
+    }
+}

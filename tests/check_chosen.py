@@ -1,0 +1,104 @@
+"""Tests the classes of fields that a caller of the Python package chooses, beside plain integers.
+
+    check_chosen.py
+"""
+
+import pickle
+import random
+import unittest
+
+import binary_field as bf
+import definitions
+import numpy as np
+
+# Degrees with moduli: Conway polynomials, those of QR codes, of PAR2, of CCSDS and of NIST's curves below 128, and dense ones.
+MODULI = [
+    (2, 0b111), (3, 0b1011), (3, 0b1101), (5, 0x25), (8, 0x11D), (8, 0x187), (12, 0x10EB), (16, 0x1100B), (31, 0x80000009), (33, 0x200003D49),
+    (64, 0x10000000247F43CB7), (113, 1 << 113 | 1 << 9 | 1), (127, 1 << 127 | 3),
+]
+
+
+class Chosen(unittest.TestCase):
+    """Arrays over such fields."""
+
+    def fields(self):
+        return [(bf.GF(2**degree, irreducible_poly=it), it, random.Random(it)) for degree, it in MODULI]
+
+    def test_arithmetic(self):
+        for field, modulus, draw in self.fields():
+            x = [draw.getrandbits(field.degree) for _ in range(5)] + [0, 1, field.order - 1]
+            y = [draw.getrandbits(field.degree) or 1 for _ in x]
+            a, b = field(x), field(y)
+            times = lambda p, q: definitions.chosen_product(modulus, p, q)
+            self.assertEqual((a + b).tolist(), [p ^ q for p, q in zip(x, y)])
+            self.assertEqual((a * b).tolist(), [times(p, q) for p, q in zip(x, y)])
+            self.assertEqual((a * b[0]).tolist(), [times(p, y[0]) for p in x])
+            self.assertEqual(((a / b) * b).tolist(), x)
+            self.assertEqual((a**5).tolist(), [definitions.chosen_power(modulus, p, 5) for p in x])
+            self.assertEqual((b**-1 * b).tolist(), [1] * len(y))
+            self.assertEqual((a.sqrt() ** 2).tolist(), x)
+            self.assertEqual(a.prod(), 0)
+            self.assertEqual(int(a.dot(b)), definitions.total(times(p, q) for p, q in zip(x, y)))
+            self.assertEqual(a.inverse_or_zero()[5:7].tolist(), [0, 1])
+            traces = [definitions.total(definitions.chosen_power(modulus, p, 1 << i) for i in range(field.degree)) for p in x]
+            self.assertEqual(a.field_trace().tolist(), traces)
+            a[1:] += b[1:]
+            a[1:] *= b[1:]
+            self.assertEqual(a.tolist(), x[:1] + [times(p ^ q, q) for p, q in zip(x[1:], y[1:])])
+
+    def test_facts(self):
+        for field, modulus, draw in self.fields():
+            self.assertEqual((field.order, int(field.irreducible_poly)), (1 << field.degree, modulus))
+            generator = field.primitive_element
+            self.assertTrue(field.is_primitive_element(generator))
+            self.assertFalse(any(field.is_primitive_element(it) for it in range(1, int(generator))))
+            x = field([draw.getrandbits(field.degree) or 1 for _ in range(4)])
+            if field.degree <= 33:
+                self.assertTrue((generator ** x.log() == x).all())
+            self.assertEqual((field.Vector(x.vector())).tolist(), x.tolist())
+            self.assertEqual(int(field.evaluate(x[0].minimal_poly().coeffs.tolist()[::-1], x[0])), 0)
+            self.assertEqual(field(bf.Gf2([0, 1])).tolist(), [0, 1])
+            self.assertRaises(TypeError, field, bf.BinaryField8([1]))
+
+    def test_matrices_and_polynomials(self):
+        for field, _, draw in self.fields():
+            matrix = field([[draw.getrandbits(field.degree) for _ in range(3)] for _ in range(3)])
+            while np.linalg.det(matrix) == 0:
+                matrix = field([[draw.getrandbits(field.degree) for _ in range(3)] for _ in range(3)])
+            right = field([1, 0, 1])
+            self.assertTrue((np.linalg.inv(matrix) @ matrix == field.Identity(3)).all())
+            self.assertTrue((matrix @ np.linalg.solve(matrix, right) == right).all())
+            self.assertEqual((np.linalg.matrix_rank(matrix), np.linalg.matrix_rank(matrix[:2])), (3, 2))
+            self.assertEqual(np.linalg.det(field([[1, 1], [1, 1]])), 0)
+            roots = field([1, field.order - 1])
+            poly = bf.Poly.Roots(roots)
+            self.assertEqual(sorted(poly.roots().tolist()), sorted(roots.tolist()))
+            self.assertEqual(field.evaluate(poly.coeffs[::-1], roots).tolist(), [0, 0])
+
+    def test_one_class_for_the_same_arguments(self):
+        field = bf.GF(2**8, irreducible_poly="x^8 + x^4 + x^3 + x^2 + 1")
+        for other in (bf.GF(2, 8), bf.GF(256, irreducible_poly=0x11D), bf.GF(2, 8, irreducible_poly=bf.Poly.Int(0x11D)),
+                      bf.GF(2**8, irreducible_poly=[1, 0, 0, 0, 1, 1, 1, 0, 1]), bf.GF(2**8, primitive_element="x"), pickle.loads(pickle.dumps(field))):
+            self.assertIs(other, field)
+        array = pickle.loads(pickle.dumps(field([[1, 2], [3, 4]])))
+        self.assertEqual((type(array), array.tolist()), (field, [[1, 2], [3, 4]]))
+        self.assertIs(bf.GF(2**8, irreducible_poly=0x11B), bf.Rijndael8b)
+        self.assertIs(bf.GF(2**64, irreducible_poly=1 << 64 | 0x1B), bf.Poly64)
+        self.assertIs(bf.GF(2**128, irreducible_poly=1 << 128 | 0x87), bf.Ghash128)
+        self.assertIs(bf.GF(2), bf.Gf2)
+        other = bf.GF(2**8, primitive_element=0x1D)
+        self.assertIsNot(other, field)
+        self.assertEqual((int(other.primitive_element), pickle.loads(pickle.dumps(other)) is other), (0x1D, True))
+        self.assertRaises(TypeError, lambda: other([1]) + field([1]))
+
+    def test_what_is_no_field(self):
+        for wrong in ((2**4, 0b10101), (2**4, 0b111), (2**8, 0x101), (2**2, 0b100)):
+            self.assertRaises(ValueError, bf.GF, wrong[0], irreducible_poly=wrong[1])
+        for wrong in ((0,), (1,), (6,), (3, 2), (2, 0), (2, 129), (2**129,), (2**100,)):
+            self.assertRaises(ValueError, bf.GF, *wrong)
+        self.assertRaises(ValueError, bf.GF, 2**8, primitive_element=1)
+        self.assertRaises(ValueError, bf.GF(2**3), [8])
+
+
+if __name__ == "__main__":
+    unittest.main()
