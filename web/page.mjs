@@ -1,6 +1,7 @@
 // The page: it loads the library, and starts its parts.
 import { load } from "./binary_field/binary_field.mjs";
 import { startAsk } from "./ask.mjs";
+import { startSecrets } from "./secrets.mjs";
 import { startShards } from "./shards.mjs";
 import { startTransform } from "./transform.mjs";
 
@@ -12,6 +13,7 @@ try {
   startAsk(bf);
   startShards(bf);
   startTransform(bf);
+  startSecrets(bf);
   const spent = Math.round(performance.now() - began);
   state.textContent = `The library, version ${bf.version}, was loaded in ${spent} milliseconds.`;
   // What tests wait for.
