@@ -1,68 +1,115 @@
 #!/usr/bin/env python3
-"""Draws the ratios of docs/BENCHMARKS.md, docs/pictures/ratios.svg: plot.py [--check].
+"""Writes docs/BENCHMARKS.md and its pictures from bench/results/: plot.py [--check].
 
-Each table with one column "Ratio" is a panel, and each of its rows a bar on a logarithmic scale, ours to the other side: left of 1 ours is
-ahead. It needs matplotlib (Debian: python3-matplotlib). With --check nothing is drawn and nothing needed: the picture has to show every row
-and every ratio of the tables.
+bench/results/head.md is how the page begins. Each bench/results/NAME.json is one question, with its table and its picture
+docs/pictures/NAME.svg, in the order of `order`:
 
-Before that it writes the picture of README.md, docs/pictures/three.svg: three of these rows in nanoseconds, for which nothing is needed.
+  title, unit, measured   the heading, the unit of all numbers, and what was run, with commits and versions
+  columns, names, rows    the table; the first `names` columns name a row, the others are numbers, null where nothing was measured
+  bars                    the columns that the picture draws, on a logarithmic scale
+  ratio                   two lists of columns: the best of ours to the best of theirs; without it the table has no column Ratio
+  better                  "more" where a larger number is better, as of throughput
+  notes                   what is said below the table
+
+It writes the picture of README.md, docs/pictures/three.svg, from products.json too. With --check nothing is written: the exit status
+is 1 where a file is not what it would write. Nothing is needed beside Python.
 """
-
 import html
+import json
+import math
 import pathlib
-import re
 import sys
+import textwrap
 
 TOP = pathlib.Path(__file__).resolve().parent.parent
-PAGE, PICTURE = TOP / "docs/BENCHMARKS.md", TOP / "docs/pictures/ratios.svg"
-AHEAD, BEHIND = "#2f6f9f", "#c05020"
-# The picture of README.md: the heading of a table, how its row begins, the columns of ours and of the Rust crate, and what is said of it. The
-# last table of a heading that has such a row is taken.
-THREE, OTHER = TOP / "docs/pictures/three.svg", "#a0a0a0"
-ROWS = [
-    ("Fields of the tower", ("product, throughput", "128"), 2, 3, "product in GF(2^128), the tower"),
-    ("Fields of the tower", ("inverse", "128"), 2, 3, "inverse in GF(2^128), the tower"),
-    ("Poly64 and Ghash128", ("product, throughput", "Ghash128"), 2, 5, "product in the field of GHASH"),
+RESULTS, PAGE, PICTURES = TOP / "bench/results", TOP / "docs/BENCHMARKS.md", TOP / "docs/pictures"
+OURS, OTHERS, FIELD = ("#2f6f9f", "#7fb2d6"), ("#a0a0a0", "#c9a227", "#c05020"), "#ffffff"
+# The rows of the picture of README.md, by what names them, and what is said of them.
+THREE = [
+    (("product", "BinaryField128"), "product in GF(2^128), the tower"),
+    (("inverse", "BinaryField128"), "inverse in GF(2^128), the tower"),
+    (("product", "Ghash128"), "product in the field of GHASH"),
 ]
+LEFT, WIDE, BAR, WIDTH = 250, 330, 11, 140
 
 
-def cells(line):
-    """The cells of a row of a table, without what only marks them."""
-    return [it.strip().replace("`", "") for it in line.strip().strip("|").split("|")]
+def shown(value):
+    """A number with up to three digits that count."""
+    if value is None:
+        return ""
+    if value < 1:
+        return f"{value:g}"
+    return f"{value:,.{0 if value >= 100 else 1 if value >= 10 else 2}f}"
 
 
-def panels():
-    """The tables with one ratio: the heading and the other side of each, and its rows as a label and a ratio, the smallest first."""
-    for section in re.split(r"^## ", PAGE.read_text(encoding="utf-8"), flags=re.MULTILINE)[1:]:
-        lines = [it for it in section.splitlines() if it.startswith("|")]
-        columns = cells(lines[0]) if lines else []
-        if columns.count("Ratio") != 1:
-            continue
-        at = columns.index("Ratio")
-        names = 2 if columns[1] in ("Degree", "Field") else 1
-        rows = [cells(it) for it in lines[2:] if len(cells(it)) == len(columns)]
-        found = [(", ".join(row[:names]), row[at]) for row in rows if re.fullmatch(r"[0-9.]+", row[at])]
-        yield f"{section.splitlines()[0]}, to {columns[at - 1]}", sorted(found, key=lambda it: float(it[1]))
+def best(table, row, columns):
+    """The best of some columns of a row, or None."""
+    found = [row[table["columns"].index(it)] for it in columns]
+    found = [it for it in found if it is not None]
+    return (max if table.get("better") == "more" else min)(found, default=None)
 
 
-def shown():
-    """What the picture has to show."""
-    for title, rows in panels():
-        yield title
-        for label, ratio in rows:
-            yield from (label, ratio)
+def ratio(table, row):
+    """Our time to theirs, as a text."""
+    ours, theirs = (best(table, row, it) for it in table["ratio"])
+    if ours is None or theirs is None:
+        return ""
+    return f"{theirs / ours if table.get('better') == 'more' else ours / theirs:.2f}"
 
 
-def times(heading, begins, ours, other):
-    """The times of a row of docs/BENCHMARKS.md, ours and the other."""
-    section = re.search(rf"^## {re.escape(heading)}$(.*?)(?=^## |\Z)", PAGE.read_text(encoding="utf-8"), re.MULTILINE | re.DOTALL)[1]
-    row = [it for it in map(cells, section.splitlines()) if tuple(it[: len(begins)]) == begins][-1]
-    return float(row[ours]), float(row[other])
+def written(text):
+    """What names a row: the fields in code."""
+    return f"`{text}`" if text.isidentifier() and any(it.isdigit() for it in text) else text
 
 
-def three():
-    """The picture of three rows, as a text."""
-    most, left, wide = max(max(times(*row[:4])) for row in ROWS), 240, 340
+def lines_of_table(table):
+    """The table in Markdown."""
+    names, extra = table["names"], ["Ratio"] if "ratio" in table else []
+    head = [written(it) for it in table["columns"]] + extra
+    yield "| " + " | ".join(head) + " |"
+    yield "|" + "---|" * names + "---:|" * (len(head) - names)
+    for row in table["rows"]:
+        cells = [written(it) for it in row[:names]] + [shown(it) for it in row[names:]]
+        yield "| " + " | ".join(cells + ([ratio(table, row)] if extra else [])) + " |"
+
+
+def picture(table):
+    """The picture: a group of bars for each row, on a logarithmic scale."""
+    bars = [table["columns"].index(it) for it in table["bars"]]
+    ours = set(sum(table["ratio"][:1], [])) if "ratio" in table else set(table["bars"])
+    mine, theirs, colours = iter(OURS), iter(OTHERS), {}
+    for it in table["bars"]:
+        colours[it] = next(mine if it in ours else theirs)
+    rows = [row for row in table["rows"] if any(row[it] is not None for it in bars)]
+    values = [row[it] for row in rows for it in bars if row[it] is not None]
+    low, high = math.log10(min(values)) - 0.15, math.log10(max(values))
+    out, top = [], 30
+    text = lambda x, y, said, more="": f'<text x="{x:.0f}" y="{y}"{more}>{html.escape(said)}</text>'
+    for row in rows:
+        present = [it for it in bars if row[it] is not None]
+        said = ", ".join(row[: table["names"]]).replace("`", "")
+        out.append(text(LEFT - 8, top + BAR * len(present) / 2 + 4, said, ' text-anchor="end"'))
+        for it in present:
+            long = WIDE * (math.log10(row[it]) - low) / (high - low)
+            out.append(f'<rect x="{LEFT}" y="{top}" width="{long:.1f}" height="{BAR - 1}" fill="{colours[table["columns"][it]]}"/>')
+            out.append(text(LEFT + long + 4, top + BAR - 2, shown(row[it]), ' font-size="9"'))
+            top += BAR
+        top += 7
+    place = 12
+    legend = []
+    for it in table["bars"]:
+        legend += [f'<rect x="{place}" y="8" width="10" height="10" fill="{colours[it]}"/>', text(place + 14, 17, it)]
+        place += 26 + 6 * len(it)
+    size = f'width="660" height="{top}" viewBox="0 0 660 {top}"'
+    begin = f'<svg xmlns="http://www.w3.org/2000/svg" {size} font-family="sans-serif" font-size="11">'
+    return "\n".join([begin, f'<rect width="660" height="{top}" fill="{FIELD}"/>', *legend, *out, "</svg>", ""])
+
+
+def three(table):
+    """The picture of README.md: three rows in nanoseconds, ours and the Rust crate by the instruction."""
+    ours, other = (table["columns"].index(it) for it in ("Ours, v2", "Rust crate, pclmulqdq"))
+    rows = [next(row for row in table["rows"] if tuple(row[:2]) == names) for names, _ in THREE]
+    most, left, wide = max(row[it] for row in rows for it in (ours, other)), 240, 340
     bar = lambda x, y, width, colour: f'<rect x="{x}" y="{y}" width="{width:.1f}" height="14" fill="{colour}"/>'
     text = lambda x, y, said, more="": f'<text x="{x:.0f}" y="{y}"{more}>{html.escape(said)}</text>'
     lines = [
@@ -70,74 +117,62 @@ def three():
         '<rect width="660" height="186" fill="#ffffff"/>',
         text(12, 20, "Nanoseconds an element, over slices of 1,024"),
     ]
-    for at, (heading, begins, ours, other, said) in enumerate(ROWS):
+    for at, (row, (_, said)) in enumerate(zip(rows, THREE)):
         top = 34 + 42 * at
         lines.append(text(left - 10, top + 20, said, ' text-anchor="end"'))
-        for down, value, colour in zip((0, 16), times(heading, begins, ours, other), (AHEAD, OTHER)):
+        for down, value, colour in zip((0, 16), (row[ours], row[other]), (OURS[0], OTHERS[0])):
             lines += [bar(left, top + down, wide * value / most, colour), text(left + wide * value / most + 6, top + down + 12, f"{value:.1f}")]
     lines += [
-        bar(12, 162, 14, AHEAD), text(32, 174, "Tiforwg, proved"), bar(150, 162, 14, OTHER),
+        bar(12, 162, 14, OURS[0]), text(32, 174, "Tiforwg, proved"), bar(150, 162, 14, OTHERS[0]),
         text(170, 174, "p3-binary-field 0.8.0 (Plonky3), by the carryless multiply instruction"), "</svg>", "",
     ]
     return "\n".join(lines)
 
 
-def check():
-    """Whether the pictures show all of it."""
-    texts = {html.unescape(it).strip() for it in re.findall(r"<text[^>]*>([^<]*)</text>", PICTURE.read_text(encoding="utf-8"))}
-    lacking = [it for it in shown() if it not in texts]
-    if THREE.read_text(encoding="utf-8") != three():
-        lacking.append(f"what {THREE.name} shows")
-    print(f"plot: {len(texts)} texts in {PICTURE.name}, {len(lacking)} of the tables are lacking: {', '.join(lacking[:5]) or 'none'}")
-    return 1 if lacking else 0
+def section(name, table):
+    """The part of the page that answers one question."""
+    yield f"## {table['title']}"
+    yield ""
+    yield from textwrap.wrap(f"{table['unit'][0].upper()}{table['unit'][1:]}. {'; '.join(table['measured'])}.", WIDTH)
+    yield ""
+    yield f"![{table['title']}: {', '.join(table['bars'])}](pictures/{name}.svg)"
+    yield ""
+    yield from lines_of_table(table)
+    if table["notes"]:
+        yield ""
+        for it in table["notes"]:
+            yield from textwrap.wrap(f"- {it}", WIDTH, subsequent_indent="  ")
+    yield ""
 
 
-def drawn(axes, title, rows):
-    """Draws a panel."""
-    # 0.00 is a ratio below 0.005.
-    values = [max(float(ratio), 0.005) for _, ratio in rows]
-    places = range(len(rows))
-    axes.set_xscale("log")
-    colours = [AHEAD if it <= 1 else BEHIND for it in values]
-    axes.barh(places, [abs(it - 1) for it in values], left=[min(it, 1) for it in values], color=colours, height=0.7)
-    axes.set_xlim(0.003, 4)
-    axes.set_xticks([0.01, 0.03, 0.1, 0.3, 1, 3])
-    axes.get_xaxis().set_major_formatter(lambda value, _: f"{value:g}")
-    axes.minorticks_off()
-    axes.set_yticks(list(places), [label for label, _ in rows])
-    axes.set_ylim(-0.6, len(rows) - 0.4)
-    axes.axvline(1, color="black", linewidth=0.8)
-    for place, (value, (_, ratio)) in enumerate(zip(values, rows)):
-        axes.text(value * (0.96 if value <= 1 else 1.04), place, ratio, va="center", ha="right" if value <= 1 else "left", fontsize=7)
-    axes.set_title(title, fontsize=9)
-    axes.spines[["top", "right"]].set_visible(False)
+def files():
+    """Each file that is written, and its text."""
+    tables = sorted(((it.stem, json.loads(it.read_text(encoding="utf-8"))) for it in RESULTS.glob("*.json")), key=lambda it: it[1]["order"])
+    lines = (RESULTS / "head.md").read_text(encoding="utf-8").splitlines() + [""]
+    for name, table in tables:
+        lines += section(name, table)
+        if "bars" in table:
+            yield PICTURES / f"{name}.svg", picture(table)
+    yield PAGE, "\n".join(lines).rstrip() + "\n"
+    yield PICTURES / "three.svg", three(dict(tables)["products"])
 
 
 def main():
-    """Draws the picture, or compares it."""
+    """Writes the files, or compares them."""
     if sys.argv[1:] in (["--help"], ["-h"]):
         print(__doc__.strip())
         return 0
-    if sys.argv[1:] == ["--check"]:
-        return check()
-    THREE.write_text(three(), encoding="utf-8")
-    import matplotlib
-
-    matplotlib.use("svg")
-    # Texts stay texts, and the same tables give the same file.
-    matplotlib.rcParams.update({"svg.fonttype": "none", "svg.hashsalt": "ratios", "font.size": 8})
-    from matplotlib import pyplot
-
-    found = list(panels())
-    heights = [len(rows) + 2 for _, rows in found]
-    figure, axes = pyplot.subplots(
-        len(found), 1, figsize=(7.5, 0.2 * sum(heights) + 0.5 * len(found)), gridspec_kw={"height_ratios": heights}, constrained_layout=True
-    )
-    for it, (title, rows) in zip(axes, found):
-        drawn(it, title, rows)
-    PICTURE.parent.mkdir(exist_ok=True)
-    figure.savefig(PICTURE, metadata={"Date": None})
-    return check()
+    if sys.argv[1:] not in ([], ["--check"]):
+        print("plot: plot.py [--check]", file=sys.stderr)
+        return 2
+    other = 0
+    for place, text in files():
+        if not place.exists() or place.read_text(encoding="utf-8") != text:
+            print(f"plot: {place.relative_to(TOP)} is not what bench/results/ says" if sys.argv[1:] else f"plot: {place.relative_to(TOP)}")
+            other = 1
+            if not sys.argv[1:]:
+                place.write_text(text, encoding="utf-8")
+    return other if sys.argv[1:] else 0
 
 
 if __name__ == "__main__":
