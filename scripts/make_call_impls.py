@@ -21,7 +21,7 @@ def word(bits):
 # ---- planes
 
 PLANES_HEAD = """\
-// The levels of 8 to 128 bits by their planes of bytes, thirty-two words at once, and by the multiples of a scalar. Those of a level
+// The levels of 16 to 128 bits by their planes of bytes, thirty-two words at once, and by the multiples of a scalar. Those of a level
 // are made of those of the level below.
 ghost use Rattle.std.proofs.Common.{lit≤};
 ghost use Rattle.many_words.specs.Places.{level_in_planes};
@@ -30,7 +30,7 @@ use super::FieldInPlanes;
 use additive_transforms::{ByteMultiples, HalfMultiples, Pair};
 use field_base::Holds;
 use std::simd::prelude::*;
-use word_tower::{Bits8, Bits16, Bits32, Bits64, Bits128, Tower};
+use word_tower::{Bits16, Bits32, Bits64, Bits128, Tower};
 """
 
 PLANES = Template("""\
@@ -57,18 +57,20 @@ def in_planes():
         planes = "u8x32" if bits == 8 else f"Pair<Planes{half}>"
         multiples = "ByteMultiples" if bits == 8 else f"HalfMultiples<Multiples{half}>"
         yield PLANES.substitute(bits=bits, planes=planes, multiples=multiples)
-    for depth, bits in enumerate(LEVELS):
+    for depth, bits in list(enumerate(LEVELS))[1:]:
         yield IN_PLANES.substitute(bits=bits, word=word(bits), words="<W: Holds<u128>>" if bits == WIDE else "", depth=depth)
 
 
 # ---- slices
 
 SLICES_HEAD = """\
-// The levels of 16 to 128 bits by slices of their bits.
+// The levels of 8 to 128 bits by slices of their bits.
 use super::FieldInSlices;
-use bit_slices::{Slices16, Slices32, Slices64, Slices128, Vector, invert_each, multiply_each};
+use bit_slices::{
+    Slices8, Slices16, Slices32, Slices64, Slices128, Vector, invert_each, multiply_each,
+};
 use field_base::Holds;
-use word_tower::{Bits16, Bits32, Bits64, Bits128, Tower};
+use word_tower::{Bits8, Bits16, Bits32, Bits64, Bits128, Tower};
 """
 
 IN_SLICES = Template("""\
@@ -87,35 +89,68 @@ impl FieldInSlices<u$bits> for Tower<Bits$bits> {
 def in_slices():
     yield SLICES_HEAD
     for bits in LEVELS:
-        # Bytes are looked up.
-        if bits > 8:
-            yield IN_SLICES.substitute(bits=bits)
+        yield IN_SLICES.substitute(bits=bits)
 
 
 # ---- calls
 
 CALLS_HEAD = """\
-// The levels of 8 to 128 bits: by one scalar in planes of bytes, and from 16 bits on products and inverses in slices of bits. Each level has an
-// impl of its own: one over a bound would have the planes of a level, which nest, in every contract that names its elements.
+// The levels of 8 to 128 bits: bytes by one scalar in registers, wider words in planes of bytes; from 16 bits on, and bytes in wide vectors,
+// products and inverses in slices of bits. Each level has an impl of its own: one over a bound would have the planes of a level, which nest, in
+// every contract that names its elements.
 use super::{Many, Sizes};
-use crate::dots;
 use crate::in_planes::{LEAST_IN_PLANES, add_all, multiply_all};
-use crate::in_slices::{FieldInSlices, LEAST_IN_SLICES};
+use crate::in_slices::{FieldInSlices, LEAST_BYTES_IN_SLICES, LEAST_IN_SLICES};
+use crate::scaled_bytes::LEAST_MAPPED;
+use crate::{dots, scaled_bytes};
 use bit_slices::Vector;
 use field_base::{Holds, Reads};
 use ghash_slices::Width;
 use word_tower::{Bits8, Bits16, Bits32, Bits64, Bits128, Tower};
-"""
 
-CALLS = Template("""\
-${about}impl$words Many<u$bits, $word> for Tower<Bits$bits> {
+// Bytes are inverted by tables, and multiplied by them but for many in wide vectors.
+impl Many<u8, u8> for Tower<Bits8> {
     #[inline(always)]
     fn sizes<V: Vector>() -> Sizes {
         Sizes {
-            multiplied: $least,
-            block: $block,
+            multiplied: if V::lanes() < 256 {
+                usize::MAX
+            } else {
+                LEAST_BYTES_IN_SLICES
+            },
+            block: V::lanes(),
+            scaled: LEAST_MAPPED,
+            inverted: usize::MAX,
+        }
+    }
+
+    fn multiply_all<V: Width + Vector>(products: &mut [u8], words: &[u8]) {
+        Tower::<Bits8>::multiply_in_slices::<V, u8>(products, words);
+    }
+
+    fn multiply_all_by<V: Width>(words: &mut [u8], scalar: u8) {
+        scaled_bytes::multiply_all::<Tower<Bits8>>(words, scalar);
+    }
+
+    fn write_multiples<V: Width>(words: &[u8], scalar: u8, products: &mut [u8]) {
+        scaled_bytes::write_all::<Tower<Bits8>>(words, scalar, products);
+    }
+
+    fn add_multiples<V: Width>(sums: &mut [u8], words: &[u8], scalar: u8) {
+        scaled_bytes::add_all::<Tower<Bits8>>(sums, words, scalar);
+    }
+}
+"""
+
+CALLS = Template("""\
+impl$words Many<u$bits, $word> for Tower<Bits$bits> {
+    #[inline(always)]
+    fn sizes<V: Vector>() -> Sizes {
+        Sizes {
+            multiplied: LEAST_IN_SLICES,
+            block: V::lanes(),
             scaled: LEAST_IN_PLANES,
-            inverted: $least,
+            inverted: LEAST_IN_SLICES,
         }
     }
 
@@ -126,10 +161,6 @@ ${about}impl$words Many<u$bits, $word> for Tower<Bits$bits> {
     fn add_multiples<V: Width>(sums: &mut [$word], words: &[$word], scalar: $word) {
         add_all::<u$bits, $word, Tower<Bits$bits>>(sums, words, scalar);
     }
-${slices}}
-""")
-
-CALLS_IN_SLICES = Template("""\
 
     fn multiply_all<V: Width + Vector>(products: &mut [$word], words: &[$word]) {
         Tower::<Bits$bits>::multiply_in_slices::<V, $word>(products, words);
@@ -143,23 +174,14 @@ CALLS_IN_SLICES = Template("""\
     fn dot_product<V: Width + Vector, P: Reads<u$bits>>(left: &[P], right: &[P]) -> u$bits {
         dots::dot_product::<u$bits, P, Tower<Bits$bits>>(left, right)
     }
+}
 """)
 
 
 def calls():
     yield CALLS_HEAD
-    for bits in LEVELS:
-        # Bytes are looked up.
-        in_slices = bits > 8
-        yield CALLS.substitute(
-            about="" if in_slices else "// Bytes are multiplied and inverted by tables.\n",
-            bits=bits,
-            word=word(bits),
-            words="<W: Holds<u128>>" if bits == WIDE else "",
-            least="LEAST_IN_SLICES" if in_slices else "usize::MAX",
-            block="V::lanes()" if in_slices else "1",
-            slices=CALLS_IN_SLICES.substitute(bits=bits, word=word(bits)) if in_slices else "",
-        )
+    for bits in LEVELS[1:]:
+        yield CALLS.substitute(bits=bits, word=word(bits), words="<W: Holds<u128>>" if bits == WIDE else "")
 
 
 if __name__ == "__main__":

@@ -8,7 +8,7 @@ ghost use Rattle.c_calls.specs.Bytes.{BeginsHash, ChangesMessage, Compares, Ends
 
 use crate::status;
 use ghash_slices::Width;
-use tags::{Encoding, HashState, KeyedHash, UniversalHash};
+use tags::{Encoding, HashState};
 
 // The bytes of a key, and of a hash.
 const BYTES: usize = 16;
@@ -23,9 +23,7 @@ pub fn hash<E: Encoding, V: Width>(key: &[u8], message: &[u8], hash: &mut [u8]) 
     if key.len() != BYTES || hash.len() != BYTES {
         return status::LENGTH;
     }
-    let mut state = KeyedHash::<E, V>::new(&block_of(key));
-    state.update(message);
-    hash.copy_from_slice(&state.finalize());
+    hash.copy_from_slice(&tags::hash_of::<E, V>(&block_of(key), message));
     status::OK
 }
 

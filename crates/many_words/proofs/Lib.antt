@@ -13,3 +13,4 @@ mod ScaledBytes
 mod TableLanes
 pub mod WordDots
 pub mod WordNumbers
+mod WrittenBytes

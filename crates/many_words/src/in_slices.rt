@@ -18,6 +18,13 @@ use word_tower::Level;
 /// The least number of words that may pay in slices of bits.
 pub(crate) const LEAST_IN_SLICES: usize = 32;
 
+/// The least number of bytes whose products pay in slices of wide vectors, a block of which has as many.
+pub(crate) const LEAST_BYTES_IN_SLICES: usize = 256;
+
+/// The least number of polynomials that are inverted by the tower: a chain of products takes some times as long, but looks up nothing, and is
+/// kept for one.
+pub(crate) const LEAST_BY_TOWER: usize = 2;
+
 /// A level of the tower whose words are multiplied and inverted in slices of bits. What computes over it names neither its slices nor its
 /// words.
 pub trait FieldInSlices<R: Stored>: FieldKernel<R> {

@@ -3,8 +3,8 @@
 //! scalar, inverses and dot products, and from how many words on they pay; `multiply`, `multiply_by`, `add_scaled` and `invert` go by it.
 //! None takes memory, and none looks whether words are elements.
 //!
-//! Below it lie the ways to compute many words: slices of bits (`in_slices`, for levels of 16 bits and more), planes of bytes by one scalar
-//! (`in_planes`, for levels of 8 bits and more; `scaled_bytes` and `mapped_words` for fields that are no levels), vectors of words of 128
+//! Below it lie the ways to compute many words: slices of bits (`in_slices`, for levels of 8 bits and more), planes of bytes by one scalar
+//! (`in_planes`, for levels of 16 bits and more; `scaled_bytes` for bytes and `mapped_words` for `Poly64`), vectors of words of 128
 //! bits (`lanes`, `scalars`, `products`), and one word after another (`fields`, `operations`, `one_by_one`).
 #![tactic(auto)]
 

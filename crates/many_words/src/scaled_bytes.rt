@@ -7,7 +7,7 @@ ghost use Rattle.many_words.specs.Words.{Each, EachOfTwo};
 ghost use Rattle.many_words.specs.Fields.{field_of, itself};
 ghost use Rattle.field_base.specs.LinearMaps.{linear_image};
 
-use crate::one_by_one::change_all_by;
+use crate::one_by_one::{change_all_by, multiply_each_by};
 use crate::operations::ScaledSum;
 use field_base::{FieldKernel, Stored};
 use std::simd::prelude::*;
@@ -23,6 +23,47 @@ pub(crate) fn multiply_all<K: FieldKernel<u8>>(bytes: &mut [u8], scalar: u8)
 {
     u8::words_fit(bytes);
     map_bytes(&images_of::<K>(scalar), bytes);
+}
+
+/// Writes the product of each byte and the scalar. The slices are of one length.
+pub(crate) fn write_all<K: FieldKernel<u8>>(bytes: &[u8], scalar: u8, products: &mut [u8])
+    requires { length bytes.now ≡ length products.old }
+    ensures { Each (field_of itself K.width K.product K.generator) (λ x y. y ≡ K.product x scalar) bytes.now products.new }
+{
+    if products.len() < LEAST_MAPPED {
+        products.copy_from_slice(bytes);
+        multiply_each_by::<u8, u8, K>(products, scalar);
+    } else {
+        write_mapped::<K>(bytes, scalar, products);
+    }
+}
+
+// The same of at least a block.
+fn write_mapped<K: FieldKernel<u8>>(bytes: &[u8], scalar: u8, products: &mut [u8])
+    requires same { length bytes.now ≡ length products.old }
+    requires block { 32 ≤ length products.old }
+    ensures { Each (field_of itself K.width K.product K.generator) (λ x y. y ≡ K.product x scalar) bytes.now products.new }
+{
+    let (low, high) = tables_of(&images_of::<K>(scalar));
+    write_in_blocks(bytes, products, low, high);
+}
+
+// Writes what the tables have at the halves of each byte. The last block may overlap the one before it.
+fn write_in_blocks(bytes: &[u8], products: &mut [u8], low: u8x16, high: u8x16)
+    requires same { length bytes.now ≡ length products.old }
+    requires block { 32 ≤ length products.old }
+    ensures long { length products.new ≡ length products.old }
+    ensures products { (k : ℕ) → k < length products.new
+        → slice_index products.new k ≡ entry_sum low high (slice_index bytes.now k) }
+{
+    let last = bytes.len() - 32;
+    let end = entries_at(bytes, last, low, high);
+    for block in 0..(bytes.len() - 1) / 32 {
+        let start = 32 * block;
+        let next = entries_at(bytes, start, low, high);
+        next.copy_to_slice(&mut products[start..]);
+    }
+    end.copy_to_slice(&mut products[last..]);
 }
 
 /// Adds to each sum the product of the scalar and the byte at its place. The slices are of one length.
@@ -75,7 +116,16 @@ fn sums_at(sums: &[u8], bytes: &[u8], place: usize, low: u8x16, high: u8x16) -> 
     requires inside { place + 32 ≤ length sums.now }
     ensures { result ≡ zip2 bit_xor (chunk place 32 sums.now) (map (entry_sum low high) (chunk place 32 bytes.now)) }
 {
-    u8x32::from_slice(&sums[place..]) ^ entry_sums(low, high, u8x32::from_slice(&bytes[place..]))
+    u8x32::from_slice(&sums[place..]) ^ entries_at(bytes, place, low, high)
+}
+
+// What the tables have at the halves of the bytes from a place on.
+#[inline(always)]
+fn entries_at(bytes: &[u8], place: usize, low: u8x16, high: u8x16) -> u8x32
+    requires { place + 32 ≤ length bytes.now }
+    ensures { result ≡ map (entry_sum low high) (chunk place 32 bytes.now) }
+{
+    entry_sums(low, high, u8x32::from_slice(&bytes[place..]))
 }
 
 // The tables of a linear map of bytes: its values at 0 to 15, and at 0, 16, .., 240.

@@ -1,5 +1,5 @@
 // Written by scripts/make_call_impls.py; do not edit.
-// The levels of 8 to 128 bits by their planes of bytes, thirty-two words at once, and by the multiples of a scalar. Those of a level
+// The levels of 16 to 128 bits by their planes of bytes, thirty-two words at once, and by the multiples of a scalar. Those of a level
 // are made of those of the level below.
 ghost use Rattle.std.proofs.Common.{lit≤};
 ghost use Rattle.many_words.specs.Places.{level_in_planes};
@@ -8,7 +8,7 @@ use super::FieldInPlanes;
 use additive_transforms::{ByteMultiples, HalfMultiples, Pair};
 use field_base::Holds;
 use std::simd::prelude::*;
-use word_tower::{Bits8, Bits16, Bits32, Bits64, Bits128, Tower};
+use word_tower::{Bits16, Bits32, Bits64, Bits128, Tower};
 
 type Planes8 = u8x32;
 
@@ -29,14 +29,6 @@ type Multiples64 = HalfMultiples<Multiples32>;
 type Planes128 = Pair<Planes64>;
 
 type Multiples128 = HalfMultiples<Multiples64>;
-
-impl FieldInPlanes<u8, u8> for Tower<Bits8> {
-    type Multiples = Multiples8;
-
-    type Vectors = Planes8;
-
-    ghost level_law = { level_in_planes 0 (lit≤ tt) };
-}
 
 impl FieldInPlanes<u16, u16> for Tower<Bits16> {
     type Multiples = Multiples16;

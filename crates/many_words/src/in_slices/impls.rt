@@ -1,9 +1,21 @@
 // Written by scripts/make_call_impls.py; do not edit.
-// The levels of 16 to 128 bits by slices of their bits.
+// The levels of 8 to 128 bits by slices of their bits.
 use super::FieldInSlices;
-use bit_slices::{Slices16, Slices32, Slices64, Slices128, Vector, invert_each, multiply_each};
+use bit_slices::{
+    Slices8, Slices16, Slices32, Slices64, Slices128, Vector, invert_each, multiply_each,
+};
 use field_base::Holds;
-use word_tower::{Bits16, Bits32, Bits64, Bits128, Tower};
+use word_tower::{Bits8, Bits16, Bits32, Bits64, Bits128, Tower};
+
+impl FieldInSlices<u8> for Tower<Bits8> {
+    fn multiply_in_slices<V: Vector, W: Holds<u8>>(products: &mut [W], words: &[W]) {
+        multiply_each::<u8, W, Slices8<V>>(products, words);
+    }
+
+    fn invert_in_slices<V: Vector, W: Holds<u8>>(words: &mut [W]) {
+        invert_each::<u8, W, Slices8<V>>(words);
+    }
+}
 
 impl FieldInSlices<u16> for Tower<Bits16> {
     fn multiply_in_slices<V: Vector, W: Holds<u16>>(products: &mut [W], words: &[W]) {

@@ -3,7 +3,7 @@
 
 use super::{Many, Sizes};
 use crate::bytes::LEAST_IN_VECTORS;
-use crate::in_slices::{LEAST_IN_SLICES, invert_images};
+use crate::in_slices::{LEAST_BY_TOWER, LEAST_IN_SLICES, invert_images};
 use crate::mapped_words::polynomial_images;
 use crate::scaled_bytes::LEAST_MAPPED;
 use crate::{bytes, mapped_words, products, scalars, scaled_bytes};
@@ -41,6 +41,10 @@ impl Many<u8, u8> for RijndaelKernel {
         scaled_bytes::multiply_all::<RijndaelKernel>(words, scalar);
     }
 
+    fn write_multiples<V: Width>(words: &[u8], scalar: u8, products: &mut [u8]) {
+        scaled_bytes::write_all::<RijndaelKernel>(words, scalar, products);
+    }
+
     fn add_multiples<V: Width>(sums: &mut [u8], words: &[u8], scalar: u8) {
         scaled_bytes::add_all::<RijndaelKernel>(sums, words, scalar);
     }
@@ -60,7 +64,7 @@ impl Many<u64, u64> for Poly64Kernel {
             },
             block: V::lanes(),
             scaled: mapped_words::LEAST_MAPPED,
-            inverted: LEAST_IN_SLICES,
+            inverted: LEAST_BY_TOWER,
         }
     }
 
@@ -93,7 +97,7 @@ impl<W: Holds<u128>> Many<u128, W> for GhashKernel {
             multiplied: 0,
             block: 1,
             scaled: 0,
-            inverted: LEAST_IN_SLICES,
+            inverted: LEAST_BY_TOWER,
         }
     }
 

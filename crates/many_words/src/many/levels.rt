@@ -1,33 +1,47 @@
 // Written by scripts/make_call_impls.py; do not edit.
-// The levels of 8 to 128 bits: by one scalar in planes of bytes, and from 16 bits on products and inverses in slices of bits. Each level has an
-// impl of its own: one over a bound would have the planes of a level, which nest, in every contract that names its elements.
+// The levels of 8 to 128 bits: bytes by one scalar in registers, wider words in planes of bytes; from 16 bits on, and bytes in wide vectors,
+// products and inverses in slices of bits. Each level has an impl of its own: one over a bound would have the planes of a level, which nest, in
+// every contract that names its elements.
 use super::{Many, Sizes};
-use crate::dots;
 use crate::in_planes::{LEAST_IN_PLANES, add_all, multiply_all};
-use crate::in_slices::{FieldInSlices, LEAST_IN_SLICES};
+use crate::in_slices::{FieldInSlices, LEAST_BYTES_IN_SLICES, LEAST_IN_SLICES};
+use crate::scaled_bytes::LEAST_MAPPED;
+use crate::{dots, scaled_bytes};
 use bit_slices::Vector;
 use field_base::{Holds, Reads};
 use ghash_slices::Width;
 use word_tower::{Bits8, Bits16, Bits32, Bits64, Bits128, Tower};
 
-// Bytes are multiplied and inverted by tables.
+// Bytes are inverted by tables, and multiplied by them but for many in wide vectors.
 impl Many<u8, u8> for Tower<Bits8> {
     #[inline(always)]
     fn sizes<V: Vector>() -> Sizes {
         Sizes {
-            multiplied: usize::MAX,
-            block: 1,
-            scaled: LEAST_IN_PLANES,
+            multiplied: if V::lanes() < 256 {
+                usize::MAX
+            } else {
+                LEAST_BYTES_IN_SLICES
+            },
+            block: V::lanes(),
+            scaled: LEAST_MAPPED,
             inverted: usize::MAX,
         }
     }
 
+    fn multiply_all<V: Width + Vector>(products: &mut [u8], words: &[u8]) {
+        Tower::<Bits8>::multiply_in_slices::<V, u8>(products, words);
+    }
+
     fn multiply_all_by<V: Width>(words: &mut [u8], scalar: u8) {
-        multiply_all::<u8, u8, Tower<Bits8>>(words, scalar);
+        scaled_bytes::multiply_all::<Tower<Bits8>>(words, scalar);
+    }
+
+    fn write_multiples<V: Width>(words: &[u8], scalar: u8, products: &mut [u8]) {
+        scaled_bytes::write_all::<Tower<Bits8>>(words, scalar, products);
     }
 
     fn add_multiples<V: Width>(sums: &mut [u8], words: &[u8], scalar: u8) {
-        add_all::<u8, u8, Tower<Bits8>>(sums, words, scalar);
+        scaled_bytes::add_all::<Tower<Bits8>>(sums, words, scalar);
     }
 }
 
