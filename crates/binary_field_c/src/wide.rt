@@ -11,7 +11,9 @@ ghost use Rattle.c_calls.specs.Calls.{AddsScaled, Inverts, Multiplies, Multiplie
 ghost use Rattle.c_calls.specs.Fields.{ghash_field, level_field, poly64_field, wide_level_field, wide_number};
 ghost use Rattle.c_calls.specs.Matrices.{InvertsMatrix, MultipliesMatrices, ReducesRows, SolvesEquations, TakesDeterminant, TakesRank};
 
-use c_calls::{Bits16, Bits32, Bits64, Bits128, GhashKernel, HashState, Poly64Kernel, Tower, Wide};
+use c_calls::{
+    Bits8, Bits16, Bits32, Bits64, Bits128, GhashKernel, HashState, Poly64Kernel, Tower, Wide,
+};
 use std::simd::prelude::*;
 
 /// The same as `bf_g128_multiply`.
@@ -317,6 +319,22 @@ pub extern "C" fn bf_p64_batch_inverse_wide(values: &[u64], inverses: &mut [u64]
     ensures { Inverts poly64_field values.now inverses.old inverses.new result }
 {
     c_calls::batch_invert::<u64, u64, Poly64Kernel, u64x4>(values, inverses)
+}
+
+/// The same as `bf_t8_multiply`.
+#[unsafe(no_mangle)]
+pub extern "C" fn bf_t8_multiply_wide(left: &[u8], right: &[u8], products: &mut [u8]) -> u32
+    ensures { Multiplies (level_field 3) left.now right.now products.old products.new result }
+{
+    c_calls::multiply::<u8, u8, Tower<Bits8>, u64x4>(left, right, products)
+}
+
+/// The same as `bf_t8_multiply_in_place`.
+#[unsafe(no_mangle)]
+pub extern "C" fn bf_t8_multiply_in_place_wide(products: &mut [u8], values: &[u8]) -> u32
+    ensures { Multiplies (level_field 3) products.old values.now products.old products.new result }
+{
+    c_calls::multiply_in_place::<u8, u8, Tower<Bits8>, u64x4>(products, values)
 }
 
 /// The same as `bf_g128_inverse`.
