@@ -95,7 +95,7 @@ module _ (width : ℕ) (times : ℕ → ℕ → ℕ) (wide : 0 < width) (field :
   one_fits : 1 < 2 ^ width
   one_fits = pow_below 0 width wide
 
-  value-lt : (n : ℕ) (word : ℕ → ℕ) (x : ℕ) → code_value times n word x < 2 ^ width
+  pub value-lt : (n : ℕ) (word : ℕ → ℕ) (x : ℕ) → code_value times n word x < 2 ^ width
   unfolding sum_below
   value-lt n word x = sum-lt (λ i. times (word i) (power 1 times x (n - 1 - i)))
       (λ i. field.ring.below (word i) (power 1 times x (n - 1 - i))) n

@@ -18,7 +18,7 @@ module _ (width : ℕ) (times : ℕ → ℕ → ℕ) (wide : 0 < width) (field :
 
   -- ---- values of sums
 
-  value-same : (n : ℕ) (f g : ℕ → ℕ) (x : ℕ) → ((j : ℕ) → j < n → f j ≡ g j)
+  pub value-same : (n : ℕ) (f g : ℕ → ℕ) (x : ℕ) → ((j : ℕ) → j < n → f j ≡ g j)
       → code_value times n f x ≡ code_value times n g x
   value-same n f g x same =
       sum-same (λ i. times (f i) (power 1 times x (n - 1 - i))) (λ i. times (g i) (power 1 times x (n - 1 - i))) n

@@ -29,3 +29,5 @@ pub mod Marking
 pub mod Meanings
 pub mod Candidates
 pub mod DualBytes
+pub mod WordColumns
+pub mod CleanWords

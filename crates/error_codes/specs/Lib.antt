@@ -8,4 +8,5 @@ pub mod Secrets
 pub mod ByteFields
 pub mod Correcting
 pub mod Filling
+pub mod Interleaved
 pub mod DualBasis

@@ -25,7 +25,7 @@ pub struct Corrected {
 }
 
 // The places that are listed. Those from 256 on are left out.
-fn listed_places(places: &[usize]) -> [bool; 256]
+pub(crate) fn listed_places(places: &[usize]) -> [bool; 256]
     ensures { (i : ℕ) → i < 256 → is_marked result i ≡ is_listed places.now i }
 {
     let mut marks = [false; 256];
@@ -38,7 +38,7 @@ fn listed_places(places: &[usize]) -> [bool; 256]
 }
 
 // How many of the first places are marked.
-fn count_marks(marks: &[bool; 256], count: usize) -> usize
+pub(crate) fn count_marks(marks: &[bool; 256], count: usize) -> usize
     requires { count ≤ 256 }
     ensures { result ≡ marked_below (is_marked marks.now) count }
 {

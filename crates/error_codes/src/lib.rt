@@ -9,6 +9,7 @@ mod dual_basis;
 mod encoder;
 mod error;
 mod filling;
+mod interleaved;
 pub mod laws;
 mod shift_registers;
 mod standards;

@@ -136,3 +136,47 @@ fn a_word_is_sent_in_the_dual_basis(rt: HostRuntime) -> Result<(), Fail> {
     }
     Ok(())
 }
+
+// Words of telemetry side by side, of which the second has errors that are corrected, the third more than can be, and all lack two
+// symbols.
+#[test]
+fn interleaved_words_are_corrected(rt: HostRuntime) -> Result<(), Fail> {
+    let code = CorrectingCode::qr(26, 16)?;
+    for depth in [3, 17] {
+        let mut sent = [0; 442];
+        for i in 0..16 * depth {
+            sent[i] = ((11 * i + 5) % 256) as u8;
+        }
+        code.encode_interleaved(&mut sent[..26 * depth], depth);
+        let mut word = [0; 26];
+        for i in 0..26 {
+            word[i] = sent[i * depth + 1];
+        }
+        assert!(rt; code.is_code_word(&word));
+        let mut received = sent;
+        for c in 0..depth {
+            received[7 * depth + c] = 0;
+            received[9 * depth + c] = 0;
+        }
+        received[20 * depth + 1] ^= 9;
+        for i in 0..6 {
+            received[3 * i * depth + 2] ^= 1;
+        }
+        let before = received;
+        let mut values = [7; 170];
+        let mut corrected = [false; 17];
+        code.correct_interleaved(
+            &mut received[..26 * depth],
+            depth,
+            &[7, 9],
+            &mut values[..10 * depth],
+            &mut corrected[..depth],
+        );
+        assert!(rt; corrected[0] && corrected[1] && !corrected[2]);
+        for i in 0..26 {
+            assert_eq!(rt; received[i * depth + 1], sent[i * depth + 1]);
+            assert_eq!(rt; received[i * depth + 2], before[i * depth + 2]);
+        }
+    }
+    Ok(())
+}
