@@ -1,10 +1,10 @@
 -- Values of words at the roots of a code, by Horner's rule, and that they are the syndromes of a code by checks.
-use Rattle.std.proofs.Common.{◌≡◌, ◌≢◌, ◌⊎◌, inl, inr, ℕ, zero, suc, ◌+◌, ◌-◌, ◌^◌, ◌<◌, ◌≤◌, List, length, set}
+use Rattle.std.proofs.Common.{◌≡◌, ◌≢◌, ◌⊎◌, inl, inr, ℕ, zero, suc, ◌+◌, ◌-◌, ◌^◌, ◌<◌, ◌≤◌, List, ◌++◌, length, set, take, drop, map}
 use Rattle.std.proofs.Common.{replicate}
-use Rattle.std.proofs.Common.{sym, ◌∙◌, ap, ap₂, arith, below_more}
+use Rattle.std.proofs.Common.{refl, sym, ◌∙◌, ap, ap₂, arith, below_more}
 use Rattle.std.specs.Prelude.{bit_xor, slice_index}
 use Rattle.std.proofs.lemmas.List.{get_or-replicate, get_or-set_other, get_or-set_same, get_or_past, length-replicate}
-use Rattle.std.proofs.lemmas.List.{length-set}
+use Rattle.std.proofs.lemmas.List.{get_or-map, get_or-take, get_or_append_left, length-map, length-set, length-take-le}
 use Rattle.std.proofs.lemmas.Bool.{cases_lt}
 use Rattle.std.proofs.lemmas.Nat.{pow_below, pow_pos, xor_lt}
 use lib.Bits.{xor_assoc, xor_zero_r}
@@ -74,6 +74,57 @@ entry-over j entry value row initial inside is before = (
   λ n above. get_or-set_other row j n entry 0 (λ e. absurd (omega (arith, e, above)))
       ∙ before.1 n (omega (arith, above)),
 )
+
+-- an entry more of a list that is written from its last place on
+pub entry-before : (value : ℕ → ℕ) (room count i entry : ℕ) (row : List ℕ) → count ≤ room → i < count → entry ≡ value (count - 1 - i)
+    → (length row ≡ room) × ((n : ℕ) → count ≤ n + i → n < count → slice_index row n ≡ value n)
+    → (length (set row (count - 1 - i) entry) ≡ room)
+    × ((n : ℕ) → count ≤ n + (i + 1) → n < count → slice_index (set row (count - 1 - i) entry) n ≡ value n)
+entry-before value room count i entry row inside below is before =
+    let long = before.0 in (
+      length-set row (count - 1 - i) entry ∙ long,
+      λ n above within. pick n above within (cases_lt (n + i) count),
+    )
+  where
+    pick : (n : ℕ) → count ≤ n + (i + 1) → n < count → (n + i < count) ⊎ (count ≤ n + i)
+        → slice_index (set row (count - 1 - i) entry) n ≡ value n
+    pick n above within (inl less) =
+        let here : count - 1 - i ≡ n = omega (arith, above, less, below) in
+        let long = before.0 in
+        ap (slice_index (set row (count - 1 - i) entry)) (sym here)
+        ∙ get_or-set_same row (count - 1 - i) entry 0 (omega (arith, long, inside, below)) ∙ is ∙ ap value here
+    pick n above within (inr more) =
+        get_or-set_other row (count - 1 - i) n entry 0 (λ e. absurd (omega (arith, e, more, below))) ∙ before.1 n more within
+
+-- powers one after the other
+pub next-power : (times : ℕ → ℕ → ℕ) (a n next product : ℕ) → next ≡ power 1 times a n → product ≡ times next a
+    → product ≡ power 1 times a (n + 1)
+unfolding power
+next-power times a n next product next_is product_is =
+    product_is ∙ ap (λ (v : ℕ). times v a) next_is ∙ ap (power 1 times a) more
+  where
+    more : suc n ≡ n + 1
+    more = omega arith
+
+pub next-product : (width : ℕ) (times : ℕ → ℕ → ℕ) → IsField width times → (f a n next product : ℕ)
+    → next ≡ times f (power 1 times a n) → product ≡ times next a → product ≡ times f (power 1 times a (n + 1))
+next-product width times field f a n next product next_is product_is =
+    product_is ∙ ap (λ (v : ℕ). times v a) next_is ∙ field.ring.assoc f (power 1 times a n) a
+    ∙ ap (times f) (next-power times a n (power 1 times a n) (times (power 1 times a n) a) refl refl)
+
+-- an entry of a front that is mapped
+pub front-mapped : (f : ℕ → ℕ) (k : ℕ) (xs mapped : List ℕ) (i : ℕ) → k ≤ length xs → i < k → mapped ≡ map f (take k xs)
+    → slice_index (mapped ++ drop k xs) i ≡ f (slice_index xs i)
+front-mapped f k xs mapped i inside below is =
+    get_or_append_left mapped (drop k xs) 0 i (omega (arith, below, long))
+    ∙ ap (λ (l : List ℕ). slice_index l i) is ∙ get_or-map f (take k xs) i 0 0 (omega (arith, below, front))
+    ∙ ap f (get_or-take k xs i 0 below)
+  where
+    front : length (take k xs) ≡ k
+    front = length-take-le k xs inside
+
+    long : length mapped ≡ k
+    long = ap (λ (l : List ℕ). length l) is ∙ length-map (take k xs) f ∙ front
 
 -- an entry more behind the first k
 pub entry-behind : (k j entry : ℕ) (row initial rest : List ℕ) → k + j < length row → entry ≡ slice_index rest j

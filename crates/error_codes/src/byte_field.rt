@@ -1,7 +1,8 @@
 // The fields of bytes that codes use, by tables: a product is a generator of the field to the power of the sum of the
 // logarithms of its factors. Bit i of a byte is the coefficient of x^i.
-ghost use Rattle.std.specs.Prelude.{◌≡◌, ◌≢◌};
+ghost use Rattle.std.specs.Prelude.{◌≡◌, ◌≢◌, ◌<◌, ℕ};
 ghost use Rattle.field_base.specs.Field.{IsField};
+ghost use Rattle.field_base.specs.LinearMaps.{linear_image};
 ghost use Rattle.field_base.specs.Powers.{power};
 ghost use Rattle.field_base.specs.Remainder.{mul_mod};
 ghost use Rattle.error_codes.specs.ByteFields.{byte_generator, byte_times};
@@ -69,6 +70,23 @@ fn multiply_rijndael(a: u8, b: u8) -> u8
     ensures { result ≡ mul_mod 8 0x11b a b }
 {
     power_of_sum(&literals::EXP_11B, &literals::LOG_11B, a, b)
+}
+
+// The products of a factor by each bit of a byte.
+#[inline]
+pub(crate) fn images_of(field: ByteField, factor: u8) -> [u8; 8]
+    ensures { (x : ℕ) → x < 256 → linear_image result x ≡ byte_times field x factor }
+{
+    [
+        multiply(field, 1, factor),
+        multiply(field, 2, factor),
+        multiply(field, 4, factor),
+        multiply(field, 8, factor),
+        multiply(field, 16, factor),
+        multiply(field, 32, factor),
+        multiply(field, 64, factor),
+        multiply(field, 128, factor),
+    ]
 }
 
 // A byte to the power of any exponent, by squares.

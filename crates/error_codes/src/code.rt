@@ -1,5 +1,5 @@
 // The code: its field, its length, and its roots.
-ghost use Rattle.std.specs.Prelude.{◌≡◌, ◌≢◌, ◌+◌, ◌-◌, ◌<◌, ◌≤◌, ◌↔◌, ℕ, length, slice_index, IsTrue, IsOk, IfOk};
+ghost use Rattle.std.specs.Prelude.{◌≡◌, ◌≢◌, ◌+◌, ◌-◌, ◌<◌, ◌≤◌, ◌↔◌, ℕ, length, slice_index, bit_xor, IsTrue, IsOk, IfOk};
 ghost use Rattle.std.specs.Prelude.{IfErr};
 ghost use Rattle.field_base.specs.Powers.{power};
 ghost use Rattle.error_codes.specs.ByteFields.{byte_generator, byte_times};
@@ -121,8 +121,12 @@ impl CorrectingCode {
         ensures zeros { (m : ℕ) → self.now.word_length - self.now.dimension ≤ m → slice_index result m ≡ 0 }
     {
         let mut values = [0; 256];
+        let mut found = [0; 8];
         for m in 0..self.word_length - self.dimension {
-            values[m] = value_at(self.field, word, self.roots[m]);
+            if m % 8 == 0 {
+                found = values_at_eight(self.field, word, &self.roots, m);
+            }
+            values[m] = found[m % 8];
         }
         values
     }
@@ -136,8 +140,9 @@ impl CorrectingCode {
         if word.len() != self.word_length {
             return false;
         }
+        let values = self.syndromes(word);
         for m in 0..self.word_length - self.dimension {
-            if value_at(self.field, word, self.roots[m]) != 0 {
+            if values[m] != 0 {
                 return false;
             }
         }
@@ -145,15 +150,30 @@ impl CorrectingCode {
     }
 }
 
-// The value at x of the polynomial whose coefficients are the symbols, the first that of the highest power.
-pub(crate) fn value_at(field: ByteField, word: &[u8], x: u8) -> u8
-    ensures { result ≡ code_value (byte_times field) (length word.now) (slice_index word.now) x }
+// One symbol more for each of eight values: the value so far times its root, and the symbol.
+#[inline]
+fn add_symbol(field: ByteField, values: &mut [u8; 8], roots: &[u8; 256], first: usize, symbol: u8)
+    requires { first + 8 ≤ 256 }
+    ensures { (k : ℕ) → k < 8 → slice_index values.new k
+        ≡ bit_xor (byte_times field (slice_index values.old k) (slice_index roots.now (first + k))) symbol }
 {
-    let mut value = 0;
-    for symbol in word {
-        value = multiply(field, value, x) ^ *symbol;
+    for k in 0..8 {
+        values[k] = multiply(field, values[k], roots[first + k]) ^ symbol;
     }
-    value
+}
+
+// The values at eight roots of the polynomial whose coefficients are the symbols, the first that of the highest power. The products
+// for one root wait for each other, and those for eight do not.
+fn values_at_eight(field: ByteField, word: &[u8], roots: &[u8; 256], first: usize) -> [u8; 8]
+    requires { first + 8 ≤ 256 }
+    ensures { (k : ℕ) → k < 8 → slice_index result k
+        ≡ code_value (byte_times field) (length word.now) (slice_index word.now) (slice_index roots.now (first + k)) }
+{
+    let mut values = [0; 8];
+    for symbol in word {
+        add_symbol(field, &mut values, roots, first, *symbol);
+    }
+    values
 }
 
 // base^(count - 1), base^(count - 2), .., 1.
@@ -162,8 +182,10 @@ fn falling_powers(field: ByteField, base: u8, count: usize) -> [u8; 256]
     ensures { (i : ℕ) → i < count → slice_index result i ≡ power 1 (byte_times field) base (count - 1 - i) }
 {
     let mut powers = [0; 256];
+    let mut next = 1;
     for i in 0..count {
-        powers[i] = power_of(field, base, count - 1 - i);
+        powers[count - 1 - i] = next;
+        next = multiply(field, next, base);
     }
     powers
 }
@@ -174,8 +196,10 @@ fn rising_powers(field: ByteField, first: u8, base: u8, count: usize) -> [u8; 25
     ensures { (m : ℕ) → m < count → slice_index result m ≡ byte_times field first (power 1 (byte_times field) base m) }
 {
     let mut powers = [0; 256];
+    let mut next = first;
     for m in 0..count {
-        powers[m] = multiply(field, first, power_of(field, base, m));
+        powers[m] = next;
+        next = multiply(field, next, base);
     }
     powers
 }

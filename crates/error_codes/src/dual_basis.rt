@@ -10,7 +10,7 @@ const TO_DUAL: [u8; 8] = [0x7b, 0xaf, 0x99, 0xfa, 0x86, 0xec, 0xef, 0x8d];
 const FROM_DUAL: [u8; 8] = [0xcc, 0xac, 0x79, 0xf0, 0xfd, 0x2e, 0x42, 0xc5];
 
 // States that bytes are below 256. It computes nothing.
-fn bytes_fit(bytes: &[u8])
+pub(crate) fn bytes_fit(bytes: &[u8])
     ensures { (i : ℕ) → slice_index bytes.now i < 256 }
 {}
 

@@ -3,17 +3,26 @@ ghost use Rattle.std.specs.Prelude.{◌≡◌, ◌+◌, ◌-◌, ◌<◌, ◌≤
 ghost use Rattle.error_codes.specs.ByteFields.{byte_times};
 ghost use Rattle.error_codes.specs.Correcting.{HasRoots, code_value};
 
-use crate::byte_field::{ByteField, multiply};
+use crate::byte_field::{ByteField, images_of, multiply};
 use crate::code::CorrectingCode;
+use crate::dual_basis::bytes_fit;
+use word_tables::map_bytes;
 
-// The coefficients of a polynomial times x + root, the highest first.
-fn multiply_by_root(field: ByteField, coefficients: &[u8; 256], root: u8) -> [u8; 256]
+// The coefficients of a polynomial times x + root, the highest first. Behind those of its degree there are zeros.
+fn multiply_by_root(
+    field: ByteField,
+    coefficients: &[u8; 256],
+    degree: usize,
+    root: u8,
+) -> [u8; 256]
+    requires room { degree < 255 }
+    requires zeros { (j : ℕ) → degree < j → j < 256 → slice_index coefficients.now j ≡ 0 }
     ensures first { slice_index result 0 ≡ slice_index coefficients.now 0 }
     ensures next { (j : ℕ) → j + 1 < 256 → slice_index result (j + 1)
         ≡ bit_xor (slice_index coefficients.now (j + 1)) (byte_times field root (slice_index coefficients.now j)) }
 {
     let mut product = *coefficients;
-    for j in 1..256 {
+    for j in 1..degree + 2 {
         product[j] = coefficients[j] ^ multiply(field, root, coefficients[j - 1]);
     }
     product
@@ -29,7 +38,7 @@ pub(crate) fn generator_polynomial(field: ByteField, roots: &[u8; 256], count: u
     let mut product = [0; 256];
     product[0] = 1;
     for m in 0..count {
-        product = multiply_by_root(field, &product, roots[m]);
+        product = multiply_by_root(field, &product, m, roots[m]);
     }
     product
 }
@@ -48,9 +57,12 @@ fn shift_rest(
         (byte_times field (bit_xor symbol (slice_index rest.old 0)) (slice_index generator.now (j + 1))) }
     ensures others { (j : ℕ) → count ≤ j → slice_index rest.new j ≡ slice_index rest.old j }
 {
+    bytes_fit(generator);
     let factor = symbol ^ rest[0];
+    let mut products = *generator;
+    map_bytes(&images_of(field, factor), &mut products[..count + 1]);
     for j in 0..count {
-        rest[j] = rest[j + 1] ^ multiply(field, factor, generator[j + 1]);
+        rest[j] = rest[j + 1] ^ products[j + 1];
     }
 }
 

@@ -9,7 +9,7 @@ ghost use Rattle.error_codes.specs.Correcting.{HasRoots, code_value, is_listed};
 ghost use Rattle.error_codes.specs.Filling.{is_marked};
 ghost use Rattle.error_codes.specs.Interleaved.{AreEncoded, AreWordValues, IsSettled, interleaved_word};
 
-use crate::byte_field::{ByteField, multiply};
+use crate::byte_field::{ByteField, images_of};
 use crate::code::CorrectingCode;
 use crate::correcting::{count_marks, listed_places};
 use word_tables::map_bytes;
@@ -40,22 +40,6 @@ fn write_word(symbols: &mut [u8], depth: usize, c: usize, word: &[u8])
     for i in 0..word.len() {
         symbols[i * depth + c] = word[i];
     }
-}
-
-// The products of a factor by each bit of a byte.
-fn images_of(field: ByteField, factor: u8) -> [u8; 8]
-    ensures { (x : ℕ) → x < 256 → linear_image result x ≡ byte_times field x factor }
-{
-    [
-        multiply(field, 1, factor),
-        multiply(field, 2, factor),
-        multiply(field, 4, factor),
-        multiply(field, 8, factor),
-        multiply(field, 16, factor),
-        multiply(field, 32, factor),
-        multiply(field, 64, factor),
-        multiply(field, 128, factor),
-    ]
 }
 
 // A step of Horner's rule for each word: the value so far by the scalar that has these products, and a symbol more.

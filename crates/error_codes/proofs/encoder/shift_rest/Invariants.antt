@@ -1,10 +1,8 @@
 use Rattle.std.proofs.Common.{◌≡◌, ◌<◌, ◌≤◌, ◌+◌, ℕ, slice_index}
 use Rattle.std.specs.Prelude.{bit_xor}
-use Rattle.error_codes.specs.ByteFields.{byte_times}
 use Rattle.error_codes.proofs.encoder.shift_rest.Given as goal
 
 abbrev pub invariant-loop-j : goal.invariant-loop-j
 invariant-loop-j l =
-    ((n : ℕ) → n < l.j → slice_index l.rest n ≡ bit_xor (slice_index l.initial.rest (n + 1))
-    (byte_times l.field l.factor (slice_index l.generator (n + 1))))
+    ((n : ℕ) → n < l.j → slice_index l.rest n ≡ bit_xor (slice_index l.initial.rest (n + 1)) (slice_index l.products (n + 1)))
     × ((n : ℕ) → l.j ≤ n → slice_index l.rest n ≡ slice_index l.initial.rest n)

@@ -1,7 +1,7 @@
 use Rattle.error_codes.specs.ByteFields.{byte_times}
 use Rattle.error_codes.proofs.ByteTables.{bytes_are_fields}
 use Rattle.error_codes.proofs.WordColumns.{images_are}
-use Rattle.error_codes.proofs.interleaved.images_of.Goals as goal
+use Rattle.error_codes.proofs.byte_field.images_of.Goals as goal
 
 pub returns : goal.returns
 returns c =
