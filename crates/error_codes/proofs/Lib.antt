@@ -31,3 +31,6 @@ pub mod Candidates
 pub mod DualBytes
 pub mod WordColumns
 pub mod CleanWords
+pub mod NibbleFields
+pub mod NibbleWords
+pub mod NibbleCalls

@@ -9,4 +9,5 @@ pub mod ByteFields
 pub mod Correcting
 pub mod Filling
 pub mod Interleaved
+pub mod Nibbles
 pub mod DualBasis

@@ -11,6 +11,7 @@ mod error;
 mod filling;
 mod interleaved;
 pub mod laws;
+mod nibble_code;
 mod shift_registers;
 mod standards;
 #[cfg(test)]
@@ -21,4 +22,5 @@ pub use crate::code::CorrectingCode;
 pub use crate::correcting::Corrected;
 pub use crate::dual_basis::{dual_bytes_differ, from_dual_basis, to_dual_basis};
 pub use crate::error::{CodeError, TooManyErrors};
+pub use crate::nibble_code::NibbleCode;
 pub use crate::shift_registers::{Register, shortest_register};

@@ -2,6 +2,7 @@
 use crate::byte_field::ByteField;
 use crate::code::CorrectingCode;
 use crate::dual_basis::{from_dual_basis, to_dual_basis};
+use crate::nibble_code::NibbleCode;
 use std::test::Fail;
 
 // ISO/IEC 18004, annex I: the code words of 01234567 in a symbol of version 1-M.
@@ -178,5 +179,33 @@ fn interleaved_words_are_corrected(rt: HostRuntime) -> Result<(), Fail> {
             assert_eq!(rt; received[i * depth + 2], before[i * depth + 2]);
         }
     }
+    Ok(())
+}
+
+// The mode message of a compact Aztec symbol of 4 layers and 64 words of data, as the encoder of ZXing writes it.
+const MODE_MESSAGE: [u8; 7] = [15, 15, 4, 1, 3, 4, 12];
+
+#[test]
+fn words_of_nibbles_are_corrected(rt: HostRuntime) -> Result<(), Fail> {
+    let code = NibbleCode::new(7, 2, 1, 1)?;
+    assert_eq!(rt; (code.word_length(), code.dimension()), (7, 2));
+    let mut word = [15, 15, 0, 0, 0, 0, 0];
+    code.encode(&mut word);
+    assert_eq!(rt; word, MODE_MESSAGE);
+    assert!(rt; code.is_code_word(&word));
+    word[3] ^= 5;
+    word[6] = 200;
+    assert!(rt; !code.is_code_word(&word));
+    assert_eq!(rt; code.correct(&mut word, &[])?.count, 2);
+    assert_eq!(rt; word, MODE_MESSAGE);
+    for i in 0..3 {
+        word[i] ^= 1;
+    }
+    assert!(rt; code.correct(&mut word, &[]).is_err());
+    assert_eq!(rt; code.correct(&mut word, &[0, 1])?.count, 3);
+    assert_eq!(rt; word, MODE_MESSAGE);
+    assert!(rt; NibbleCode::new(16, 2, 1, 1).is_err());
+    assert!(rt; NibbleCode::new(6, 2, 0, 3).is_err());
+    assert!(rt; NibbleCode::new(5, 2, 0, 3).is_ok());
     Ok(())
 }

@@ -1,0 +1,16 @@
+use Rattle.std.proofs.Common.{ℕ, slice_index, ◌∙◌, ap, arith}
+use Rattle.error_codes.specs.Nibbles.{lowered}
+use Rattle.error_codes.proofs.CodeValues.{entry-over}
+use Rattle.error_codes.proofs.NibbleWords.{all-mapped}
+use Rattle.error_codes.proofs.nibble_code.lower.Goals as goal
+
+pub loop-i-preserved : goal.loop-i-preserved
+loop-i-preserved c =
+    let old = c.args.word.now in
+    entry-over c.loop-i.i _ (λ n. lowered (slice_index old n)) c.loop-i.word old (omega (arith, c.loop-i-test.true, c.loop-i.auto.word))
+    (c.entry.ensures ∙ ap lowered (c.loop-i.invariant.1 c.loop-i.i (omega arith))) c.loop-i.invariant
+
+pub returns : goal.returns
+returns c =
+    all-mapped lowered c.args.word.now c.loop-i.word c.loop-i.auto.word
+    (λ k below. c.loop-i.invariant.0 k (omega (arith, below, c.loop-i-test.false)))
