@@ -49,11 +49,11 @@ module _ (width : ℕ) (times : ℕ → ℕ → ℕ) (wide : 0 < width) (field :
   abbrev top_sum : ℕ
   top_sum = sum_below (λ i. times (weight i) (power 1 times (point i) last)) (suc last)
 
-  weight-lt : (i : ℕ) → weight i < 2 ^ width
+  pub weight-lt : (i : ℕ) → weight i < 2 ^ width
   weight-lt i = power-lt width 1 times field.ring one_fits (other_factors times point i (point i) (suc last))
       (2 ^ width - 2)
 
-  weight-nonzero : (i : ℕ) → i < suc last → weight i ≢ 0
+  pub weight-nonzero : (i : ℕ) → i < suc last → weight i ≢ 0
   weight-nonzero i within is =
       let one : 0 ≡ 1 =
       sym (times-zero width 1 times field.ring (other_factors times point i (point i) (suc last)))

@@ -232,11 +232,15 @@ module _ (width : ℕ) (times : ℕ → ℕ → ℕ) (wide : 0 < width) (field :
           (reversed-value c (suc L) (point i) ∙ ap (λ (k : ℕ). code_value times k c (point i)) more)
           ∙ sym (marks_are i below)
 
-      -- few places are suspected
-      pub suspects-few : marked_below marks n ≤ checks
-      suspects-few =
+      -- no more places are suspected than are erased or counted by the register
+      pub suspects-counted : marked_below marks n ≤ marked_below erased n + L
+      suspects-counted =
           let fewer = fewer-marks marks suspected n (λ i below is. as-suspected i below ∙ is) in
-          omega (arith, fewer, few-suspected, register-short, few)
+          omega (arith, fewer, few-suspected)
+
+      -- and so they are few
+      pub suspects-few : marked_below marks n ≤ checks
+      suspects-few = omega (arith, suspects-counted, register-short, few)
 
       -- and all others are right
       pub others-right : (i : ℕ) → i < n → marks i ≡ false → word i ≡ sent i

@@ -2,3 +2,6 @@ mod Products
 mod Interpolating
 mod Loops
 mod Secrecy
+mod RightShares
+mod Located
+mod NearShares

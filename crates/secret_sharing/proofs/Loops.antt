@@ -5,8 +5,10 @@ use Rattle.std.proofs.lemmas.Bool.{cases_lt}
 use Rattle.std.proofs.lemmas.List.FromFn.{get_or-map-range_with_len, length-map-range_with_len}
 use Rattle.std.proofs.lemmas.Nat.{div-mul-add, le_or_l, le_or_r, mod-mul-add, mul-add-lt, xor_comm}
 use lib.Bits.{xor_self}
-use Rattle.field_base.specs.Powers.{value_of}
+use native.Mathlib.Numerals.{add-one}
+use Rattle.field_base.specs.Powers.{power, value_of}
 use Rattle.field_base.proofs.Horner.{horner_start, horner_step, value_of-cons}
+use Rattle.field_base.proofs.PowerLemmas.{times-one}
 use Rattle.field_base.proofs.RingLemmas.{xor_nothing}
 use Rattle.secret_sharing.specs.Fields.{product_in}
 use Rattle.secret_sharing.specs.Sharing.{AreSplit, bytes_at, share_byte}
@@ -95,3 +97,22 @@ pub split_at : (field : ShareField) (others count all : ℕ) (secret draws share
 split_at field others count all secret draws shares whole each i j within inside =
     each (i * length secret + j) (let place = mul-add-lt i (length secret) j count within inside in omega (arith, place, whole))
     ∙ ap₂ (λ (m n : ℕ). share_byte field others secret draws (m + 1) n) (div-mul-add i (length secret) j inside) (mod-mul-add i (length secret) j inside)
+
+-- ---- syndromes
+
+-- the first term of a share is its scaled byte
+pub first-term : (field : ShareField) (scale byte index : ℕ)
+    → product_in field scale byte ≡ product_in field (product_in field scale byte) (power 1 (product_in field) index 0)
+unfolding power
+first-term field scale byte index =
+    sym (times-one 8 1 (product_in field) (product_ring field) (product_in field scale byte) ((product_ring field).below scale byte))
+
+-- and each other is the product of that before by the index
+pub next-term : (field : ShareField) (first index m term : ℕ)
+    → term ≡ product_in field first (power 1 (product_in field) index m)
+    → product_in field index term ≡ product_in field first (power 1 (product_in field) index (m + 1))
+unfolding power
+next-term field first index m term is =
+    ap (product_in field index) is ∙ (product_ring field).comm index (product_in field first (power 1 (product_in field) index m))
+    ∙ (product_ring field).assoc first (power 1 (product_in field) index m) index
+    ∙ ap (λ (n : ℕ). product_in field first (power 1 (product_in field) index n)) (sym (add-one m))

@@ -1,7 +1,7 @@
 -- Any k shares restore a secret, and k - 1 hide it.
 use Rattle.std.proofs.Common.{◌≡◌, ℕ, zero, suc, ◌+◌, ◌-◌, ◌*◌, ◌/◌, ◌%◌, ◌^◌, ◌<◌, inl, inr, List, ◌∷◌, length, map, refl, sym, ◌∙◌, ap, ap₂, subst, arith, lit<}
 use Rattle.std.specs.List.{range_with_len}
-use Rattle.std.specs.Prelude.{bit_xor, slice_index}
+use Rattle.std.specs.Prelude.{bit_xor, nat_eq, not, slice_index}
 use Rattle.std.proofs.lemmas.Bool.{cases_lt}
 use Rattle.std.proofs.lemmas.List.{ext_get_or, get_or_past}
 use Rattle.std.proofs.lemmas.List.FromFn.{get_or-map-range_with_len, length-map-range_with_len}
@@ -15,11 +15,13 @@ use Rattle.field_base.proofs.Horner.{value_of-cons}
 use Rattle.field_base.proofs.RingLemmas.{times-zero}
 use Rattle.error_codes.specs.Secrets.{SharesSecret}
 use Rattle.error_codes.proofs.FewerShares.{fewer_shares_are_counted}
+use Rattle.error_codes.proofs.Meanings.{marks-same}
 use Rattle.error_codes.proofs.Secrets.{shares_hide_secret}
 use Rattle.secret_sharing.specs.Fields.{product_in}
 use Rattle.secret_sharing.specs.Refusals.{AreDistinct, AreNonzero}
-use Rattle.secret_sharing.specs.Secrecy.{FitBytes, ByteSharesAreCounted, GiveShares, SharesHideString, SplitSharesCombine}
+use Rattle.secret_sharing.specs.Secrecy.{FitBytes, ByteSharesAreCounted, ChangedSharesAreFound, GiveShares, SharesHideString, SplitSharesCombine, is_changed_share}
 use Rattle.secret_sharing.specs.Sharing.{IsThrough, bytes_at, coefficients, share_at, share_byte}
+use Rattle.secret_sharing.specs.Wrong.{is_wrong_byte, is_wrong_share}
 use Rattle.secret_sharing.specs.declared.field.ShareField.{ShareField}
 use Rattle.secret_sharing.specs.declared.field.ShareField.TheVariants.{Gfshare, Rijndael}
 use Rattle.secret_sharing.proofs.Products.{product_ring}
@@ -78,6 +80,41 @@ split_shares_combine field others count secret draws shares indexes chosen resto
           ap (λ (x : ℕ). share_byte field others secret draws x j) (sym (again i within)) ∙ sym (split (slice_index indexes i - 1) j (before i within) inside)
           ∙ sym (choice i j within inside);
     }
+
+-- the shares that are changed are wrong for the polynomials of the secret, and no others
+pub changed_shares_are_found : ChangedSharesAreFound
+changed_shares_are_found field others count secret draws shares indexes chosen fits split nonzero most few = (
+  record {
+    coefficient_count = λ j inside. let rows = row-count (length secret) others draws j in omega (arith, rows);
+    few_wrong =
+        let same = marks-same (is_wrong_share field indexes (length secret) chosen (coefficients others secret draws))
+        (is_changed_share (length secret) shares indexes chosen) (length indexes) each in
+        omega (arith, few, same);
+  },
+  each,
+  λ j inside. value-at_zero field (slice_index secret j) (bytes_at (length secret) others draws j) (fits j),
+)
+  where
+    before : (i : ℕ) → i < length indexes → slice_index indexes i - 1 < count
+    before i within = let some = nonzero i within in let last = most i within in omega (arith, some, last)
+
+    again : (i : ℕ) → i < length indexes → slice_index indexes i - 1 + 1 ≡ slice_index indexes i
+    again i within = let some = nonzero i within in omega (arith, some)
+
+    given_byte : (i j : ℕ) → i < length indexes → j < length secret
+        → share_byte field others secret draws (slice_index indexes i) j ≡ share_at (length secret) shares j (slice_index indexes i - 1)
+    given_byte i j within inside =
+        ap (λ (x : ℕ). share_byte field others secret draws x j) (sym (again i within))
+        ∙ sym (split (slice_index indexes i - 1) j (before i within) inside)
+
+    each : (i : ℕ) → i < length indexes
+        → is_wrong_share field indexes (length secret) chosen (coefficients others secret draws) i
+        ≡ is_changed_share (length secret) shares indexes chosen i
+    each i within =
+        ap (λ (m : ℕ). not (nat_eq m 0))
+        (marks-same (is_wrong_byte field indexes (length secret) chosen (coefficients others secret draws) i)
+        (λ j. not (nat_eq (share_at (length secret) chosen j i) (share_at (length secret) shares j (slice_index indexes i - 1)))) (length secret)
+        (λ j inside. ap (λ (byte : ℕ). not (nat_eq (share_at (length secret) chosen j i) byte)) (given_byte i j within inside)))
 
 -- ---- what they hide
 

@@ -1,4 +1,5 @@
 pub mod Fields
 pub mod Sharing
 pub mod Refusals
+pub mod Wrong
 pub mod Secrecy

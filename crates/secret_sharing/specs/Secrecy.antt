@@ -1,12 +1,15 @@
 -- What shares are good for: any k of them restore the secret, and k - 1 say nothing of it, since each secret has
 -- exactly one choice of drawn bytes that gives them (A. Shamir, How to share a secret, 1979; perfect secrecy as C. E.
 -- Shannon has it, Communication theory of secrecy systems, 1949).
-use Rattle.std.specs.Prelude.{◌≡◌, ℕ, ◌+◌, ◌-◌, ◌*◌, ◌^◌, ◌<◌, ◌≤◌, List, ◌∷◌, cond, length, slice_index}
+use Rattle.std.specs.Prelude.{◌≡◌, ℕ, ◌+◌, ◌-◌, ◌*◌, ◌^◌, ◌<◌, ◌≤◌, List, ◌∷◌, Bool, cond, length, nat_eq, not, slice_index}
+use Rattle.field_base.specs.Powers.{value_of}
+use Rattle.proximity.specs.Marks.{marked_below}
 use Rattle.proximity.specs.Openings.{sum_lists}
 use Rattle.error_codes.specs.Secrets.{are_shares}
 use Rattle.secret_sharing.specs.Fields.{product_in}
 use Rattle.secret_sharing.specs.Refusals.{AreDistinct, AreNonzero}
-use Rattle.secret_sharing.specs.Sharing.{AreSplit, IsCombined, LieOnPolynomials, share_at, share_byte}
+use Rattle.secret_sharing.specs.Sharing.{AreSplit, IsCombined, LieOnPolynomials, coefficients, share_at, share_byte}
+use Rattle.secret_sharing.specs.Wrong.{AreNearPolynomials, is_wrong_share}
 use Rattle.secret_sharing.specs.declared.field.ShareField.{ShareField}
 
 -- the entries of a list are bytes
@@ -27,6 +30,24 @@ SplitSharesCombine = (field : ShareField) (others count : ℕ) (secret draws sha
     → AreChosen (length secret) shares indexes chosen
     → LieOnPolynomials field (others + 1) indexes (length secret) chosen
     × (length restored ≡ length secret → IsCombined field (others + 1) indexes chosen restored → restored ≡ secret)
+
+-- share i of the chosen has other bytes than the share at its index
+abbrev pub is_changed_share : ℕ → List ℕ → List ℕ → List ℕ → ℕ → Bool
+is_changed_share size shares indexes chosen i =
+    not (nat_eq (marked_below (λ j. not (nat_eq (share_at size chosen j i) (share_at size shares j (slice_index indexes i - 1)))) size) 0)
+
+-- of the shares of a secret, few of which are changed, exactly these are wrong for the polynomials of the secret, which
+-- all are near to, and whose values at 0 are the secret
+abbrev pub ChangedSharesAreFound : Type 0
+ChangedSharesAreFound = (field : ShareField) (others count : ℕ) (secret draws shares indexes chosen : List ℕ)
+    → FitBytes secret → AreSplit field others count secret draws shares
+    → AreNonzero indexes → ((i : ℕ) → i < length indexes → slice_index indexes i ≤ count)
+    → 2 * marked_below (is_changed_share (length secret) shares indexes chosen) (length indexes) + (others + 1) ≤ length indexes
+    → AreNearPolynomials field (others + 1) indexes (length secret) chosen (coefficients others secret draws)
+    × ((i : ℕ) → i < length indexes → is_wrong_share field indexes (length secret) chosen (coefficients others secret draws) i
+    ≡ is_changed_share (length secret) shares indexes chosen i)
+    × ((j : ℕ) → j < length secret
+    → value_of 1 (product_in field) (λ c. c) (coefficients others secret draws j) 0 ≡ slice_index secret j)
 
 -- the drawn bytes give a secret these shares
 pub record GiveShares (field : ShareField) (others : ℕ) (indexes secret shares draws : List ℕ) : Type 0 where

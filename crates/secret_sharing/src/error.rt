@@ -28,7 +28,8 @@ pub enum SharingError {
     /// Two shares have one index.
     #[error("two shares have one index")]
     EqualIndexes,
-    /// There are more shares than are needed, and they are not those of one secret.
+    /// There are more shares than are needed, and they are not those of one secret; for `combine_correcting`, which
+    /// are wrong cannot be told.
     #[error("a share is wrong, or is of another secret")]
     WrongShare,
 }

@@ -1,7 +1,8 @@
-// The factors by which shares are summed: Lagrange's interpolation through the points of the first shares. They
-// follow from indexes.
+// The factors by which shares are summed: Lagrange's interpolation through the points of the first shares, and the
+// scales that make them words of a code. They follow from indexes.
 ghost use Rattle.std.specs.Prelude.{◌≡◌, ◌-◌, ◌<◌, ◌≤◌, ◌^◌, ℕ, length, slice_index};
 ghost use Rattle.field_base.specs.Interpolation.{lagrange, other_factors};
+ghost use Rattle.error_codes.specs.Checks.{dual_weight};
 ghost use Rattle.secret_sharing.specs.Fields.{product_in};
 
 use crate::field::{ShareField, is_field};
@@ -19,6 +20,21 @@ pub(crate) fn factors_at(field: ShareField, indexes: &[u8], needed: usize, x: u8
         factors[own] = factor_at(field, indexes, needed, own, x);
     }
     factors
+}
+
+// The scales by which the values of a polynomial at all indexes are a word of a code by checks: the inverse of the
+// product of the differences of an index to the others.
+pub(crate) fn scales_of(field: ShareField, indexes: &[u8]) -> [u8; 255]
+    requires few { length indexes.now ≤ 255 }
+    ensures { (i : ℕ) → i < length indexes.now → slice_index result i
+        ≡ dual_weight 8 (product_in field) (length indexes.now) (slice_index indexes.now) i }
+{
+    let count = indexes.len();
+    let mut scales = [0; 255];
+    for own in 0..count {
+        scales[own] = inverse(field, differences(field, indexes, count, own, indexes[own]));
+    }
+    scales
 }
 
 // The factor of share `own`: the product of (x - p) / (own index - p) over the other indexes p.

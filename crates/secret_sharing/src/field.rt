@@ -2,8 +2,10 @@
 ghost use Rattle.std.specs.Prelude.{◌≡◌, ◌+◌};
 ghost use Rattle.field_base.specs.Field.{IsField};
 ghost use Rattle.secret_sharing.specs.Fields.{modulus_of, product_in};
+ghost use Rattle.error_codes.specs.ByteFields.{byte_times};
 ghost use Rattle.secret_sharing.specs.declared.field.ShareField.TheVariants.{Gfshare, Rijndael};
 
+use error_codes::ByteField;
 use reed_solomon::erasure_field;
 use word_tables::isomorphism_8;
 
@@ -25,6 +27,16 @@ impl ShareField {
         match self {
             ShareField::Rijndael => 0x1b,
             ShareField::Gfshare => 0x1d,
+        }
+    }
+
+    // The same field, as codes name it.
+    pub(crate) fn byte_field(self) -> ByteField
+        ensures { byte_times result ≡ product_in self }
+    {
+        match self {
+            ShareField::Rijndael => ByteField::Rijndael,
+            ShareField::Gfshare => ByteField::Qr,
         }
     }
 }

@@ -1,5 +1,6 @@
 // The laws of shares, as the contracts of functions that compute nothing.
-ghost use Rattle.secret_sharing.specs.Secrecy.{ByteSharesAreCounted, SharesHideString, SplitSharesCombine};
+ghost use Rattle.secret_sharing.specs.Secrecy.{ByteSharesAreCounted, ChangedSharesAreFound, SharesHideString};
+ghost use Rattle.secret_sharing.specs.Secrecy.{SplitSharesCombine};
 
 use crate::field::share_fields;
 
@@ -7,6 +8,13 @@ use crate::field::share_fields;
 /// what it leaves is what `split` was given.
 pub fn split_shares_combine()
     ensures { SplitSharesCombine }
+{}
+
+/// States that of n shares of a secret, up to (n - k) / 2 of which have other bytes than `split` gave them, exactly these
+/// are wrong for polynomials that all are near to, and whose values at 0 are the secret. So `combine_correcting` accepts
+/// them, names these, and leaves what `split` was given.
+pub fn changed_shares_are_found()
+    ensures { ChangedSharesAreFound }
 {}
 
 /// States that shares, one fewer than are needed, say nothing of a secret: for each secret of their length there is

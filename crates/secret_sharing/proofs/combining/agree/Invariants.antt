@@ -2,12 +2,12 @@ use Rattle.std.proofs.Common.{◌≡◌, ◌<◌, ◌≤◌, ℕ, slice_index}
 use Rattle.std.specs.Prelude.{◌↔◌}
 use Rattle.field_base.specs.Interpolation.{interpolated}
 use Rattle.secret_sharing.specs.Fields.{product_in}
-use Rattle.secret_sharing.specs.Sharing.{share_at}
+use Rattle.secret_sharing.specs.Wrong.{listed_share}
 use Rattle.secret_sharing.proofs.combining.agree.Given as goal
 
 -- nothing differs exactly where the shares so far have the values
 abbrev pub invariant-loop-other : goal.invariant-loop-other
 invariant-loop-other l =
     (l.difference ≡ 0) ↔ ((other : ℕ) → other < l.other → l.needed ≤ other → (j : ℕ) → j < l.size
-    → interpolated 8 (product_in l.field) (slice_index l.indexes) (share_at l.size l.shares j) l.needed (slice_index l.indexes other)
-    ≡ share_at l.size l.shares j other)
+    → interpolated 8 (product_in l.field) (slice_index l.unmarked.indexes) (listed_share l.size l.shares l.unmarked.places j) l.needed (slice_index l.unmarked.indexes other)
+    ≡ listed_share l.size l.shares l.unmarked.places j other)

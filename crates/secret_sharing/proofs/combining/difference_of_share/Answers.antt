@@ -1,16 +1,16 @@
 use Rattle.std.proofs.Common.{◌≡◌, ℕ, slice_index}
 use Rattle.field_base.specs.Interpolation.{interpolated}
 use Rattle.secret_sharing.specs.Fields.{product_in}
-use Rattle.secret_sharing.specs.Sharing.{share_at}
+use Rattle.secret_sharing.specs.Wrong.{listed_share}
 use Rattle.secret_sharing.proofs.Interpolating.{weighed}
 use Rattle.secret_sharing.proofs.Loops.{differs, gathered}
 use Rattle.secret_sharing.proofs.combining.difference_of_share.Goals as goal
 
 pub loop-j-preserved : goal.loop-j-preserved
 loop-j-preserved c =
-    let point = slice_index c.args.indexes.now in
+    let point = slice_index c.args.unmarked.now.indexes in
     let j : ℕ = c.loop-j.j in
-    let value = share_at c.args.size c.args.shares.now in
+    let value = listed_share c.args.size c.args.shares.now c.args.unmarked.now.places in
     gathered
     (λ i. interpolated 8 (product_in c.args.field) point (value i) c.args.needed (point c.args.other) ≡ value i c.args.other) j c.loop-j.difference _
     c.loop-j.invariant

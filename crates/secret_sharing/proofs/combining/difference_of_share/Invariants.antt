@@ -2,11 +2,11 @@ use Rattle.std.proofs.Common.{◌≡◌, ◌<◌, ℕ, slice_index}
 use Rattle.std.specs.Prelude.{◌↔◌}
 use Rattle.field_base.specs.Interpolation.{interpolated}
 use Rattle.secret_sharing.specs.Fields.{product_in}
-use Rattle.secret_sharing.specs.Sharing.{share_at}
+use Rattle.secret_sharing.specs.Wrong.{listed_share}
 use Rattle.secret_sharing.proofs.combining.difference_of_share.Given as goal
 
 -- nothing differs exactly where the bytes so far are the values
 abbrev pub invariant-loop-j : goal.invariant-loop-j
 invariant-loop-j l =
-    (l.difference ≡ 0) ↔ ((j : ℕ) → j < l.j → interpolated 8 (product_in l.field) (slice_index l.indexes) (share_at l.size l.shares j) l.needed
-    (slice_index l.indexes l.other) ≡ share_at l.size l.shares j l.other)
+    (l.difference ≡ 0) ↔ ((j : ℕ) → j < l.j → interpolated 8 (product_in l.field) (slice_index l.unmarked.indexes) (listed_share l.size l.shares l.unmarked.places j) l.needed
+    (slice_index l.unmarked.indexes l.other) ≡ listed_share l.size l.shares l.unmarked.places j l.other)

@@ -3,7 +3,7 @@ use Rattle.std.specs.Prelude.{bit_xor}
 use native.Mathlib.Numerals.{add-one}
 use Rattle.field_base.specs.Basis.{sum_below}
 use Rattle.secret_sharing.specs.Fields.{product_in}
-use Rattle.secret_sharing.specs.Sharing.{share_at}
+use Rattle.secret_sharing.specs.Wrong.{listed_share}
 use Rattle.secret_sharing.proofs.combining.value_of_column.Goals as goal
 
 pub loop-i-init : goal.loop-i-init
@@ -15,5 +15,5 @@ unfolding sum_below
 loop-i-preserved c =
     ap₂ bit_xor c.loop-i.invariant c.multiply-sum.ensures
     ∙ ap
-    (sum_below (λ i. product_in c.args.field (slice_index c.args.factors.now i) (share_at c.args.size c.args.shares.now c.args.j i)))
+    (sum_below (λ i. product_in c.args.field (slice_index c.args.factors.now i) (listed_share c.args.size c.args.shares.now c.args.places.now c.args.j i)))
     (sym (add-one c.loop-i.i))
