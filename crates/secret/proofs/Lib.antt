@@ -1,1 +1,2 @@
 mod ShareLines
+mod Entries

@@ -32,15 +32,16 @@ aes, the field of AES, where none is named, or gfshare, that of libgfshare.
 A share is a line: share-1-, and then two hexadecimal digits for each byte: 1b for aes or 1d for gfshare, K, the index of the share, 8
 bytes that were drawn for all shares of the secret, the share, as long as the secret, and the first 8 of the SHA-256 of all these. So a
 share that is mistyped is told by its line before anything is combined. Lines may come in any order, and empty lines among them. Of
-more shares than are needed all have to agree: if one is wrong, that is said, and not which. The sums have no key: whoever makes a
-false share makes its sum too, and K false shares give a false secret.
+M shares up to (M - K) / 2 may be wrong although their sums fit: standard error names their indexes, and the others give the secret. The
+sums have no key: whoever makes a false share makes its sum too, and more false shares than that may give a false secret. Where they do
+not, it is said that a share is wrong, and not which.
 
 The secret is read from standard input, and is written to standard output as it was; words of a command line can be seen by others.
 Neither is read from a terminal, which would show it. The other bytes are drawn by the system; where it gives none, nothing is split.
 The buffers of the secret, of the drawn bytes and of what was read are overwritten with zeros before they are given back. Copies in
 registers, on the stack, in lines and where a list has grown are not, and a compiler may leave out writes that nobody reads.
 
-The exit status is 0, 1 after an error, which standard error names, or 2 where the words are wrong.
+The exit status is 0, where wrong shares are named too, 1 after an error, which standard error names, or 2 where the words are wrong.
 
 Example: secret split --shares 5 --needed 3 < key > shares; head -n 3 shares | secret combine > again";
 
@@ -102,9 +103,12 @@ fn combine(rt: &HostRuntime) -> Result<()> {
     let mut text = read_all(rt, bytes::TEXT_LIMIT).context("reading the shares")?;
     let said = combine_text(rt.alloc(), text.as_slice());
     wipe(&mut text);
-    let mut secret = said?;
-    let written = rt.stdout().write_all(secret.as_slice());
-    wipe(&mut secret);
+    let mut combined = said?;
+    for index in combined.wrong.iter() {
+        let _ = eprintln!(rt; "secret: the share with the index {index} is wrong, and is left out");
+    }
+    let written = rt.stdout().write_all(combined.secret.as_slice());
+    wipe(&mut combined.secret);
     written.context("writing the secret")?;
     Ok(())
 }

@@ -1,8 +1,9 @@
 // Text of shares from a secret, and a secret from text of shares.
-ghost use Rattle.std.specs.Prelude.{◌≡◌, ◌≢◌, ◌-◌, ◌*◌, ℕ, List, length, slice_index, string_bytes, IfOk, MatchOption};
+ghost use Rattle.std.specs.Prelude.{◌≡◌, ◌≢◌, ◌-◌, ◌*◌, ◌<◌, ◌≤◌, ℕ, List, length, slice_index, string_bytes, IfOk, MatchOption};
+ghost use Rattle.error_codes.specs.Filling.{is_marked};
+ghost use Rattle.secret.specs.Combining.{entries_at, IsSecretOf};
 ghost use Rattle.secret.specs.Records.{lines_of, number_of};
-ghost use Rattle.secret_sharing.specs.Refusals.{AreShares};
-ghost use Rattle.secret_sharing.specs.Sharing.{AreSplit, IsCombined};
+ghost use Rattle.secret_sharing.specs.Sharing.{AreSplit};
 ghost use Rattle.secret_sharing.specs.declared.field.ShareField.{ShareField};
 
 use crate::bytes::wipe;
@@ -10,7 +11,7 @@ use crate::fault::Fault;
 use crate::lines::{HEAD, LineFault, push_line, read_record, record_of};
 use crate::sets::{Choice, Drawn};
 use memchr::memchr;
-use secret_sharing::{ShareField, combine, split};
+use secret_sharing::{ShareField, combine_correcting, split};
 use std::alloc::{AllocError, Global};
 
 /// The lines of the shares of a secret.
@@ -83,8 +84,15 @@ fn text_of(
     Ok(text)
 }
 
+/// A secret, and the indexes of the shares that are wrong, in the order of their lines.
+#[derive(Drop)]
+pub(crate) struct Restored {
+    pub(crate) secret: Vec<u8>,
+    pub(crate) wrong: Vec<u8>,
+}
+
 /// The secret of the shares that the lines of a text say. Empty lines are passed over.
-pub(crate) fn combine_text(alloc: Global, text: &[u8]) -> Result<Vec<u8>, Fault> {
+pub(crate) fn combine_text(alloc: Global, text: &[u8]) -> Result<Restored, Fault> {
     let mut shares = Gathered {
         first: Vec::new(alloc),
         indexes: Vec::new(alloc),
@@ -174,29 +182,64 @@ fn field_of(number: u8) -> Option<ShareField>
     }
 }
 
-// The secret of shares.
-fn combined(alloc: Global, shares: &Gathered) -> Result<Vec<u8>, Fault>
-    ensures { IfOk result (λ secret. (field : ShareField) × (number_of field ≡ slice_index shares.now.first.items 0)
-        × AreShares (slice_index shares.now.first.items 1) shares.now.indexes.items (length secret.items) (length shares.now.bytes.items)
-        × IsCombined field (slice_index shares.now.first.items 1) shares.now.indexes.items shares.now.bytes.items secret.items) }
+// The secret of shares, and those that are wrong.
+fn combined(alloc: Global, shares: &Gathered) -> Result<Restored, Fault>
+    ensures { IfOk result (λ answer. IsSecretOf shares.now.first.items shares.now.indexes.items shares.now.bytes.items
+        answer.secret.items answer.wrong.items) }
 {
     let first = shares.first.as_slice();
     if first.len() <= HEAD {
         return Err(Fault::Nothing);
     }
+    let mut secret = rows_of_zeros(alloc, 1, first.len() - HEAD)?;
+    let indexes = shares.indexes.as_slice();
+    let marks = combine_into(
+        first,
+        indexes,
+        shares.bytes.as_slice(),
+        secret.as_mut_slice(),
+    )?;
+    match marked_entries(alloc, &marks, indexes) {
+        Ok(wrong) => Ok(Restored { secret, wrong }),
+        Err(_) => {
+            wipe(&mut secret);
+            Err(Fault::Memory)
+        }
+    }
+}
+
+// Writes the secret of shares, the first of which has this record, and returns which are wrong.
+fn combine_into(
+    first: &[u8],
+    indexes: &[u8],
+    bytes: &[u8],
+    secret: &mut [u8],
+) -> Result<[bool; 256], Fault>
+    requires { 1 < length first.now }
+    ensures long { length secret.new ≡ length secret.old }
+    ensures few { IfOk result (λ marks. length indexes.now ≤ 255) }
+    ensures written { IfOk result (λ marks. IsSecretOf first.now indexes.now bytes.now secret.new
+        (entries_at (is_marked marks) indexes.now (length indexes.now))) }
+{
     let Some(field) = field_of(first[0]) else {
         return Err(Fault::Nothing);
     };
-    let mut secret = rows_of_zeros(alloc, 1, first.len() - HEAD)?;
-    let done = combine(
-        field,
-        first[1] as usize,
-        shares.indexes.as_slice(),
-        shares.bytes.as_slice(),
-        secret.as_mut_slice(),
-    );
-    match done {
-        Ok(()) => Ok(secret),
+    match combine_correcting(field, first[1] as usize, indexes, bytes, secret) {
+        Ok(marks) => Ok(marks),
         Err(error) => Err(Fault::Sharing(error)),
     }
+}
+
+// The entries at the places that are marked.
+fn marked_entries(alloc: Global, marks: &[bool; 256], entries: &[u8]) -> Result<Vec<u8>, AllocError>
+    requires { length entries.now ≤ 256 }
+    ensures { IfOk result (λ some. some.items ≡ entries_at (is_marked marks.now) entries.now (length entries.now)) }
+{
+    let mut some = Vec::new(alloc);
+    for i in 0..entries.len() {
+        if marks[i] {
+            some.push(entries[i])?;
+        }
+    }
+    Ok(some)
 }

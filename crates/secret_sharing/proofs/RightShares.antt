@@ -10,7 +10,7 @@ use Rattle.proximity.specs.Marks.{marked_below}
 use Rattle.error_codes.proofs.Marking.{count-more, count-none, count-same}
 use Rattle.secret_sharing.specs.Fields.{product_in}
 use Rattle.secret_sharing.specs.Sharing.{IsThrough, share_at}
-use Rattle.secret_sharing.specs.Wrong.{AreUnmarked, HasRows, IsThroughUnmarked, listed_share}
+use Rattle.secret_sharing.specs.Wrong.{AreUnmarked, RowsFit, IsThroughUnmarked, listed_share}
 use Rattle.secret_sharing.specs.declared.field.ShareField.{ShareField}
 
 -- ---- the list grows
@@ -132,7 +132,7 @@ module _ (marked : ℕ → Bool) (n count : ℕ) (places own indexes : List ℕ)
         (sym (own_are p p_below) ∙ same ∙ own_are q q_below));
   }
 
-  pub unmarked-rows : (size bytes : ℕ) → bytes ≡ n * size → HasRows size bytes count places
+  pub unmarked-rows : (size bytes : ℕ) → bytes ≡ n * size → RowsFit size bytes count places
   unmarked-rows size bytes whole p below =
       let within = are.inside p below in
       let rows : (slice_index places p + 1) * size ≤ n * size = mul-le-mul_right size (next (slice_index places p) within) in

@@ -47,8 +47,8 @@ pub record AreUnmarked (marked : ℕ → Bool) (n count : ℕ) (places : List �
   pub each : (i : ℕ) → i < n → marked i ≡ false → (p : ℕ) × (p < count) × (slice_index places p ≡ i)
 
 -- a row of `size` bytes stands at each of the first places, in so many bytes
-abbrev pub HasRows : ℕ → ℕ → ℕ → List ℕ → Type 0
-HasRows size bytes count places = (p : ℕ) → p < count → (slice_index places p + 1) * size ≤ bytes
+abbrev pub RowsFit : ℕ → ℕ → ℕ → List ℕ → Type 0
+RowsFit size bytes count places = (p : ℕ) → p < count → (slice_index places p + 1) * size ≤ bytes
 
 -- byte j of the share at place p of a list of places
 abbrev pub listed_share : ℕ → List ℕ → List ℕ → ℕ → ℕ → ℕ

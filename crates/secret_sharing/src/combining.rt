@@ -9,7 +9,7 @@ ghost use Rattle.error_codes.specs.Filling.{is_marked};
 ghost use Rattle.secret_sharing.specs.Fields.{product_in};
 ghost use Rattle.secret_sharing.specs.Refusals.{AreShares, RefusesCombine};
 ghost use Rattle.secret_sharing.specs.Sharing.{share_at, IsCombined, IsThrough, LieOnPolynomials};
-ghost use Rattle.secret_sharing.specs.Wrong.{listed_share, HasRows, IsThroughUnmarked, LieUnmarked};
+ghost use Rattle.secret_sharing.specs.Wrong.{listed_share, RowsFit, IsThroughUnmarked, LieUnmarked};
 
 use crate::check::check_shares;
 use crate::error::SharingError;
@@ -75,7 +75,7 @@ pub(crate) fn combine_unmarked(
 // Writes the values at 0 of the polynomials through the first `needed` shares.
 fn restore(field: ShareField, needed: usize, unmarked: &Unmarked, shares: &[u8], secret: &mut [u8])
     requires few { needed ≤ 255 }
-    requires room { HasRows (length secret.old) (length shares.now) needed unmarked.now.places }
+    requires room { RowsFit (length secret.old) (length shares.now) needed unmarked.now.places }
     ensures long { length secret.new ≡ length secret.old }
     ensures restored { (j : ℕ) → j < length secret.old → slice_index secret.new j
         ≡ interpolated 8 (product_in field) (slice_index unmarked.now.indexes)
@@ -94,7 +94,7 @@ fn agree(field: ShareField, needed: usize, unmarked: &Unmarked, shares: &[u8], s
     requires enough { needed ≤ unmarked.now.count }
     requires few { unmarked.now.count ≤ 255 }
     requires distinct { AreDistinctBelow unmarked.now.count 256 (slice_index unmarked.now.indexes) }
-    requires room { HasRows size (length shares.now) unmarked.now.count unmarked.now.places }
+    requires room { RowsFit size (length shares.now) unmarked.now.count unmarked.now.places }
     ensures { (result ≡ true) ↔ ((j : ℕ) → j < size → (cs : List ℕ)
         × IsThrough field needed unmarked.now.count (slice_index unmarked.now.indexes)
         (listed_share size shares.now unmarked.now.places j) cs) }
@@ -120,7 +120,7 @@ fn difference_of_share(
     requires enough { needed ≤ unmarked.now.count }
     requires few { unmarked.now.count ≤ 255 }
     requires inside { other < unmarked.now.count }
-    requires room { HasRows size (length shares.now) unmarked.now.count unmarked.now.places }
+    requires room { RowsFit size (length shares.now) unmarked.now.count unmarked.now.places }
     ensures { (result ≡ 0) ↔ ((j : ℕ) → j < size → interpolated 8 (product_in field) (slice_index unmarked.now.indexes)
         (listed_share size shares.now unmarked.now.places j) needed (slice_index unmarked.now.indexes other)
         ≡ listed_share size shares.now unmarked.now.places j other) }
@@ -147,7 +147,7 @@ fn value_of_column(
 ) -> u8
     requires few { needed ≤ 255 }
     requires inside { j < size }
-    requires room { HasRows size (length shares.now) needed places.now }
+    requires room { RowsFit size (length shares.now) needed places.now }
     ensures { result ≡ sum_below (λ i. product_in field (slice_index factors.now i)
         (listed_share size shares.now places.now j i)) needed }
 {

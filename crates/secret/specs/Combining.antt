@@ -1,0 +1,24 @@
+-- A secret from the records of shares.
+use Rattle.std.specs.Prelude.{◌≡◌, ℕ, zero, suc, ◌<◌, List, [], ◌∷◌, ◌++◌, Bool, cond, length, slice_index}
+use Rattle.field_base.specs.Powers.{value_of}
+use Rattle.secret_sharing.specs.Fields.{product_in}
+use Rattle.secret_sharing.specs.Refusals.{AreShares}
+use Rattle.secret_sharing.specs.Wrong.{AreNearPolynomials, is_wrong_share}
+use Rattle.secret_sharing.specs.declared.field.ShareField.{ShareField}
+use Rattle.secret.specs.Records.{number_of}
+
+-- the first n entries of a list whose places are marked
+unfoldable pub entries_at : (ℕ → Bool) → List ℕ → ℕ → List ℕ
+entries_at marked entries zero = []
+entries_at marked entries (suc n) = entries_at marked entries n ++ cond (marked n) (slice_index entries n ∷ []) []
+
+-- the secret of shares, the first of which has this record, and the indexes of the wrong ones: the values at 0 of
+-- polynomials that the shares are near to, of as many coefficients as are needed, and the shares that miss these
+pub record IsSecretOf (first indexes shares secret wrong : List ℕ) : Type 0 where
+  pub field : ShareField
+  pub number : number_of field ≡ slice_index first 0
+  pub shares_are : AreShares (slice_index first 1) indexes (length secret) (length shares)
+  pub polynomials : ℕ → List ℕ
+  pub near : AreNearPolynomials field (slice_index first 1) indexes (length secret) shares polynomials
+  pub at_zero : (j : ℕ) → j < length secret → slice_index secret j ≡ value_of 1 (product_in field) (λ c. c) (polynomials j) 0
+  pub named : wrong ≡ entries_at (is_wrong_share field indexes (length secret) shares polynomials) indexes (length indexes)
