@@ -19,8 +19,9 @@ use word_tower::Level;
 // So many words of a shard are summed at once: they stay in the cache while all others are read.
 const MOST_WORDS: usize = 2048;
 
-// Sums are made of so many shards, for each place of a shard at which there is a point, at most.
-const MOST_SUMS: usize = 8;
+// Sums are made of so many shards, for each place of a shard at which there is a point, at most. With shards of 64 KiB transforms take as long
+// as sums of five shards of a code of 1,000 and 200, which has 1.7 points a shard, and as of six of one of 100 and 30, which has 2.
+const MOST_SUMS: usize = 3;
 
 // A weight takes as long as so many products of a row.
 const WEIGHT_WORDS: usize = 128;
