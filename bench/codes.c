@@ -2,9 +2,9 @@
  *
  *   gcc -O2 -Iinclude -o codes bench/codes.c build/lib/libbinary_field.a && ./codes [SAMPLES] [spread]
  *
- * The first line names the processor whose form of the library is called. Of each code and shard size: encoding, and restoring where as
- * many shards of data are lost as there are of parity (or all of them): the first ones, or, with the word spread, others all over. The
- * least of so many samples (5). What is restored is compared with what was lost. With -DISAL and -lisal also ISA-L's matrix code
+ * The first line names the processor whose form of the library is called. Of each code and shard size: encoding, verifying, and restoring where
+ * 1, 4 and 16 shards of data are lost, and as many as there are of parity (or all of them): the first ones, or, with the word spread, others all
+ * over. The least of so many samples (5). What is restored is compared with what was lost. With -DISAL and -lisal also ISA-L's matrix code
  * (Cauchy), as it chooses for this processor, where it has so many shards; what it makes once for a code or for what is lost is not
  * counted.
  */
@@ -23,39 +23,87 @@ static double now(void) {
     return it.tv_sec + 1e-9 * it.tv_nsec;
 }
 
-static void measure(size_t data, size_t parity, size_t size, int samples, int spread) {
+/* Shards of a code, and what its calls work in. */
+typedef struct {
+    size_t data, parity, words;
+    uint16_t *space, *shards, *copy, *extra;
     uint64_t space_length;
-    size_t words = size / 2, total = data + parity, lost = parity < data ? parity : data;
-    if (bf_erasure_space(data, parity, &space_length)) exit(1);
-    uint16_t *space = malloc(2 * space_length), *shards = malloc(data * size), *copy = malloc(data * size);
-    uint16_t *extra = malloc(parity * size);
-    uint8_t *present = malloc(total);
-    for (size_t i = 0; i < data * words; i++) shards[i] = (uint16_t)((i + 1) * 2654435761u >> 13);
-    memcpy(copy, shards, data * size);
-    double encode = 1e9, restore = 1e9;
+    uint8_t *present;
+} code;
+
+static void stop(const char *what, uint32_t status) {
+    printf("%s: status %u\n", what, status);
+    exit(1);
+}
+
+/* Seconds of one call each. */
+static double encoded(code *it) {
+    double start = now();
+    uint32_t status = bf_erasure_encode(it->data, it->parity, it->shards, it->data * it->words, it->extra, it->parity * it->words, it->space,
+                                        it->space_length);
+    double taken = now() - start;
+    if (status) stop("encode", status);
+    return taken;
+}
+
+static double verified(code *it) {
+    uint8_t whole = 0;
+    double start = now();
+    uint32_t status = bf_erasure_verify(it->data, it->parity, it->shards, it->data * it->words, it->extra, it->parity * it->words, it->space,
+                                        it->space_length, &whole);
+    double taken = now() - start;
+    if (status || !whole) stop("verify", status);
+    return taken;
+}
+
+static double restored(code *it) {
+    for (size_t j = 0; j < it->data; j++) if (!it->present[j]) memset(it->shards + j * it->words, 0xa5, 2 * it->words);
+    double start = now();
+    uint32_t status = bf_erasure_reconstruct(it->data, it->parity, it->shards, it->data * it->words, it->extra, it->parity * it->words, it->present,
+                                             it->data + it->parity, it->space, it->space_length);
+    double taken = now() - start;
+    if (status || memcmp(it->copy, it->shards, 2 * it->data * it->words)) stop("restore", status);
+    return taken;
+}
+
+static double least(double (*call)(code *), code *it, int samples) {
+    double best = 1e9;
     for (int i = 0; i < samples; i++) {
-        double start = now();
-        uint32_t status = bf_erasure_encode(data, parity, shards, data * words, extra, parity * words, space, space_length);
-        double taken = now() - start;
-        if (status) { printf("status %u\n", status); exit(1); }
-        if (taken < encode) encode = taken;
+        double taken = call(it);
+        if (taken < best) best = taken;
     }
-    memset(present, 1, total);
-    for (size_t left = lost, i = 0; left; i = (i + (spread ? 7919 : 1)) % data) {
-        left -= present[i];
-        present[i] = 0;
+    return 2.0 * it->data * it->words / best / 1e9;
+}
+
+/* So many shards of data are lost: the first ones, or others all over. */
+static void lose(code *it, size_t lost, int spread) {
+    memset(it->present, 1, it->data + it->parity);
+    for (size_t left = lost, i = 0; left; i = (i + (spread ? 7919 : 1)) % it->data) {
+        left -= it->present[i];
+        it->present[i] = 0;
     }
-    for (int i = 0; i < samples; i++) {
-        for (size_t j = 0; j < data; j++) if (!present[j]) memset(shards + j * words, 0xa5, size);
-        double start = now();
-        uint32_t status = bf_erasure_reconstruct(data, parity, shards, data * words, extra, parity * words, present, total, space, space_length);
-        double taken = now() - start;
-        if (status || memcmp(copy, shards, data * size)) { printf("status %u, or restored wrong\n", status); exit(1); }
-        if (taken < restore) restore = taken;
+}
+
+static void measure(size_t data, size_t parity, size_t size, int samples, int spread) {
+    code it = {.data = data, .parity = parity, .words = size / 2};
+    if (bf_erasure_space(data, parity, &it.space_length)) exit(1);
+    it.space = malloc(2 * it.space_length);
+    it.shards = malloc(data * size);
+    it.copy = malloc(data * size);
+    it.extra = malloc(parity * size);
+    it.present = malloc(data + parity);
+    for (size_t i = 0; i < data * it.words; i++) it.shards[i] = (uint16_t)((i + 1) * 2654435761u >> 13);
+    memcpy(it.copy, it.shards, data * size);
+    printf("(%zu, %zu) of %zu bytes: encode %6.3f", data, parity, size, least(encoded, &it, samples));
+    printf("  verify %6.3f  restore", least(verified, &it, samples));
+    size_t most = parity < data ? parity : data;
+    for (size_t lost = 1; lost < most; lost *= 4) {
+        lose(&it, lost, spread);
+        if (lost <= 16) printf(" %zu: %6.3f ", lost, least(restored, &it, samples));
     }
-    double bytes = (double)data * size;
-    printf("(%zu, %zu) of %zu bytes: encode %6.3f  restore %6.3f GB/s\n", data, parity, size, bytes / encode / 1e9, bytes / restore / 1e9);
-    free(space); free(shards); free(copy); free(extra); free(present);
+    lose(&it, most, spread);
+    printf(" %zu: %6.3f GB/s\n", most, least(restored, &it, samples));
+    free(it.space); free(it.shards); free(it.copy); free(it.extra); free(it.present);
 }
 
 #ifdef ISAL
