@@ -1,6 +1,6 @@
 -- The field of 16 elements as a part of the bytes: what holds of each element by computation, and so of words of them.
-use Rattle.std.proofs.Common.{◌≡◌, ◌≢◌, ◌⊎◌, inl, inr, ℕ, zero, suc, ◌+◌, ◌-◌, ◌*◌, ◌/◌, ◌%◌, ◌^◌, ◌<◌, ◌≤◌, Bool, true, false, ◌&&◌, ◌||◌, eqb}
-use Rattle.std.proofs.Common.{List, length, map, refl, sym, ◌∙◌, ap, ap₂, subst, arith, lit<}
+use Rattle.std.proofs.Common.{◌≡◌, inl, inr, ℕ, zero, suc, ◌+◌, ◌-◌, ◌*◌, ◌/◌, ◌%◌, ◌^◌, ◌<◌, Bool, true, false, ◌&&◌, ◌||◌, eqb}
+use Rattle.std.proofs.Common.{List, length, map, refl, sym, ◌∙◌, ap, arith, lit<}
 use Rattle.std.specs.Prelude.{bit_xor, nat_eq, not, slice_index}
 use Rattle.std.proofs.lemmas.Bool.{and_parts, cases_lt, eqb-true}
 use Rattle.std.proofs.lemmas.Bool.Decides.{eqb_tells}
@@ -12,13 +12,13 @@ use Rattle.field_base.specs.Field.{IsField}
 use Rattle.field_base.specs.Powers.{power, repeated_square}
 use Rattle.field_base.specs.Remainder.{mul_mod, rem, rem_in}
 use Rattle.field_base.specs.Ring.{IsRing}
-use Rattle.field_base.proofs.PowerLemmas.{power-add, power-lt, power-mul, repeated_square_times, repeated_square_xor}
+use Rattle.field_base.proofs.PowerLemmas.{power-add, power-lt, power-mul}
 use Rattle.field_base.proofs.RemainderRing.{mul_mod_ring}
 use Rattle.error_codes.specs.ByteFields.{byte_times}
 use Rattle.error_codes.specs.Correcting.{HasOrder, HasRoots, code_value}
 use Rattle.error_codes.specs.Nibbles.{AreNibbles, lowered, nibble_root, nibble_times, raised}
 use Rattle.error_codes.specs.declared.byte_field.ByteField.TheVariants.{Qr}
-use Rattle.error_codes.specs.declared.nibble_code.literals.TheConstants.{IMAGES, SYMBOLS}
+use Rattle.error_codes.specs.declared.nibble_code.literals.TheConstants.{IMAGES}
 use Rattle.error_codes.proofs.ByteTables.{bytes_are_fields}
 use Rattle.error_codes.proofs.Encoding.{value-same}
 use Rattle.error_codes.proofs.Moments.{sum-same}

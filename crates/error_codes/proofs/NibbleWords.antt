@@ -1,13 +1,13 @@
 -- Words of elements and their images: a word of images stands for a code word there exactly where the word does here, and a code
 -- word of bytes whose data are images has images alone.
-use Rattle.std.proofs.Common.{◌≡◌, ◌≢◌, ◌⊎◌, inl, inr, ℕ, zero, suc, ◌+◌, ◌-◌, ◌*◌, ◌^◌, ◌<◌, ◌≤◌, Bool, true, false, cond, List, length, map}
+use Rattle.std.proofs.Common.{◌≡◌, ◌⊎◌, inl, inr, ℕ, zero, suc, ◌+◌, ◌-◌, ◌<◌, ◌≤◌, Bool, true, false, cond, List, length, map}
 use Rattle.std.proofs.Common.{refl, sym, ◌∙◌, ap, ap₂, subst, arith, lit<}
 use Rattle.std.specs.Prelude.{bit_xor, nat_eq, not, slice_index, ◌&&◌}
 use Rattle.std.proofs.lemmas.Bool.{cases_lt}
 use Rattle.std.proofs.lemmas.Bool.Decides.{eqb_tells}
 use Rattle.std.proofs.lemmas.List.{ext_get_or, get_or-map, length-map}
 use Rattle.field_base.specs.Basis.{sum_below}
-use Rattle.field_base.specs.Powers.{power, repeated_square}
+use Rattle.field_base.specs.Powers.{power}
 use Rattle.field_base.proofs.PowerLemmas.{repeated_square-lt, repeated_square_times, repeated_square_xor}
 use Rattle.proximity.specs.Marks.{marked_below, total}
 use Rattle.error_codes.specs.Checks.{AreScaled, IsChecked}

@@ -1,4 +1,4 @@
-use Rattle.std.proofs.Common.{◌≡◌, ◌-◌, refl, sym, ◌∙◌, ap, arith}
+use Rattle.std.proofs.Common.{◌≡◌, ◌-◌, refl, ◌∙◌, ap, arith}
 use Rattle.field_base.specs.Powers.{power}
 use Rattle.error_codes.specs.ByteFields.{byte_times}
 use Rattle.error_codes.proofs.CodeValues.{entry-before, next-power}

@@ -1,4 +1,4 @@
-use Rattle.std.proofs.Common.{ℕ, slice_index, ◌∙◌, ap, arith}
+use Rattle.std.proofs.Common.{slice_index, ◌∙◌, ap, arith}
 use Rattle.error_codes.specs.Nibbles.{raised}
 use Rattle.error_codes.proofs.CodeValues.{entry-over}
 use Rattle.error_codes.proofs.NibbleWords.{all-mapped}

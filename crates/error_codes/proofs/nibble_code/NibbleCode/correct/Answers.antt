@@ -1,4 +1,4 @@
-use Rattle.std.proofs.Common.{◌≡◌, ◌-◌, ◌<◌, ℕ, false, true, List, length, map, slice_index, refl, sym, subst, ◌∙◌, ap, arith}
+use Rattle.std.proofs.Common.{◌≡◌, ◌-◌, ℕ, false, true, List, length, map, slice_index, refl, sym, subst, ◌∙◌, ap, arith}
 use Rattle.std.specs.Prelude.{nat_eq, not}
 use Rattle.error_codes.specs.Nibbles.{AreNibbles, IsMeantNibbles, nibble_root, raised}
 use Rattle.error_codes.proofs.NibbleCalls.{changes-told, meant-bytes, sent-lowered, symbols-meant}

@@ -1,5 +1,4 @@
-use Rattle.std.proofs.Common.{◌≡◌, ◌+◌, ◌-◌, ◌<◌, ℕ, List, length, map, slice_index, sym, subst, ◌∙◌, ap, arith}
-use Rattle.error_codes.specs.ByteFields.{byte_times}
+use Rattle.std.proofs.Common.{◌-◌, ℕ, List, map, slice_index, sym, subst, ◌∙◌, ap, arith}
 use Rattle.error_codes.specs.Correcting.{HasRoots}
 use Rattle.error_codes.specs.Nibbles.{AreNibbles, nibble_root, nibble_times, raised}
 use Rattle.error_codes.proofs.NibbleCalls.{encoded-elements, encoded-kept, encoded-roots}

@@ -1,8 +1,6 @@
-use Rattle.std.proofs.Common.{◌≡◌, ◌*◌, ◌%◌, ◌<◌, ◌≤◌, ℕ, false, true, refl, sym, ◌∙◌, subst, arith}
+use Rattle.std.proofs.Common.{◌≡◌, ◌*◌, ◌%◌, false, true, refl, ◌∙◌, arith}
 use Rattle.field_base.specs.Powers.{power}
-use Rattle.error_codes.specs.ByteFields.{byte_generator, byte_times}
-use Rattle.error_codes.specs.Correcting.{HasOrder}
-use Rattle.error_codes.specs.Nibbles.{nibble_root, nibble_times, raised}
+use Rattle.error_codes.specs.ByteFields.{byte_times}
 use Rattle.error_codes.specs.declared.byte_field.ByteField.TheVariants.{Qr}
 use Rattle.error_codes.proofs.NibbleCalls.{order-lowered, order-raised}
 use Rattle.error_codes.proofs.NibbleFields.{root-raised}
