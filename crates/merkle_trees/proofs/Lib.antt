@@ -1,6 +1,7 @@
 mod Binding
 mod CapPaths
 mod Drawn
+mod NodeCounts
 mod OpenedLeaves
 mod OpeningPaths
 mod OpeningTrees

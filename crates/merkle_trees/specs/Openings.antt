@@ -63,3 +63,11 @@ OpeningsBind =
     → (path other_path : List (List ℕ)) × RowLeads hash depth root (slice_index places k) (row k) path
     × RowLeads hash depth root (slice_index places k) (other j) other_path
     × HaveCollision hash (slice_index places k) (row_input (row k)) (row_input (other j)) path other_path
+
+-- openings of the same places have as many nodes in trees of one depth, whatever the hash functions and the rows are
+abbrev pub OpeningsHaveOneCount : Type 0
+OpeningsHaveOneCount =
+    (hash other_hash : List ℕ → List ℕ) (depth : ℕ) (root other_root places : List ℕ) (row other : ℕ → List ℕ)
+    (nodes other_nodes : List (List ℕ))
+    → OpensRows hash depth root places row nodes → OpensRows other_hash depth other_root places other other_nodes
+    → length nodes ≡ length other_nodes

@@ -3,7 +3,8 @@
 ghost use Rattle.std.specs.Prelude.{◌≡◌, ◌↔◌, ◌+◌, ◌*◌, ◌^◌, ◌<◌, ◌≤◌, ℕ, List, [], ◌++◌};
 ghost use Rattle.std.specs.Prelude.{take, get_or, length, slice_index, IfNone, IfOk, IfSome, IsTrue, OnOk};
 ghost use Rattle.merkle_trees.specs.Commitments.{digest_at, IsTreeOver, root_of, row_at};
-ghost use Rattle.merkle_trees.specs.Openings.{AreAscending, AreLeavesOf, NoFrontOpens, Opens, OpensRows, OpeningsBind, OpeningsLead};
+ghost use Rattle.merkle_trees.specs.Openings.{AreAscending, AreLeavesOf, NoFrontOpens, Opens, OpensRows};
+ghost use Rattle.merkle_trees.specs.Openings.{OpeningsBind, OpeningsHaveOneCount, OpeningsLead};
 
 use crate::digests::{node_digest, row_digest};
 use crate::merkle_paths::{Commitment, power_of_two, row_of};
@@ -202,4 +203,9 @@ pub fn openings_lead()
 /// different rows at one place have two inputs of the hash function that differ and have one digest.
 pub fn openings_bind()
     ensures { OpeningsBind }
+{}
+
+/// States that openings of the same places have as many nodes in trees of one depth, whatever the hash functions and the rows are.
+pub fn openings_have_one_count()
+    ensures { OpeningsHaveOneCount }
 {}
