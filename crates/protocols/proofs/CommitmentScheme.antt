@@ -1,6 +1,6 @@
 -- Openings of a committed table: what accepted ones show, and for how many draws one is accepted that is false.
-use Rattle.std.proofs.Common.{◌≡◌, ◌⊎◌, inl, inr, ℕ, zero, suc, ◌+◌, ◌-◌, ◌*◌, ◌/◌, ◌^◌, ◌<◌, ◌≤◌, List, [], ◌∷◌, ◌++◌, length, map, take, drop, refl}
-use Rattle.std.proofs.Common.{sym, ◌∙◌, ap, subst, arith, lit<, lit≤}
+use Rattle.std.proofs.Common.{◌≡◌, ◌⊎◌, inl, inr, ℕ, zero, suc, ◌+◌, ◌-◌, ◌*◌, ◌/◌, ◌^◌, ◌<◌, ◌≤◌, List, ◌++◌, length, map, take, drop, refl}
+use Rattle.std.proofs.Common.{sym, ◌∙◌, ap, subst, arith, lit<}
 use Rattle.std.specs.Prelude.{Bool, true, slice_index}
 use Rattle.std.specs.List.{range_with_len}
 use Rattle.std.proofs.lemmas.List.{length-drop, length-map, length-take-le, map-append, take-append-drop}
@@ -11,8 +11,6 @@ use Rattle.field_base.specs.Field.{IsField}
 use Rattle.field_base.specs.Orders.{AreCantorVectors}
 use Rattle.field_base.specs.Ring.{IsRing}
 use Rattle.field_base.proofs.Places.{numbers-lt}
-use Rattle.field_bytes.specs.Bytes.{low_bytes}
-use Rattle.field_bytes.specs.Streams.{joined_bytes}
 use Rattle.field_slices.specs.Multilinear.{multilinear_value}
 use Rattle.merkle_trees.specs.Commitments.{row_at}
 use Rattle.proximity.specs.Blocks.{cheats_in_blocks}
@@ -22,32 +20,11 @@ use Rattle.protocols.specs.CodeDistances.{FewQuarterRateCheats, point_generator}
 use Rattle.protocols.specs.CommitmentScheme.{AcceptedValue, FewOpeningsCheat, HasBits, OpensValue, ShowsValue, ValuesAreBound, matrix_rows}
 use Rattle.protocols.specs.CommitmentScheme.{place_bits, row_levels, value_columns, word_levels}
 use Rattle.protocols.specs.OpenedTables.{AreColumnsOf, OpenedValuesNeedLuck, ShowsTable}
-use Rattle.protocols.specs.RootColumns.{AreAccepted, HasSent, HaveOtherColumns, RootsHoldColumns, SentColumns, column_bytes}
+use Rattle.protocols.specs.RootColumns.{AreAccepted, HasSent, HaveOtherColumns, RootsHoldColumns, SentColumns}
 use Rattle.protocols.specs.Tables.{AgreesAt, AreExtendedColumns, column_values}
 use Rattle.protocols.proofs.HonestColumns.{row-is-values}
-use Rattle.protocols.proofs.ProofBytes.{proof-cons}
+use Rattle.protocols.proofs.OpenedColumns.{opened-accepted, opened-agrees}
 use Rattle.protocols.proofs.TableLaws.{column_values_evaluate}
-use Rattle.protocols.proofs.TableOpenings.{opens-same, row-room}
-
--- ---- elements
-
--- the bytes of elements are those of their numbers
-pub number-bytes : {F : Type 0} (size : ℕ) (repr : F → ℕ) (xs : List F) → joined_bytes size repr xs ≡ joined_bytes size (λ (n : ℕ). n) (map repr xs)
-number-bytes size repr [] = refl
-number-bytes size repr (x ∷ xs) =
-    proof-cons size repr x xs ∙ ap (λ (l : List ℕ). low_bytes size (repr x) ++ l) (number-bytes size repr xs)
-    ∙ sym (proof-cons size (λ (n : ℕ). n) (repr x) (map repr xs))
-
--- a column among columns of one length has that length
-pub column-long : {F : Type 0} (count height : ℕ) (columns : List F) (k : ℕ) → length columns ≡ count * height → k < count
-    → length (row_at height columns k) ≡ height
-column-long count height columns k long below =
-    let room = row-room count height (length columns) k long below in
-    let behind = length-drop (k * height) columns in
-    length-take-le height (drop (k * height) columns) (enough (k * height) (length columns) (length (drop (k * height) columns)) room behind)
-  where
-    enough : (from all left : ℕ) → from + height ≤ all → left ≡ all - from → height ≤ left
-    enough from all left room is = omega (arith, room, is)
 
 -- ---- honest openings
 
@@ -103,20 +80,9 @@ module _ {C F : Type 0} (observes gives : C → F → C → Type 0) (passing : C
   opens p = (p.verdict.decided.0 refl).1
 
   accepted : (p : Opening) → AreAccepted hash digest size width (word_levels m n) (2 ^ matrix_rows m n) root (sent p)
-  accepted p = record {
-    digests = p.digests;
-    heights = λ k below.
-        length-map (row_at (2 ^ matrix_rows m n) p.columns k) repr
-        ∙ column-long (length p.verdict.places) (2 ^ matrix_rows m n) p.columns k
-        ((opens p).opened.count ∙ ap (λ (h : ℕ). length p.verdict.places * 2 ^ h) (first-long p)) below;
-    fits = λ k below. numbers-lt repr width range (row_at (2 ^ matrix_rows m n) p.columns k);
-    opened =
-        opens-same hash (word_levels m n) root p.verdict.places
-        (λ k. joined_bytes size repr (row_at (2 ^ length (first p)) p.columns k)) (column_bytes size (sent p)) p.nodes
-        (λ k below.
-        ap (λ (h : ℕ). joined_bytes size repr (row_at (2 ^ h) p.columns k)) (first-long p)
-        ∙ number-bytes size repr (row_at (2 ^ matrix_rows m n) p.columns k)) (opens p).opened.opened;
-  }
+  accepted p =
+      opened-accepted hash repr size width times vector (row_levels m n) 2 (matrix_rows m n) root (first-long p) (opens p).opened digest range
+      p.digests
 
   -- its row agrees with the columns that the root holds
   agreed : (p : Opening) (column : ℕ → List ℕ)
@@ -125,17 +91,7 @@ module _ {C F : Type 0} (observes gives : C → F → C → Type 0) (passing : C
       → AgreesAt width times vector (row_levels m n) 2 (map repr (first p)) (map repr p.row) p.verdict.places
       (λ k. column (slice_index p.verdict.places k))
   agreed p column same =
-      let agrees = (opens p).opened.agrees in
-      record {
-        word = agrees.word;
-        code_word = agrees.code_word;
-        begins = agrees.begins;
-        below = agrees.below;
-        agrees = λ k below.
-            ap (λ (c : List ℕ). multilinear_value times c (map repr (first p)))
-            (sym (ap (λ (h : ℕ). map repr (row_at (2 ^ h) p.columns k)) (first-long p) ∙ same k below))
-            ∙ agrees.agrees k below;
-      }
+      opened-agrees hash repr size width times vector (row_levels m n) 2 (matrix_rows m n) root (first-long p) (opens p).opened column same
 
   shows : (column : ℕ → List ℕ) → AreColumnsOf width (2 ^ 2 * 2 ^ row_levels m n) column → (p : Opening)
       → ((k : ℕ) → k < length p.verdict.places

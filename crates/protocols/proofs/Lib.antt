@@ -1,14 +1,15 @@
-mod BlockPlaces
+pub mod BlockPlaces
 mod CodeColumns
 pub mod CodeDistances
-mod CommitmentScheme
-mod HonestColumns
+pub mod CommitmentScheme
+pub mod HonestColumns
+pub mod OpenedColumns
 pub mod OpenedTables
 pub mod ProofBytes
 mod RootColumns
 mod SchemeBits
-mod SchemeRuns
-mod SchemeTurns
+pub mod SchemeRuns
+pub mod SchemeTurns
 pub mod SoundnessErrors
 mod TableLaws
 pub mod TableOpenings

@@ -1,5 +1,5 @@
 -- Bits of soundness of an opening with 2 ^ 7 places.
-use Rattle.std.proofs.Common.{◌≡◌, ℕ, suc, ◌+◌, ◌-◌, ◌*◌, ◌/◌, ◌^◌, ◌<◌, ◌≤◌, le_trans, arith, lit<, lit≤}
+use Rattle.std.proofs.Common.{ℕ, suc, ◌+◌, ◌*◌, ◌^◌, ◌<◌, ◌≤◌, le_trans, arith, lit<, lit≤}
 use Rattle.std.proofs.Math.Nat.{mul-le-mul, mul-le-mul_left, mul-le-mul_right, pow-le-pow_right}
 use Rattle.protocols.specs.CommitmentScheme.{HasBits, HasMostBits, matrix_rows, opening_error, opening_whole, word_levels}
 

@@ -1,10 +1,20 @@
--- Two verdicts on one opening, in transcripts of the same state.
-use Rattle.std.proofs.Common.{◌≡◌, ◌↔◌, ℕ, suc, Bool, true, false, List, [], ◌∷◌, ◌++◌, length, refl, sym, ◌∙◌, ap, ap₂, subst, arith}
-use Rattle.std.specs.Prelude.{IsTrue}
+-- Runs, draws of places, and two verdicts on one opening, in transcripts of the same state.
+use Rattle.std.proofs.Common.{◌≡◌, ℕ, Bool, true, false, List, [], ◌∷◌, length, map, drop, refl, sym, ◌∙◌, ap, ap₂, subst, arith}
+use Rattle.std.specs.Prelude.{IsTrue, slice_index}
 use Rattle.std.proofs.lemmas.Bool.{true≢false}
 use Rattle.transcripts.specs.Lists.{InTurn}
 use Rattle.transcripts.specs.States.{GivesByState, LeadsByState}
-use Rattle.protocols.specs.CommitmentScheme.{OpensValue, VerdictsAgree, VerifiesValue, block_places, opening_work, place_bits}
+use Rattle.sum_checks.specs.Sumcheck.{AreTurns, IsRunOf, Statement}
+use Rattle.protocols.specs.CommitmentScheme.{ArePlacesDrawn, OpensValue, VerdictsAgree, block_places, opening_work, place_bits}
+
+-- elements with the same numbers are the same
+elements-same : {F : Type 0} (repr : F → ℕ) → ((x y : F) → repr x ≡ repr y → x ≡ y) → (xs ys : List F) → map repr xs ≡ map repr ys → xs ≡ ys
+elements-same repr same [] [] are = refl
+elements-same repr same [] (y ∷ ys) are = let none = ap length are in absurd (omega (arith, none))
+elements-same repr same (x ∷ xs) [] are = let none = ap length are in absurd (omega (arith, none))
+elements-same repr same (x ∷ xs) (y ∷ ys) are =
+    ap₂ (λ (z : _) (zs : List _). z ∷ zs) (same x y (ap (λ (ns : List ℕ). slice_index ns 0) are))
+    (elements-same repr same xs ys (ap (λ (ns : List ℕ). drop 1 ns) are))
 
 -- tests that follow from each other
 same-tests : (one other : Bool) → (IsTrue one → IsTrue other) → (IsTrue other → IsTrue one) → one ≡ other
@@ -28,7 +38,34 @@ module _ {C S F : Type 0} (state : C → S) (observes gives : C → F → C → 
   led (value ∷ values) old new other_old other_new same one other =
       led values one.0 new other.0 other_new (observes_law value old one.0 other_old other.0 same one.1 other.1) one.2 other.2
 
-  -- and as many numbers are the same
+  -- turns with the same messages have the same challenges
+  turns-led : (messages : List (List F)) (point other_point : List F) (old new other_old other_new : C) → state old ≡ state other_old
+      → AreTurns observes gives old messages point new → AreTurns observes gives other_old messages other_point other_new
+      → (point ≡ other_point) × (state new ≡ state other_new)
+  unfolding AreTurns
+  turns-led [] [] [] old new other_old other_new same one other = (refl, ap state (sym one) ∙ same ∙ ap state other)
+  turns-led [] [] (s ∷ ss) old new other_old other_new same one other = absurd other
+  turns-led [] (r ∷ rs) ss old new other_old other_new same one other = absurd one
+  turns-led (g ∷ gs) [] ss old new other_old other_new same one other = absurd one
+  turns-led (g ∷ gs) (r ∷ rs) [] old new other_old other_new same one other = absurd other
+  turns-led (g ∷ gs) (r ∷ rs) (s ∷ ss) old new other_old other_new same one other =
+      let observed = led g old one.1.0 other_old other.1.0 same one.1.1 other.1.1 in
+      let first = gives_law one.1.0 one.0 other.1.0 other.0 r s observed one.1.2 other.1.2 in
+      let later = turns-led gs rs ss one.0 new other.0 other_new first.1 one.2 other.2 in
+      (ap₂ (λ (x : F) (xs : List F). x ∷ xs) first.0 later.0, later.1)
+
+  -- and so have runs of the same statement
+  pub runs-same : (repr : F → ℕ) → ((x y : F) → repr x ≡ repr y → x ≡ y) → (statement : Statement) (messages : List (List F))
+      {point other_point : List F} {old new other_old other_new : C} → state old ≡ state other_old
+      → IsRunOf observes gives repr old statement messages point new → IsRunOf observes gives repr other_old statement messages other_point other_new
+      → (point ≡ other_point) × (state new ≡ state other_new)
+  runs-same repr same_law statement messages {point} {other_point} {old} {new} {other_old} {other_new} same one two =
+      turns-led messages point other_point one.1 new two.1 other_new
+      (led one.0 old one.1 other_old two.1 same one.3
+      (subst (λ (xs : List F). InTurn observes xs other_old two.1) (elements-same repr same_law two.0 one.0 (two.2 ∙ sym one.2)) two.3)) one.4
+      two.4
+
+  -- as many numbers are the same
   same-numbers : (bits : ℕ) (numbers others : List ℕ) (old new other_old other_new : C) → length numbers ≡ length others
       → state old ≡ state other_old → InTurn (λ from number to. gives_bits from bits number to) numbers old new
       → InTurn (λ from number to. gives_bits from bits number to) others other_old other_new → numbers ≡ others
@@ -41,36 +78,40 @@ module _ {C S F : Type 0} (state : C → S) (observes gives : C → F → C → 
       ap₂ (λ (z : ℕ) (zs : List ℕ). z ∷ zs) first.0
       (same-numbers bits numbers others one.0 new other.0 other_new (omega (arith, long)) first.1 one.2 other.2)
 
+  -- places that are drawn behind what is sent are the same, and so is whether the witness works
+  pub places-same : {m n witness : ℕ} {sent : List F} {works other_works : Bool} {places other_places : List ℕ} {old new other_old other_new : C}
+      → state old ≡ state other_old → ArePlacesDrawn observes gives passing checks gives_bits m n sent witness old works places new
+      → ArePlacesDrawn observes gives passing checks gives_bits m n sent witness other_old other_works other_places other_new
+      → (works ≡ other_works) × (places ≡ other_places)
+  places-same {m} {n} {witness} {sent} {works} {other_works} {places} {other_places} {old} {new} {other_old} {other_new} same first second = (
+    first.queries.1 ∙ passing_law first.turned second.turned opening_work witness turned ∙ sym second.queries.1,
+    first.chosen ∙ ap (block_places (place_bits m n)) numbers ∙ sym second.chosen,
+  )
+    where
+      between : state first.turn.0 ≡ state second.turn.0
+      between = led sent old first.turn.0 other_old second.turn.0 same first.turn.1 second.turn.1
+
+      turned : state first.turned ≡ state second.turned
+      turned =
+          (gives_law first.turn.0 first.turned second.turn.0 second.turned first.challenge second.challenge between first.turn.2 second.turn.2).1
+
+      worked : state first.queries.0 ≡ state second.queries.0
+      worked =
+          checks_law opening_work witness first.turned first.queries.0 second.turned second.queries.0 turned first.queries.2 second.queries.2
+
+      numbers : first.numbers ≡ second.numbers
+      numbers =
+          same-numbers (place_bits m n) first.numbers second.numbers first.queries.0 new second.queries.0 other_new
+          (first.count ∙ sym second.count) worked first.queries.3 second.queries.3
+
   pub verdicts_agree : (repr : F → ℕ) (size width : ℕ) (times : ℕ → ℕ → ℕ) (vector : ℕ → ℕ)
       → VerdictsAgree state observes gives passing checks gives_bits repr size width times vector
   verdicts_agree repr size width times vector hash m n root point value row witness columns nodes prover verifier one other same first second =
-      same-tests one other (λ holds. second.decided.1 (turned first.works second.works first.places second.places works places (first.decided.0 holds)))
-      (λ holds. first.decided.1 (turned second.works first.works second.places first.places (sym works) (sym places) (second.decided.0 holds)))
+      same-tests one other (λ holds. second.decided.1 (turned first.works second.works first.places second.places drawn.0 drawn.1 (first.decided.0 holds)))
+      (λ holds. first.decided.1 (turned second.works first.works second.places first.places (sym drawn.0) (sym drawn.1) (second.decided.0 holds)))
     where
-      between : state first.drawn.turn.0 ≡ state second.drawn.turn.0
-      between = led (point ++ value ∷ row) prover first.drawn.turn.0 verifier second.drawn.turn.0 same first.drawn.turn.1 second.drawn.turn.1
-
-      sent : state first.drawn.turned ≡ state second.drawn.turned
-      sent =
-          (gives_law first.drawn.turn.0 first.drawn.turned second.drawn.turn.0 second.drawn.turned first.drawn.challenge second.drawn.challenge
-          between first.drawn.turn.2 second.drawn.turn.2).1
-
-      works : first.works ≡ second.works
-      works =
-          first.drawn.queries.1 ∙ passing_law first.drawn.turned second.drawn.turned opening_work witness sent ∙ sym second.drawn.queries.1
-
-      worked : state first.drawn.queries.0 ≡ state second.drawn.queries.0
-      worked =
-          checks_law opening_work witness first.drawn.turned first.drawn.queries.0 second.drawn.turned second.drawn.queries.0 sent
-          first.drawn.queries.2 second.drawn.queries.2
-
-      numbers : first.drawn.numbers ≡ second.drawn.numbers
-      numbers =
-          same-numbers (place_bits m n) first.drawn.numbers second.drawn.numbers first.drawn.queries.0 first.new second.drawn.queries.0 second.new
-          (first.drawn.count ∙ sym second.drawn.count) worked first.drawn.queries.3 second.drawn.queries.3
-
-      places : first.places ≡ second.places
-      places = first.drawn.chosen ∙ ap (block_places (place_bits m n)) numbers ∙ sym second.drawn.chosen
+      drawn : (first.works ≡ second.works) × (first.places ≡ second.places)
+      drawn = places-same same first.drawn second.drawn
 
       turned : (a b : Bool) (ps qs : List ℕ) → a ≡ b → ps ≡ qs
           → IsTrue a × OpensValue hash repr size width times vector m n root point value row ps columns nodes

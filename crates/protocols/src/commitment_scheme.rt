@@ -1,10 +1,10 @@
 // Commitments to tables of multilinear polynomials, as a scheme: sizes by the bits of soundness that are asked for, openings of a value at
 // a point, and their verdict, in any transcript. The rate of the code is 1/4.
-ghost use Rattle.std.specs.Prelude.{◌≡◌, ◌↔◌, ◌⊎◌, ◌+◌, ◌*◌, ◌^◌, ◌<◌, ◌≤◌, ◌∷◌, ◌++◌, ℕ, false, length, map, take};
+ghost use Rattle.std.specs.Prelude.{◌≡◌, ◌↔◌, ◌⊎◌, ◌+◌, ◌*◌, ◌^◌, ◌<◌, ◌≤◌, ◌∷◌, ◌++◌, ℕ, false, length, map, take, true};
 ghost use Rattle.std.specs.Prelude.{IfErr, IfNone, IfOk, IfSome, IsTrue};
 ghost use Rattle.std.specs.List.{range_with_len};
 ghost use Rattle.field_slices.specs.Multilinear.{multilinear_value};
-ghost use Rattle.merkle_trees.specs.Commitments.{row_at};
+ghost use Rattle.merkle_trees.specs.{Commitments.{row_at}, Openings.{AreAscending}};
 ghost use Rattle.transcripts.specs.Grinding.{MayGrind};
 ghost use Rattle.sum_checks.specs.declared.error.ProtocolError.TheVariants.{Memory};
 ghost use Rattle.protocols.specs.CommitmentScheme.{ArePlacesDrawn, HasBits, HasMostBits, HoldsColumns, IsHonestValue, OpensValue};
@@ -26,8 +26,8 @@ use transcripts::{
     ByteHasher32, CanObserve, CanSample, CanSampleUniformBits, GrindingChallenger, both,
 };
 
-// The logarithm of what a row's code word is longer than the row itself.
-const EXPANSION: usize = 2;
+/// The logarithm of what a row's code word is longer than the row itself.
+pub const EXPANSION: usize = 2;
 
 // The bits of work before places are drawn.
 const WORK: usize = 16;
@@ -253,11 +253,7 @@ pub fn open<
     let row = column_values(alloc, held.columns.as_slice(), size, first)?;
     let value = evaluate_multilinear(row.as_slice(), others);
     let sent = sent_elements(alloc, &ClaimedValue { point, value }, row.as_slice())?;
-    challenger.observe_slice(sent.as_slice())?;
-    let _challenge = challenger.sample()?;
-    let count = parameters.place_count();
-    let (witness, numbers) = draw_queries(alloc, challenger, WORK, parameters.bits, count)?;
-    let places = parameters.places(alloc, numbers.as_slice())?;
+    let (witness, places) = grind_places(alloc, challenger, parameters, sent.as_slice())?;
     let opened = open_columns(alloc, held, parameters.rows, places.as_slice())?;
     Ok(OpenedValue {
         value,
@@ -309,9 +305,39 @@ pub fn verify<
     Ok(both(works, opens))
 }
 
-// Observes what is sent, checks the work, and samples the places. A challenge is sampled in between, so that a witness is tried on its
-// digest and not on the row.
-fn draw_places<
+/// What a prover draws behind what it has sent, of whatever tables and points that is: what is sent is observed, a challenge is sampled, a
+/// witness of 16 bits of work is searched for, and a place is sampled in each block. It returns the witness, which works, and the places,
+/// which ascend. The challenger may grind 16 bits: over a field of 24 bits or more. It fails where the challenger does, if no witness is
+/// found, or if memory was refused.
+pub fn grind_places<
+    F: ShortElement,
+    C: CanObserve<F> + CanSample<F> + GrindingChallenger<Witness = F> + CanSampleUniformBits<F>,
+    A: Allocator + Copy,
+>(
+    alloc: A,
+    challenger: &mut C,
+    parameters: &Parameters,
+    sent: &[F],
+) -> Result<(F, Vec<usize, A>), ProtocolError>
+    requires work { MayGrind C.witness_bits 16 }
+    ensures drawn { IfOk result (λ drawn. ArePlacesDrawn C.observes C.gives C.passing C.checks C.gives_bits parameters.now.queries
+        parameters.now.variables sent.now (C.number drawn.0) challenger.old true drawn.1.items challenger.new) }
+    ensures ascending { IfOk result (λ drawn. AreAscending (2 ^ word_levels parameters.now.queries parameters.now.variables)
+        drawn.1.items) }
+{
+    challenger.observe_slice(sent)?;
+    let _challenge = challenger.sample()?;
+    let count = parameters.place_count();
+    let (witness, numbers) = draw_queries(alloc, challenger, WORK, parameters.bits, count)?;
+    let places = parameters.places(alloc, numbers.as_slice())?;
+    Ok((witness, places))
+}
+
+/// What a verifier draws behind what it was sent, as `grind_places` does: what is sent is observed, a challenge is sampled, the witness is
+/// checked, and a place is sampled in each block. It returns whether the witness works, and the places. A challenge is sampled in between,
+/// so that a witness is tried on its digest and not on what is sent. In a transcript that has not failed it fails only if memory was
+/// refused.
+pub fn draw_places<
     F: ShortElement,
     C: CanObserve<F> + CanSample<F> + GrindingChallenger<Witness = F> + CanSampleUniformBits<F>,
     A: Allocator + Copy,

@@ -1,4 +1,4 @@
-use Rattle.std.proofs.Common.{◌≡◌, ◌+◌, ◌^◌, ℕ, List, length, map, ◌∙◌, ap, subst, arith}
+use Rattle.std.proofs.Common.{◌+◌, ◌^◌, ℕ, map, ◌∙◌, ap, subst}
 use Rattle.field_bytes.specs.Streams.{joined_bytes}
 use Rattle.merkle_trees.specs.Commitments.{IsTreeOver, row_at}
 use Rattle.protocols.specs.CommitmentScheme.{matrix_rows}

@@ -1,7 +1,6 @@
-use Rattle.std.proofs.Common.{◌≡◌, ℕ, List, ◌∙◌, ap, subst, arith}
-use Rattle.merkle_trees.specs.Queries.{AreQueries}
+use Rattle.std.proofs.Common.{◌∙◌, ap}
 use Rattle.sum_checks.specs.Refusals.{error_of_call, error_of_search}
-use Rattle.protocols.specs.CommitmentScheme.{block_places, opening_work, place_bits}
+use Rattle.protocols.specs.CommitmentScheme.{block_places, place_bits}
 use Rattle.protocols.proofs.SchemeRuns.{memory-alone, places-drawn}
 use Rattle.protocols.proofs.commitment_scheme.draw_places.Goals as goal
 

@@ -1,18 +1,15 @@
-use Rattle.std.proofs.Common.{◌≡◌, ◌+◌, ◌-◌, ◌*◌, ◌^◌, ◌<◌, ◌≤◌, ℕ, Bool, true, List, ◌∷◌, ◌++◌, length, map, take, drop, refl, sym, ◌∙◌, ap, ap₂}
+use Rattle.std.proofs.Common.{◌≡◌, ◌^◌, ℕ, true, List, ◌∷◌, ◌++◌, length, map, take, drop, refl, sym, ◌∙◌, ap, ap₂}
 use Rattle.std.proofs.Common.{subst, arith}
 use Rattle.std.specs.List.{range_with_len}
 use Rattle.std.proofs.lemmas.List.{length-drop, length-map, length-take-le, take-append-drop}
 use Rattle.std.proofs.lemmas.List.FromFn.{length-map-range_with_len}
-use Rattle.std.proofs.Math.Nat.{mul-le-mul_right}
-use Rattle.std.proofs.lemmas.Nat.{pow-add}
 use Rattle.field_slices.specs.Multilinear.{multilinear_value}
 use Rattle.merkle_trees.specs.Commitments.{row_at}
 use Rattle.merkle_trees.specs.Openings.{AreAscending}
-use Rattle.protocols.specs.CommitmentScheme.{ArePlacesDrawn, block_places, matrix_rows, place_bits, row_levels, word_levels}
+use Rattle.protocols.specs.CommitmentScheme.{ArePlacesDrawn, matrix_rows, row_levels, word_levels}
 use Rattle.protocols.specs.Tables.{IsHonestOpening}
-use Rattle.protocols.proofs.BlockPlaces.{ascending, blocks-whole, columns-counted, columns-held}
+use Rattle.protocols.proofs.BlockPlaces.{columns-counted, columns-held}
 use Rattle.protocols.proofs.CommitmentScheme.{value-opened}
-use Rattle.protocols.proofs.SchemeRuns.{places-drawn}
 use Rattle.protocols.proofs.commitment_scheme.open.Goals as goal
 
 pub split_at-requires : goal.split_at-requires
@@ -46,10 +43,6 @@ evaluate_multilinear-value-requires g c =
     omega (arith, behind, c.requires.coordinates, sizes.rows_are, sizes.levels_are) in
     ap length c.as_slice-2.ensures.value ∙ row ∙ c.power_of_two-size.ensures.power ∙ ap (λ (b : ℕ). 2 ^ b) whole
 
-pub places-requires : goal.places-requires
-places-requires g c =
-    ap length c.as_slice-5.ensures.value ∙ c.in_ok-witness.ensures.count ∙ c.place_count-count.ensures.count
-
 pub open_columns-requires-clause-few : goal.open_columns-requires-clause-few
 open_columns-requires-clause-few g c = omega (arith, c.args.parameters.now.few_rows)
 
@@ -61,11 +54,9 @@ open_columns-requires-clause-count g c =
 pub open_columns-requires-clause-places : goal.open_columns-requires-clause-places
 open_columns-requires-clause-places g c =
     let sizes = c.args.parameters.now in
-    subst (λ (d : ℕ). AreAscending (2 ^ d) c.as_slice-6.result.now) (sym c.requires.depth)
-    (subst (λ (l : List ℕ). AreAscending (2 ^ word_levels sizes.queries sizes.variables) l) (sym (c.as_slice-6.ensures.value ∙ c.in_ok-places.ensures))
-    (ascending (place_bits sizes.queries sizes.variables) _ (word_levels sizes.queries sizes.variables)
-    (blocks-whole sizes.queries sizes.variables) c.as_slice-5.result.now
-    (ap length c.as_slice-5.ensures.value ∙ c.in_ok-witness.ensures.count ∙ c.place_count-count.ensures.count)))
+    subst (λ (d : ℕ). AreAscending (2 ^ d) c.as_slice-5.result.now) (sym c.requires.depth)
+    (subst (λ (l : List ℕ). AreAscending (2 ^ word_levels sizes.queries sizes.variables) l) (sym c.as_slice-5.ensures.value)
+    c.in_ok-witness.ensures.ascending)
 
 pub returns-clause-row : goal.returns-clause-row
 returns-clause-row g c =
@@ -92,7 +83,7 @@ returns-clause-accepted g c = λ hash table held.
     let columns = c.args.held.now.columns.items in
     let vector : ℕ → ℕ = λ (i : ℕ). g.F.TowerLevel.basis (g.F.TowerLevel.cantor i) in
     let row = c.in_ok-row.row.items in
-    let places = c.in_ok-places.places.items in
+    let places = c.in_ok-witness.places.items in
     let opened = c.in_ok-opened.opened in
     let first : List _ = take (matrix_rows m n) point in
     let others : List _ = drop (matrix_rows m n) point in
@@ -120,7 +111,7 @@ returns-clause-accepted g c = λ hash table held.
     c.args.held.now.tree columns places opened.columns.items opened.nodes.items) sizes.rows_are
     (subst
     (λ (ps : List ℕ). IsHonestOpening field.repr g.F.RawDataSerializable.NUM_BYTES field.width field.product vector sizes.rows
-    c.args.held.now.tree columns ps opened.columns.items opened.nodes.items) c.as_slice-6.ensures.value c.in_ok-opened.ensures.accepted) in (
+    c.args.held.now.tree columns ps opened.columns.items opened.nodes.items) c.as_slice-5.ensures.value c.in_ok-opened.ensures.accepted) in (
       value_is
           ∙ value-opened field.repr field.width field.product vector g.met.F.Field.wide_law g.met.F.Field.field_law.ring field.range_law
           (row_levels m n) 2 (matrix_rows m n) columns table point row first others first_long others_long
@@ -128,18 +119,15 @@ returns-clause-accepted g c = λ hash table held.
       record {
         works = true;
         places = places;
-        new = c.draw_queries.new.challenger;
+        new = c.grind_places.new.challenger;
         drawn =
             subst
             (λ (s : List _). ArePlacesDrawn g.C.CanObserve.observes g.C.CanSample.gives g.C.GrindingChallenger.passing
             g.C.GrindingChallenger.checks g.C.CanSampleBits.gives_bits m n s (g.C.GrindingChallenger.number c.in_ok-witness.witness)
-            c.args.challenger.now true places c.draw_queries.new.challenger)
+            c.args.challenger.now true places c.grind_places.new.challenger)
             (c.as_slice-4.ensures.value ∙ c.in_ok-sent.ensures
             ∙ ap (λ (r : List _). point ++ c.evaluate_multilinear-value.result ∷ r) c.as_slice-3.ensures.value)
-            (places-drawn g.C.CanObserve.observes g.C.CanSample.gives g.C.GrindingChallenger.passing g.C.GrindingChallenger.checks
-            g.C.CanSampleBits.gives_bits m n c.in_ok-witness.numbers.items sizes.bits_are c.in_ok-observe_slice.ensures.ok
-            c.in_ok-_challenge.ensures.ok c.in_ok-witness.ensures.drawn (c.in_ok-witness.ensures.count ∙ c.place_count-count.ensures.count)
-            (c.in_ok-places.ensures ∙ ap (block_places (place_bits m n)) c.as_slice-5.ensures.value));
+            c.in_ok-witness.ensures.drawn;
         decided = (
           λ _. (
             refl,

@@ -1,9 +1,9 @@
-use Rattle.std.proofs.Common.{◌≡◌, ◌+◌, ◌-◌, ◌*◌, ◌^◌, ◌≤◌, ℕ, List, length, map, take, drop, refl, sym, ◌∙◌, ap, subst, arith}
+use Rattle.std.proofs.Common.{◌≡◌, ◌+◌, ◌-◌, ◌^◌, ℕ, List, length, map, take, drop, refl, sym, ◌∙◌, ap, subst, arith}
 use Rattle.std.specs.Prelude.{◌↔◌, IsTrue}
 use Rattle.std.proofs.lemmas.Bool.{true≢false}
 use Rattle.std.proofs.lemmas.List.{length-drop, length-map, length-take-le}
 use Rattle.field_slices.specs.Multilinear.{multilinear_value}
-use Rattle.protocols.specs.CommitmentScheme.{matrix_rows, row_levels}
+use Rattle.protocols.specs.CommitmentScheme.{matrix_rows}
 use Rattle.protocols.specs.Tables.{OpensColumns}
 use Rattle.protocols.proofs.SchemeRuns.{decided}
 use Rattle.protocols.proofs.TableOpenings.{row-long}

@@ -1,4 +1,4 @@
-use Rattle.std.proofs.Common.{◌≡◌, ℕ, List, ◌∷◌, ◌++◌, ◌∙◌, subst}
+use Rattle.std.proofs.Common.{ℕ, List, ◌∙◌, subst}
 use Rattle.std.specs.Prelude.{◌↔◌, IsTrue}
 use Rattle.protocols.specs.CommitmentScheme.{ArePlacesDrawn, OpensValue}
 use Rattle.protocols.proofs.SchemeRuns.{memory-alone}

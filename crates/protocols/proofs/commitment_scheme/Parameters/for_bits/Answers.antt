@@ -1,4 +1,4 @@
-use Rattle.std.proofs.Common.{◌≡◌, ◌⊎◌, inl, inr, ℕ, ◌<◌, ◌≤◌, sym, subst, arith}
+use Rattle.std.proofs.Common.{inl, inr, ℕ, ◌<◌, ◌≤◌, sym, subst, arith}
 use Rattle.protocols.specs.CommitmentScheme.{HasBits}
 use Rattle.protocols.proofs.SchemeBits.{bits-fewer, bits-more, seven-bits}
 use Rattle.protocols.proofs.commitment_scheme.Parameters.for_bits.Goals as goal
