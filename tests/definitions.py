@@ -6,6 +6,7 @@ an object of `Field`, by its name in FIELDS; the functions that belong to no fie
 
 import functools
 import pathlib
+import re
 import sys
 
 TOP = pathlib.Path(__file__).resolve().parent.parent
@@ -543,17 +544,71 @@ OPERATIONS = {
 }
 
 
+class Modulo:
+    """The polynomials modulo one."""
+
+    def __init__(self, bits, modulus):
+        self.bits, self.modulus = bits, modulus
+
+    def multiply(self, a, b):
+        return chosen_product(self.modulus, a, b)
+
+    def square(self, a):
+        return self.multiply(a, a)
+
+    def inverse(self, a):
+        return chosen_power(self.modulus, a, (1 << self.bits) - 2)
+
+    def square_root(self, a):
+        return chosen_power(self.modulus, a, 1 << self.bits - 1)
+
+
+def common_factor(a, b):
+    """The greatest common factor of two polynomials, by Euclid's algorithm."""
+    while b:
+        a, b = b, remainder(a, b)
+    return a
+
+
+def remainder(a, modulus):
+    """What is left of a polynomial modulo another."""
+    return chosen_product(modulus, a, 1)
+
+
+def is_irreducible(modulus):
+    """Whether no polynomial of half its degree at most divides it, by Ben-Or's test."""
+    power = 2
+    for _ in range((modulus.bit_length() - 1) // 2):
+        power = chosen_product(modulus, power, power)
+        if common_factor(modulus, power ^ 2) != 1:
+            return False
+    return modulus.bit_length() > 1
+
+
+def field_of_word(word):
+    """The field that the first word of a line names; else the answer to the line."""
+    if word in FIELDS:
+        return FIELDS[word]
+    written = re.fullmatch("gf:([0-9]{1,3}):([0-9a-fA-F]{1,33})", word)
+    if not written:
+        return "error 1"
+    degree, modulus = int(written[1]), int(written[2], 16)
+    has_field = 1 <= degree <= 128 and modulus.bit_length() == degree + 1 and is_irreducible(modulus)
+    return Modulo(degree, modulus) if has_field else "error 7"
+
+
 def line_answer(line):
     """What the program binfield answers to the bytes of a line; of several errors the first of these."""
     try:
         words = [it for it in line.decode("utf-8").split(" ") if it]
     except UnicodeDecodeError:
         return "error 6"
-    if not words or words[0] not in FIELDS:
-        return "error 1"
+    field = field_of_word(words[0]) if words else "error 1"
+    if isinstance(field, str):
+        return field
     if len(words) < 2 or words[1] not in OPERATIONS:
         return "error 2"
-    field, (count, compute), operands = FIELDS[words[0]], OPERATIONS[words[1]], words[2:]
+    (count, compute), operands = OPERATIONS[words[1]], words[2:]
     if len(operands) != count:
         return "error 3"
     digits = 2 * -(-field.bits // 8)

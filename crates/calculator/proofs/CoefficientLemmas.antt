@@ -1,5 +1,5 @@
 -- Three coefficients of 64 bits, as one number and as text.
-use Rattle.std.proofs.Common.{◌≡◌, ℕ, zero, suc, ◌+◌, ◌*◌, ◌/◌, ◌%◌, ◌^◌, ◌<◌, ◌≤◌, List, [], ◌∷◌, ◌++◌, Some, refl, sym, subst, ◌∙◌, ap, arith, lit<}
+use Rattle.std.proofs.Common.{◌≡◌, ℕ, ◌+◌, ◌*◌, ◌/◌, ◌%◌, ◌^◌, ◌<◌, ◌≤◌, List, [], ◌∷◌, ◌++◌, Some, refl, sym, subst, ◌∙◌, ap, arith, lit<}
 use Rattle.std.specs.Option.{option_map}
 use Rattle.std.specs.Int.{bytes_high_first}
 use Rattle.std.proofs.Math.Nat.{mod-eq_of_lt, pow-le-pow_right}
@@ -67,7 +67,7 @@ cubic-back x fits =
 named-back : (name : List ℕ) (field : WrittenField) → field_named name ≡ Some field → TurnsBack field
 named-back =
     all_named TurnsBack tower-back (polynomials-back 8 aes_modulus) (polynomials-back 64 poly64_modulus)
-    (polynomials-back 128 ghash_modulus) cubic-back
+    (polynomials-back 128 ghash_modulus) cubic-back (λ m p pass. polynomials-back m p)
 
 -- in each field that a line may name, the text of an element writes that element
 pub element-read_back : ElementIsReadBack

@@ -12,10 +12,11 @@ use Rattle.calculator.specs.Words.{words}
 use Rattle.calculator.specs.Digits.{number_after, operand_value}
 use Rattle.calculator.specs.Elements.{element_text}
 use Rattle.calculator.specs.Fields.{WrittenField, bytes_of, field_named}
+use Rattle.calculator.specs.Moduli.{modulus_written}
 use Rattle.calculator.specs.Operations.{operation_named, binary_result, unary_result}
 use Rattle.calculator.specs.Text.{error_text}
-use Rattle.calculator.specs.Answer.{result_text, answer_to_two, answer_to_one, answer_to_operands, answer_by_operation, answer_by_field, answer_to_words, answer_of}
-use Rattle.calculator.specs.Faults.{field_in, operation_in, operands_in, operand_count, IsDigit, IsOperand, number_written, IsInRange, result_at, FaultsInOrder}
+use Rattle.calculator.specs.Answer.{no_field_error, result_text, answer_to_two, answer_to_one, answer_to_operands, answer_by_operation, answer_by_field, answer_to_words, answer_of}
+use Rattle.calculator.specs.Faults.{field_in, modulus_in, operation_in, operands_in, operand_count, IsDigit, IsOperand, number_written, IsInRange, result_at, FaultsInOrder}
 use Rattle.calculator.specs.declared.names.Binary.{Binary}
 use Rattle.calculator.specs.declared.names.Unary.{Unary}
 use Rattle.calculator.specs.declared.names.Operation.{Operation}
@@ -278,16 +279,18 @@ faults-operands field (OfOne operation) (a ∷ b ∷ rest) = miscounted field (O
 -- ---- the words of a line
 
 -- the answer by what the first two words name and by the words after them
-abbrev answer_by_names : Option WrittenField → Option Operation → List (List ℕ) → List ℕ
-answer_by_names None operation operands = error_text 1
-answer_by_names (Some field) operation operands = answer_by_operation field operation operands
+abbrev answer_by_names : Option (ℕ × ℕ) → Option WrittenField → Option Operation → List (List ℕ) → List ℕ
+answer_by_names modulus None operation operands = error_text (no_field_error modulus)
+answer_by_names modulus (Some field) operation operands = answer_by_operation field operation operands
 
 -- what the sentences say of them
-record NameFaults (field : Option WrittenField) (operation : Option Operation) (operands : List (List ℕ)) (answer : List ℕ) : Type 0 where
-  names_field : (answer ≡ error_text 1) ↔ (field ≡ None)
+record NameFaults (modulus : Option (ℕ × ℕ)) (field : Option WrittenField) (operation : Option Operation) (operands : List (List ℕ)) (answer : List ℕ)
+    : Type 0 where
+  names_field : (answer ≡ error_text 1) ↔ ((field ≡ None) × (modulus ≡ None))
+  names_modulus : (answer ≡ error_text 7) ↔ ((field ≡ None) × (modulus ≢ None))
   names_operation : (known : WrittenField) → field ≡ Some known → (answer ≡ error_text 2) ↔ (operation ≡ None)
   takes : (known : WrittenField) (named : Operation) → field ≡ Some known → operation ≡ Some named → OperandFaults known named operands answer
-  later : Later 0 answer
+  is_text : answer ≡ error_text 6 → ⊥
 
 -- a name stands for one field, and for one operation
 known_faults : (field known : WrittenField) (operation named : Operation) (operands : List (List ℕ)) {answer : List ℕ}
@@ -299,53 +302,80 @@ known_faults field known operation named operands {answer} is named_is faults =
     subst (λ (f : WrittenField). OperandFaults f named operands answer) same
     (subst (λ (o : Operation). OperandFaults field o operands answer) same_operation faults)
 
+-- no error of a first word is that of the encoding
+no_field-text : (modulus : Option (ℕ × ℕ)) → error_text (no_field_error modulus) ≡ error_text 6 → ⊥
+no_field-text None told = let same = error_text-number 1 6 told in absurd (omega arith)
+no_field-text (Some modulus) told = let same = error_text-number 7 6 told in absurd (omega arith)
+
+-- the error of a first word that names no field is 1 exactly where it writes no modulus
+no_field-none : (modulus : Option (ℕ × ℕ)) → (error_text (no_field_error modulus) ≡ error_text 1) ↔ (modulus ≡ None)
+no_field-none None = (λ told. refl, λ none. refl)
+no_field-none (Some modulus) = (λ told. let same = error_text-number 7 1 told in absurd (omega arith), λ none. absurd (cc))
+
+-- and 7 exactly where it writes one
+no_field-some : (modulus : Option (ℕ × ℕ)) → (error_text (no_field_error modulus) ≡ error_text 7) ↔ (modulus ≢ None)
+no_field-some None = (λ told. let same = error_text-number 1 7 told in absurd (omega arith), λ some. absurd (some refl))
+no_field-some (Some modulus) = (λ told none. cc, λ some. refl)
+
+-- a known field is followed by what comes after error 1
+known_names : (modulus : Option (ℕ × ℕ)) (field : WrittenField) (operation : Option Operation) (operands : List (List ℕ)) (answer : List ℕ)
+    → Later 1 answer → ((known : WrittenField) → Some field ≡ Some known → (answer ≡ error_text 2) ↔ (operation ≡ None))
+    → ((known : WrittenField) (named : Operation) → Some field ≡ Some known → operation ≡ Some named → OperandFaults known named operands answer)
+    → NameFaults modulus (Some field) operation operands answer
+known_names modulus field operation operands answer later names takes = record {
+  names_field = (λ told. absurd (later_never 1 1 answer later (λ after. absurd (omega arith)) told), λ none. absurd (some none.0));
+  names_modulus = (λ told. absurd (later_never 1 7 answer later (λ after. absurd (omega arith)) told), λ none. absurd (some none.0));
+  names_operation = names;
+  takes = takes;
+  is_text = later_never 1 6 answer later (λ after. absurd (omega arith));
+}
+  where
+    some : Some field ≡ None → ⊥
+    some none = cc
+
 -- the answer by the names and the operands meets the sentences
-faults-names : (field : Option WrittenField) (operation : Option Operation) (operands : List (List ℕ))
-    → NameFaults field operation operands (answer_by_names field operation operands)
-faults-names None operation operands = record {
-  names_field = (λ told. refl, λ none. refl);
+faults-names : (modulus : Option (ℕ × ℕ)) (field : Option WrittenField) (operation : Option Operation) (operands : List (List ℕ))
+    → NameFaults modulus field operation operands (answer_by_names modulus field operation operands)
+faults-names modulus None operation operands = record {
+  names_field = (λ told. (refl, (no_field-none modulus).0 told), λ none. (no_field-none modulus).1 none.1);
+  names_modulus = (λ told. (refl, (no_field-some modulus).0 told), λ some. (no_field-some modulus).1 some.1);
   names_operation = λ known is. absurd (cc);
   takes = λ known named is. absurd (cc);
-  later = later_error 0 1 (lit< tt) (omega arith);
+  is_text = no_field-text modulus;
 }
-faults-names (Some field) None operands = record {
-  names_field = (λ told. let one = error_text-number 2 1 told in absurd (omega arith), λ none. absurd (cc));
-  names_operation = λ known is. (λ told. refl, λ none. refl);
-  takes = λ known named is named_is. absurd (cc);
-  later = later_error 0 2 (lit< tt) (omega arith);
-}
-faults-names (Some field) (Some operation) operands =
+faults-names modulus (Some field) None operands =
+    known_names modulus field None operands (error_text 2) (later_error 1 2 (lit< tt) (omega arith)) (λ known is. (λ told. refl, λ none. refl))
+    (λ known named is named_is. absurd (cc))
+faults-names modulus (Some field) (Some operation) operands =
     let faults = faults-operands field operation operands in
     let answer = answer_to_operands field operation operands in
-    record {
-      names_field = (λ told. absurd (later_never 2 1 answer faults.later (λ after. absurd (omega arith)) told), λ none. absurd (cc));
-      names_operation = λ known is. (λ told. absurd (later_never 2 2 answer faults.later (λ after. absurd (omega arith)) told), λ none. absurd (cc));
-      takes = λ known named is named_is. known_faults field known operation named operands is named_is faults;
-      later = later_weaker 0 2 answer (omega arith) faults.later;
-    }
+    known_names modulus field (Some operation) operands answer (later_weaker 1 2 answer (omega arith) faults.later)
+    (λ known is. (λ told. absurd (later_never 2 2 answer faults.later (λ after. absurd (omega arith)) told), λ none. absurd (cc)))
+    (λ known named is named_is. known_faults field known operation named operands is named_is faults)
 
 -- a line of one word has no operation
-answer_to_one_word : (field : Option WrittenField) → answer_by_field field [] ≡ answer_by_names field None []
-answer_to_one_word None = refl
-answer_to_one_word (Some field) = refl
+answer_to_one_word : (modulus : Option (ℕ × ℕ)) (field : Option WrittenField) → answer_by_field modulus field [] ≡ answer_by_names modulus field None []
+answer_to_one_word modulus None = refl
+answer_to_one_word modulus (Some field) = refl
 
 -- a second word names the operation, and the words after it are the operands
-answer_to_more_words : (field : Option WrittenField) (name : List ℕ) (operands : List (List ℕ))
-    → answer_by_field field (name ∷ operands) ≡ answer_by_names field (operation_named name) operands
-answer_to_more_words None name operands = refl
-answer_to_more_words (Some field) name operands = refl
+answer_to_more_words : (modulus : Option (ℕ × ℕ)) (field : Option WrittenField) (name : List ℕ) (operands : List (List ℕ))
+    → answer_by_field modulus field (name ∷ operands) ≡ answer_by_names modulus field (operation_named name) operands
+answer_to_more_words modulus None name operands = refl
+answer_to_more_words modulus (Some field) name operands = refl
 
 -- the answer to a line by what its first two words name
 answer_to_words-names : (line : List (List ℕ))
-    → answer_to_words line ≡ answer_by_names (option_and_then field_named (slice_get line 0)) (option_and_then operation_named (slice_get line 1)) (drop 2 line)
+    → answer_to_words line ≡ answer_by_names (option_and_then modulus_written (slice_get line 0))
+    (option_and_then field_named (slice_get line 0)) (option_and_then operation_named (slice_get line 1)) (drop 2 line)
 answer_to_words-names [] = refl
-answer_to_words-names (name ∷ []) = answer_to_one_word (field_named name)
-answer_to_words-names (name ∷ operation ∷ operands) = answer_to_more_words (field_named name) operation operands
+answer_to_words-names (name ∷ []) = answer_to_one_word (modulus_written name) (field_named name)
+answer_to_words-names (name ∷ operation ∷ operands) = answer_to_more_words (modulus_written name) (field_named name) operation operands
 
 -- ---- a line
 
 -- a line of UTF-8 is answered by its words
-answer_of-text : (line : List ℕ) → IsUtf8 line → answer_of line ≡ answer_by_names (field_in line) (operation_in line) (operands_in line)
+answer_of-text : (line : List ℕ) → IsUtf8 line → answer_of line ≡ answer_by_names (modulus_in line) (field_in line) (operation_in line) (operands_in line)
 unfolding answer_of
 answer_of-text line text =
     cond-true (is_utf8 line) (answer_to_words (words line)) (error_text 6) (is_utf8-from_IsUtf8 line text) ∙ answer_to_words-names (words line)
@@ -357,14 +387,15 @@ answer_of-no_text line broken =
     cond-false (is_utf8 line) (answer_to_words (words line)) (error_text 6) (false_from_ne_true (is_utf8 line) (λ is. broken (IsUtf8-from_is_utf8 line is)))
 
 -- the answer to a line of UTF-8 meets the sentences
-faults-text : (line : List ℕ) → IsUtf8 line → NameFaults (field_in line) (operation_in line) (operands_in line) (answer_of line)
-faults-text line text = rw (answer_of-text line text) (faults-names (field_in line) (operation_in line) (operands_in line))
+faults-text : (line : List ℕ) → IsUtf8 line → NameFaults (modulus_in line) (field_in line) (operation_in line) (operands_in line) (answer_of line)
+faults-text line text = rw (answer_of-text line text) (faults-names (modulus_in line) (field_in line) (operation_in line) (operands_in line))
 
 -- the answer to each line meets the sentences in their order
 pub FaultsInOrder-answer_of : (line : List ℕ) → FaultsInOrder line
 FaultsInOrder-answer_of line = record {
-  encoding = (λ told text. later_never 0 6 (answer_of line) (faults-text line text).later (λ after. absurd (omega arith)) told, answer_of-no_text line);
+  encoding = (λ told text. (faults-text line text).is_text told, answer_of-no_text line);
   field = λ text. (faults-text line text).names_field;
+  modulus = λ text. (faults-text line text).names_modulus;
   operation = λ known is. (faults-text line is.0).names_operation known is.1;
   operands = λ known named is. ((faults-text line is.0.0).takes known named is.0.1 is.1).count;
   digits = λ known named is. ((faults-text line is.0.0.0).takes known named is.0.0.1 is.0.1).digits is.1;

@@ -1,6 +1,7 @@
 -- Inverses and square roots in a field as powers: in a field of q elements the inverse of x is x ^ (q - 2), and the square
 -- root is reached by one squaring fewer than give the element back.
-use Rattle.std.proofs.Common.{◌≡◌, ◌≢◌, ℕ, ◌-◌, ◌^◌, ◌<◌, Bool, cond, List, Some, None, refl, sym, ◌∙◌, ap, lit<}
+use Rattle.std.proofs.Common.{◌≡◌, ◌≢◌, ℕ, ◌-◌, ◌^◌, ◌<◌, Bool, cond, List, Option, Some, None, refl, sym, ◌∙◌, ap, lit<}
+use Rattle.std.specs.Option.{option_map}
 use Rattle.std.proofs.lemmas.Bool.{eq-eqb, ne_eqb}
 use Rattle.std.proofs.lemmas.Nat.{pow_pos}
 use Rattle.field_base.specs.Field.{IsField}
@@ -14,8 +15,20 @@ use Rattle.word_polynomial.specs.CubicFieldLemmas.{cubic_is_field}
 use Rattle.word_tables.proofs.Isomorphisms.{field_8, field_64, field_128}
 use Rattle.calculator.specs.Fields.{WrittenField, written_field, undivided, lowest_first, tower_level, polynomials_modulo, cubic_extension, field_named}
 use Rattle.calculator.specs.Operations.{unary_result}
+use Rattle.calculator.proofs.ModulusLemmas.{has_field-field}
 use Rattle.calculator.proofs.NamedFields.{all_named}
 use Rattle.calculator.specs.declared.names.Unary.TheVariants.{Inv, Sqrt}
+
+-- a number is wanted where the answer is an element, and none where it is none
+pub by_answer_of : {E : Type 0} (repr : E → ℕ) (answer : Option E) (want : Option ℕ) → (answer ≡ None → None ≡ want)
+    → ((y : E) → answer ≡ Some y → Some (repr y) ≡ want) → option_map repr answer ≡ want
+by_answer_of repr None want none some = none refl
+by_answer_of repr (Some y) want none some = some y refl
+
+-- the same of an answer that is a number
+pub by_answer : (answer want : Option ℕ) → (answer ≡ None → None ≡ want) → ((y : ℕ) → answer ≡ Some y → Some y ≡ want) → answer ≡ want
+by_answer None want none some = none refl
+by_answer (Some y) want none some = some y refl
 
 module _ (width : ℕ) (times : ℕ → ℕ → ℕ) (field : IsField width times) (wide : 0 < width) where
   -- ---- what the code answers
@@ -69,3 +82,4 @@ pub named-laws : (name : List ℕ) (field : WrittenField) → field_named name �
 named-laws =
     all_named HasInverseAndRoot tower-laws (polynomial-laws 8 aes_modulus (lit< tt) field_8)
     (polynomial-laws 64 poly64_modulus (lit< tt) field_64) (polynomial-laws 128 ghash_modulus (lit< tt) field_128) cubic-laws
+    (λ m p pass. let field = has_field-field m p pass in polynomial-laws m p field.0 field.1)

@@ -4,6 +4,7 @@ pub mod FaultLemmas
 pub mod FermatLemmas
 pub mod FoundLemmas
 pub mod LineLemmas
+pub mod ModulusLemmas
 pub mod NamedFields
 pub mod NumberLemmas
 pub mod ProgressLemmas

@@ -140,3 +140,11 @@ fits_high high low bits fits more =
     let wide : 2 ^ bits ≡ above * 2 ^ 128 = ap (λ (k : ℕ). 2 ^ k) cut ∙ pow-add 2 (bits - 128) 128 in
     shifted-test high (bits - 129) ∙ ap (λ (k : ℕ). nat_lt high (2 ^ k)) next
     ∙ same_test high above (high * 2 ^ 128 + low) (2 ^ bits) (λ below. omega (arith, wide)) (λ below. omega (arith, wide))
+
+-- ---- numbers of at most 128 bits
+
+-- a number of so few bits is its low word
+pub low-word : (bits high low : ℕ) → bits ≤ 128 → high * 2 ^ 128 + low < 2 ^ bits → low ≡ high * 2 ^ 128 + low
+low-word bits high low few fits =
+    let narrow : 2 ^ bits ≤ 2 ^ 128 = pow-le-pow_right {n = 2} (lit< tt) {i = bits} {j = 128} few in
+    omega (arith, narrow, fits)

@@ -1,12 +1,13 @@
 -- The answer to a line, both as lists of bytes. The words of a line are the name of a field, the name of an operation and
--- the operands. A line with several faults is answered with the first: its encoding, its field, its operation, the number of
--- its operands, their digits, their range.
+-- the operands. A line with several faults is answered with the first: its encoding, its field, the modulus of that, its operation,
+-- the number of its operands, their digits, their range.
 use Rattle.std.specs.Prelude.{ℕ, ◌^◌, ◌&&◌, nat_lt, if◌then◌else◌, List, [], ◌∷◌, codes, Option, Some, None}
 use Rattle.std.specs.Str.{is_utf8}
 use Rattle.calculator.specs.Words.{words}
 use Rattle.calculator.specs.Digits.{operand_value}
 use Rattle.calculator.specs.Elements.{element_text}
 use Rattle.calculator.specs.Fields.{WrittenField, bytes_of, field_named}
+use Rattle.calculator.specs.Moduli.{modulus_written}
 use Rattle.calculator.specs.Operations.{operation_named, binary_result, unary_result}
 use Rattle.calculator.specs.Text.{error_text}
 use Rattle.calculator.specs.declared.names.Binary.{Binary}
@@ -53,15 +54,20 @@ abbrev pub answer_to_rest : WrittenField → List (List ℕ) → List ℕ
 answer_to_rest field [] = error_text 2
 answer_to_rest field (name ∷ operands) = answer_by_operation field (operation_named name) operands
 
--- the answer by the field, None for an unknown one, and the words after it
-abbrev pub answer_by_field : Option WrittenField → List (List ℕ) → List ℕ
-answer_by_field None rest = error_text 1
-answer_by_field (Some field) rest = answer_to_rest field rest
+-- the number of the error of a word that names no field: by the degree and the polynomial that it writes, None where it writes none
+abbrev pub no_field_error : Option (ℕ × ℕ) → ℕ
+no_field_error None = 1
+no_field_error (Some modulus) = 7
+
+-- the answer by the modulus that the first word writes, by the field that it names, None for an unknown one, and by the words after it
+abbrev pub answer_by_field : Option (ℕ × ℕ) → Option WrittenField → List (List ℕ) → List ℕ
+answer_by_field modulus None rest = error_text (no_field_error modulus)
+answer_by_field modulus (Some field) rest = answer_to_rest field rest
 
 -- the answer by the words of the line
 abbrev pub answer_to_words : List (List ℕ) → List ℕ
 answer_to_words [] = error_text 1
-answer_to_words (name ∷ rest) = answer_by_field (field_named name) rest
+answer_to_words (name ∷ rest) = answer_by_field (modulus_written name) (field_named name) rest
 
 -- the answer to a line, with no line feed
 unfoldable pub answer_of : List ℕ → List ℕ

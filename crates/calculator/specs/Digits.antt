@@ -1,5 +1,5 @@
--- Numbers as hexadecimal text, the highest digit first.
-use Rattle.std.specs.Prelude.{◌≡◌, ℕ, zero, suc, ◌+◌, ◌*◌, ◌/◌, ◌%◌, ◌^◌, ◌<◌, ◌==◌, if◌then◌else◌, List, [], ◌∷◌, length, slice_index, Option, Some, None}
+-- Numbers as hexadecimal text, and as decimal digits, the highest digit first.
+use Rattle.std.specs.Prelude.{◌≡◌, ℕ, zero, suc, ◌+◌, ◌-◌, ◌*◌, ◌/◌, ◌%◌, ◌^◌, ◌<◌, ◌==◌, ◌&&◌, nat_le, if◌then◌else◌, List, [], ◌∷◌, length, slice_index, Option, Some, None}
 use Rattle.std.specs.Option.{option_and_then}
 use Rattle.hex.specs.Hex.{hex_digit_value, lower_digits}
 
@@ -7,6 +7,15 @@ use Rattle.hex.specs.Hex.{hex_digit_value, lower_digits}
 unfoldable pub number_after : ℕ → List ℕ → Option ℕ
 number_after n [] = Some n
 number_after n (digit ∷ rest) = option_and_then (λ value. number_after (n * 16 + value) rest) (hex_digit_value digit)
+
+-- the value of a decimal digit; None for another character
+abbrev pub decimal_digit : ℕ → Option ℕ
+decimal_digit character = if nat_le 48 character && nat_le character 57 then Some (character - 48) else None
+
+-- the number that is written by the decimal digits of n and then these characters; None where one is no digit
+unfoldable pub decimal_after : ℕ → List ℕ → Option ℕ
+decimal_after n [] = Some n
+decimal_after n (digit ∷ rest) = option_and_then (λ value. decimal_after (n * 10 + value) rest) (decimal_digit digit)
 
 -- the number of an operand, which is a word of exactly two digits for each byte of an element
 unfoldable pub operand_value : ℕ → List ℕ → Option ℕ

@@ -8,6 +8,7 @@ use Rattle.std.specs.Str.{IsUtf8}
 use Rattle.hex.specs.Hex.{hex_digit_value, is_hex_digit}
 use Rattle.calculator.specs.Words.{words}
 use Rattle.calculator.specs.Fields.{WrittenField, bytes_of, field_named}
+use Rattle.calculator.specs.Moduli.{modulus_written}
 use Rattle.calculator.specs.Operations.{operation_named, binary_result, unary_result}
 use Rattle.calculator.specs.Text.{error_text}
 use Rattle.calculator.specs.Answer.{result_text, answer_of}
@@ -19,6 +20,10 @@ use Rattle.calculator.specs.declared.names.Operation.TheVariants.{OfTwo, OfOne}
 -- the field that the first word names; None where there is no word, or it names none
 abbrev pub field_in : List ℕ → Option WrittenField
 field_in line = option_and_then field_named (slice_get (words line) 0)
+
+-- the degree and the polynomial that the first word writes; None where there is no word, or it writes none
+abbrev pub modulus_in : List ℕ → Option (ℕ × ℕ)
+modulus_in line = option_and_then modulus_written (slice_get (words line) 0)
 
 -- the operation that the second word names; None where there is no such word, or it names none
 abbrev pub operation_in : List ℕ → Option Operation
@@ -75,8 +80,10 @@ HasItsOperands line field operation = NamesOperation line field operation × (le
 pub record FaultsInOrder (line : List ℕ) : Type 0 where
   -- the line is not UTF-8
   pub encoding : (answer_of line ≡ error_text 6) ↔ (IsUtf8 line → ⊥)
-  -- else there is no first word, or it names no field
-  pub field : IsUtf8 line → (answer_of line ≡ error_text 1) ↔ (field_in line ≡ None)
+  -- else there is no first word, or it names no field and writes no modulus of one
+  pub field : IsUtf8 line → (answer_of line ≡ error_text 1) ↔ ((field_in line ≡ None) × (modulus_in line ≡ None))
+  -- else the first word writes a modulus, and no field has it
+  pub modulus : IsUtf8 line → (answer_of line ≡ error_text 7) ↔ ((field_in line ≡ None) × (modulus_in line ≢ None))
   -- else there is no second word, or it names no operation
   pub operation : (known : WrittenField) → NamesField line known → (answer_of line ≡ error_text 2) ↔ (operation_in line ≡ None)
   -- else the number of operands is not the one that the operation takes

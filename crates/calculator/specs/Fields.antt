@@ -5,6 +5,7 @@ use Rattle.field_base.specs.Chunks.{chunk}
 use Rattle.field_base.specs.Remainder.{mul_mod, aes_modulus, poly64_modulus, ghash_modulus}
 use Rattle.field_base.specs.Tower.{tower_mul}
 use Rattle.word_polynomial.specs.Cubic.{cubic, triple}
+use Rattle.calculator.specs.Moduli.{has_field, modulus_written}
 
 -- a field: how many bits an element has, the product of elements, and the change of order that takes the number which a text
 -- writes to the number of the element, and back
@@ -64,6 +65,15 @@ abbrev pub look_up : {A : Type 0} → List ℕ → List (List ℕ × A) → Opti
 look_up word [] = None
 look_up word ((name, found) ∷ rest) = if bytes_eq word name then Some found else look_up word rest
 
+-- the polynomials modulo one, where that is a field
+abbrev pub field_modulo : ℕ × ℕ → Option WrittenField
+field_modulo (degree, polynomial) = if has_field degree polynomial then Some (polynomials_modulo degree polynomial) else None
+
+-- the field of a word by the modulus that it writes, None where it writes none: that of its name, or the polynomials modulo the modulus
+abbrev pub field_of_word : List ℕ → Option (ℕ × ℕ) → Option WrittenField
+field_of_word word None = look_up word fields
+field_of_word word (Some modulus) = field_modulo modulus
+
 -- the field that a word names
 abbrev pub field_named : List ℕ → Option WrittenField
-field_named word = look_up word fields
+field_named word = field_of_word word (modulus_written word)

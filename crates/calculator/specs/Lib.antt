@@ -4,6 +4,7 @@ pub mod Elements
 pub mod Faults
 pub mod Fields
 pub mod Lines
+pub mod Moduli
 pub mod Number
 pub mod Operations
 pub mod Outbox

@@ -2,7 +2,7 @@
 use Rattle.std.specs.Prelude.{ℕ, ◌+◌, List, [], ◌∷◌, ◌++◌, codes, take, Result, Ok, Err}
 use Rattle.calculator.specs.declared.text.Answer.{Answer}
 use Rattle.calculator.specs.declared.names.Fault.{Fault}
-use Rattle.calculator.specs.declared.names.Fault.TheVariants.{Field, Operation, Operands, Digits, Range, Encoding}
+use Rattle.calculator.specs.declared.names.Fault.TheVariants.{Field, Modulus, Operation, Operands, Digits, Range, Encoding}
 
 -- the bytes of an answer, with no line feed
 abbrev pub answer_bytes : Answer → List ℕ
@@ -15,6 +15,7 @@ error_text number = codes "error " ++ ((48 + number) ∷ [])
 -- the number of the error that says what is wrong with a line
 abbrev pub error_number : Fault → ℕ
 error_number Field = 1
+error_number Modulus = 7
 error_number Operation = 2
 error_number Operands = 3
 error_number Digits = 4

@@ -1,34 +1,60 @@
 // Operations on the elements of a field that operands write.
-ghost use Rattle.std.specs.Prelude.{◌≡◌, ◌↔◌, ◌≤◌, ◌<◌, ◌^◌, IsNone, IfSome};
+ghost use Rattle.std.specs.Prelude.{◌≡◌, ◌≤◌, ◌<◌, ◌^◌};
 ghost use Rattle.std.specs.Option.{option_map};
 ghost use Rattle.calculator.specs.Answer.{answer_to_rest, answer_to_operands, answer_to_two, answer_to_one, operand_number};
-ghost use Rattle.calculator.specs.Fields.{written_field, bytes_of};
+ghost use Rattle.calculator.specs.Fields.{WrittenField, bytes_of};
+ghost use Rattle.calculator.specs.Number.{wide_value};
 ghost use Rattle.calculator.specs.Operations.{binary_result, unary_result};
 ghost use Rattle.calculator.specs.Text.{text_of};
 ghost use Rattle.calculator.specs.Words.{words};
 
 use crate::digits::operand_value;
 use crate::names::{Binary, Fault, Operation, Unary, operation_named};
-use crate::operand::Written;
+use crate::number::Number;
 use crate::text::Answer;
 use crate::words::next_word;
-use field_base::{FieldKernel, Stored};
+
+/// A field in which lines are answered. Its elements are the numbers that texts write.
+pub(crate) trait Calculates {
+    // The field of the definitions.
+    ghost known: { Self → WrittenField };
+
+    /// The bits of an element.
+    fn num_bits(&self) -> usize
+        ensures bits { result ≡ (known self.now).bits }
+        ensures some { 0 < result }
+        ensures few { result ≤ 192 };
+
+    /// The result of an operation at two elements.
+    fn at_two(&self, operation: Binary, left: Number, right: Number) -> Number
+        requires left { wide_value left < 2 ^ (known self.now).bits }
+        requires right { wide_value right < 2 ^ (known self.now).bits }
+        ensures { let field = known self.now in wide_value result
+            ≡ field.order (binary_result field.times operation (field.order (wide_value left)) (field.order (wide_value right))) };
+
+    /// The result of an operation at one element; None for the inverse of 0.
+    fn at_one(&self, operation: Unary, operand: Number) -> Option<Number>
+        requires { wide_value operand < 2 ^ (known self.now).bits }
+        ensures { let field = known self.now in option_map wide_value result
+            ≡ option_map field.order (unary_result field.bits field.times operation (field.order (wide_value operand))) };
+}
 
 /// The answer to what follows the name of the field: the name of an operation, and operands.
-pub(crate) fn answer_to_rest<R: Stored, K: Written<R>>(rest: &[u8]) -> Result<Answer, Fault>
-    ensures { text_of result ≡ answer_to_rest (written_field K.width K.product K.order) (words rest.now) }
+pub(crate) fn answer_to_rest<C: Calculates>(field: &C, rest: &[u8]) -> Result<Answer, Fault>
+    ensures { text_of result ≡ answer_to_rest (C.known field.now) (words rest.now) }
 {
     let (name, operands) = next_word(rest).ok_or(Fault::Operation)?;
     let operation = operation_named(name).ok_or(Fault::Operation)?;
-    answer_to_operands::<R, K>(operation, operands)
+    answer_to_operands(field, operation, operands)
 }
 
 // The answer by the operation and the operands that follow it.
-fn answer_to_operands<R: Stored, K: Written<R>>(
+fn answer_to_operands<C: Calculates>(
+    field: &C,
     operation: Operation,
     operands: &[u8],
 ) -> Result<Answer, Fault>
-    ensures { text_of result ≡ answer_to_operands (written_field K.width K.product K.order) operation (words operands.now) }
+    ensures { text_of result ≡ answer_to_operands (C.known field.now) operation (words operands.now) }
 {
     let (first, rest) = next_word(operands).ok_or(Fault::Operands)?;
     match operation {
@@ -37,94 +63,61 @@ fn answer_to_operands<R: Stored, K: Written<R>>(
             if next_word(rest).is_some() {
                 return Err(Fault::Operands);
             }
-            answer_to_two::<R, K>(binary, first, second)
+            answer_to_two(field, binary, first, second)
         }
         Operation::OfOne(unary) => {
             if next_word(rest).is_some() {
                 return Err(Fault::Operands);
             }
-            answer_to_one::<R, K>(unary, first)
+            answer_to_one(field, unary, first)
         }
     }
 }
 
 // The answer to two operands.
-fn answer_to_two<R: Stored, K: Written<R>>(
+fn answer_to_two<C: Calculates>(
+    field: &C,
     operation: Binary,
     left: &[u8],
     right: &[u8],
 ) -> Result<Answer, Fault>
-    ensures { let known = written_field K.width K.product K.order in
+    ensures { let known = C.known field.now in
         text_of result ≡ answer_to_two known operation (operand_number known left.now) (operand_number known right.now) }
 {
-    let num_bytes = num_bytes::<R, K>();
+    let num_bytes = num_bytes(field);
     let left = operand_value(left, num_bytes).ok_or(Fault::Digits)?;
     let right = operand_value(right, num_bytes).ok_or(Fault::Digits)?;
-    if !left.fits(K::bits()) || !right.fits(K::bits()) {
+    if !left.fits(field.num_bits()) || !right.fits(field.num_bits()) {
         return Err(Fault::Range);
     }
-    let result = binary_result::<R, K>(operation, K::element_of(left), K::element_of(right));
-    Ok(Answer::from_number(K::number_of(result), num_bytes))
+    let result = field.at_two(operation, left, right);
+    Ok(Answer::from_number(result, num_bytes))
 }
 
 // The answer to one operand.
-fn answer_to_one<R: Stored, K: Written<R>>(
+fn answer_to_one<C: Calculates>(
+    field: &C,
     operation: Unary,
     operand: &[u8],
 ) -> Result<Answer, Fault>
-    ensures { let known = written_field K.width K.product K.order in
+    ensures { let known = C.known field.now in
         text_of result ≡ answer_to_one known operation (operand_number known operand.now) }
 {
-    let num_bytes = num_bytes::<R, K>();
+    let num_bytes = num_bytes(field);
     let operand = operand_value(operand, num_bytes).ok_or(Fault::Digits)?;
-    if !operand.fits(K::bits()) {
+    if !operand.fits(field.num_bits()) {
         return Err(Fault::Range);
     }
-    Ok(
-        match unary_result::<R, K>(operation, K::element_of(operand)) {
-            Some(result) => Answer::from_number(K::number_of(result), num_bytes),
-            None => Answer::from_text(b"none"),
-        },
-    )
+    Ok(match field.at_one(operation, operand) {
+        Some(result) => Answer::from_number(result, num_bytes),
+        None => Answer::from_text(b"none"),
+    })
 }
 
 // How many bytes an element has; its text has two digits for each.
-fn num_bytes<R: Stored, K: Written<R>>() -> usize
-    ensures known { result ≡ bytes_of (written_field K.width K.product K.order) }
+fn num_bytes<C: Calculates>(field: &C) -> usize
+    ensures known { result ≡ bytes_of (C.known field.now) }
     ensures few { result ≤ 24 }
 {
-    K::bits().div_ceil(8)
-}
-
-// The result of an operation at two elements.
-fn binary_result<R: Stored, K: FieldKernel<R>>(operation: Binary, left: R, right: R) -> R
-    ensures { R.number result ≡ binary_result K.product operation (R.number left) (R.number right) }
-{
-    match operation {
-        Binary::Add => left.xor(right),
-        Binary::Mul => K::multiply(left, right),
-    }
-}
-
-// The result of an operation at one element; None for the inverse of 0.
-fn unary_result<R: Stored, K: FieldKernel<R>>(operation: Unary, operand: R) -> Option<R>
-    requires { R.number operand < 2 ^ K.width }
-    ensures { option_map R.number result ≡ unary_result K.width K.product operation (R.number operand) }
-{
-    match operation {
-        Unary::Square => Some(K::square(operand)),
-        Unary::Inv => inverse_of::<R, K>(operand),
-        Unary::Sqrt => Some(K::sqrt(operand)),
-    }
-}
-
-// The inverse of an element, by which the product is 1, and None for 0.
-fn inverse_of<R: Stored, K: FieldKernel<R>>(x: R) -> Option<R>
-    requires { R.number x < 2 ^ K.width }
-    ensures none { IsNone result ↔ (R.number x ≡ 0) }
-    ensures fits { IfSome result (λ y. R.number y < 2 ^ K.width) }
-    ensures inverse { IfSome result (λ y. K.product (R.number x) (R.number y) ≡ 1) }
-{
-    let inverse = K::invert(x);
-    if x == R::ZERO { None } else { Some(inverse) }
+    field.num_bits().div_ceil(8)
 }

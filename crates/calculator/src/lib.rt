@@ -9,7 +9,7 @@
 //!
 //! | Part | What it may be |
 //! |---|---|
-//! | field | `gf2`, `t2`, `t4`, `t8`, `t16`, `t32`, `t64`, `t128` (levels of the tower), `r8` (`Rijndael8b`), `p64` (`Poly64`), `g128` (`Ghash128`), `p192` (`Poly192`) |
+//! | field | `gf2`, `t2`, `t4`, `t8`, `t16`, `t32`, `t64`, `t128` (levels of the tower), `r8` (`Rijndael8b`), `p64` (`Poly64`), `g128` (`Ghash128`), `p192` (`Poly192`); or `gf:m:modulus`, as `gf:8:11b`: modulo an irreducible polynomial of degree m, 1 to 128, by 1 to 3 decimal and 1 to 33 hexadecimal digits |
 //! | operation | `add`, `mul` with two operands; `square`, `inv`, `sqrt` with one |
 //! | operand | two hexadecimal digits for each byte of an element, highest byte first, in either case; for `p192` the three coefficients, lowest first, each so written |
 //! | answer | the result in lower case; `none` for `inv` of zero; or the first of these errors that applies |
@@ -18,6 +18,7 @@
 //! |---|---|
 //! | `error 6` | the line is not UTF-8 |
 //! | `error 1` | it has no field, or an unknown one |
+//! | `error 7` | it writes a modulus that no field has: a reducible one, or one of another degree than it says or than 1 to 128 |
 //! | `error 2` | it has no operation, or an unknown one |
 //! | `error 3` | it has too few or too many operands |
 //! | `error 4` | an operand has another length, or a byte that is no hexadecimal digit |
@@ -27,9 +28,11 @@
 #![tactic(auto)]
 
 mod calculation;
+mod chosen;
 mod digits;
 mod engine;
 mod error;
+mod fixed;
 mod laws;
 mod line;
 mod names;
@@ -44,7 +47,8 @@ mod words;
 pub use crate::engine::{lines_law, run};
 pub use crate::error::RunError;
 pub use crate::laws::{
-    element_is_read_back, faults_in_order, inverse_and_root, text_is_read_back, words_by_spaces,
+    element_is_read_back, faults_in_order, inverse_and_root, moduli_of_fields, text_is_read_back,
+    words_by_spaces,
 };
 pub use crate::line::answer;
 pub use crate::program::run_program;

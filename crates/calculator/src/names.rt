@@ -29,6 +29,7 @@ pub(crate) enum Operation {
 #[derive(Clone, Copy)]
 pub(crate) enum Fault {
     Field,
+    Modulus,
     Operation,
     Operands,
     Digits,
@@ -62,6 +63,7 @@ impl Fault {
     {
         match self {
             Fault::Field => b"error 1",
+            Fault::Modulus => b"error 7",
             Fault::Operation => b"error 2",
             Fault::Operands => b"error 3",
             Fault::Digits => b"error 4",

@@ -12,6 +12,22 @@ pub(crate) struct Number {
 impl Number {
     ghost use Rattle.calculator.specs.Number.{wide_value};
 
+    /// The number of a word.
+    pub(crate) fn of_word(word: u128) -> Number
+        ensures { wide_value result ≡ word }
+    {
+        Number { high: 0, low: word }
+    }
+
+    /// The word of a number of so few bits.
+    pub(crate) fn to_word(self, bits: u32) -> u128
+        requires few { bits ≤ 128 }
+        requires fits { wide_value self < 2 ^ bits }
+        ensures { result ≡ wide_value self }
+    {
+        self.low
+    }
+
     /// The number of at most 24 bytes, the highest first.
     pub(crate) fn from_bytes(bytes: &[u8]) -> Number
         requires { length bytes.now ≤ 24 }
