@@ -5,6 +5,7 @@ mod Equations
 mod ErasureCounts
 mod ErasureRestored
 mod FactorsTold
+mod FlaggedPlaces
 pub mod LowNumbers
 mod ManyWords
 mod PackedRows

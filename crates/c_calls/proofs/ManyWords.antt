@@ -191,3 +191,10 @@ answers-more facts old now i byte below answer so_far =
           subst (Answers (facts j)) (sym (get_or-set_other now i j byte 0 (λ e. absurd (omega (arith, e, before))))) (so_far.1 j before))
           (subst (Answers (facts i)) (sym (get_or-set_same now i byte 0 (omega (arith, long, below)))) answer),
     )
+
+-- another relation that follows for the words so far
+pub words-mapped : (n : ℕ) (before after : ℕ → List ℕ → List ℕ → Type 0) (old now : List ℕ) (count : ℕ)
+    → ((i : ℕ) → i < count → before i (nth_word n i old) (nth_word n i now) → after i (nth_word n i old) (nth_word n i now))
+    → WordsChanged n before old now count → WordsChanged n after old now count
+words-mapped n before after old now count step so_far =
+    record { long = so_far.long; done = λ i below. step i below (so_far.done i below); rest = so_far.rest }

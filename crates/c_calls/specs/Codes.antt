@@ -1,9 +1,10 @@
 -- What calls of Reed-Solomon codes over bytes that correct errors do, on words that stand one after the other (ISO/IEC 18004,
 -- ETSI EN 300 421, CCSDS 131.0-B): which status they return, and what they write.
-use Rattle.std.specs.Prelude.{◌≡◌, ℕ, ◌+◌, ◌-◌, ◌*◌, ◌/◌, ◌%◌, ◌<◌, ◌≤◌, List, length, slice_index, take, drop}
+use Rattle.std.specs.Prelude.{◌≡◌, ◌≢◌, ◌⊎◌, Bool, nat_eq, not, ℕ, ◌+◌, ◌-◌, ◌*◌, ◌/◌, ◌%◌, ◌<◌, ◌≤◌, List, length, slice_index, take, drop}
 use Rattle.field_base.specs.Powers.{power}
+use Rattle.proximity.specs.Marks.{marked_below}
 use Rattle.error_codes.specs.ByteFields.{byte_generator, byte_modulus, byte_times}
-use Rattle.error_codes.specs.Correcting.{HasOrder, HasRoots, code_value}
+use Rattle.error_codes.specs.Correcting.{HasOrder, HasRoots, IsMeant, code_value, is_listed}
 use Rattle.error_codes.specs.declared.byte_field.ByteField.{ByteField}
 use Rattle.c_calls.specs.Bytes.{Answers, CallOfCode}
 
@@ -33,11 +34,36 @@ pub record IsEncodedWord (times : ℕ → ℕ → ℕ) (root first checks k : �
   pub kept : (j : ℕ) → j < k → slice_index new j ≡ slice_index old j
   pub encoded : HasRoots times root first checks new
 
+-- symbol i has a flag that is not 0
+abbrev pub is_flagged : List ℕ → ℕ → Bool
+is_flagged flags i = not (nat_eq (slice_index flags i) 0)
+
+-- a word of the code that a received word stands for, whose erased symbols are those that are flagged
+abbrev pub IsMeantBy : (ℕ → ℕ → ℕ) → ℕ → ℕ → ℕ → ℕ → List ℕ → List ℕ → List ℕ → Type 0
+IsMeantBy times root first n checks flags received sent =
+    (places : List ℕ) × ((i : ℕ) → i < n → is_listed places i ≡ is_flagged flags i) × IsMeant times root first n checks received places sent
+
+-- how many symbols of two words differ
+abbrev pub changed_symbols : ℕ → List ℕ → List ℕ → ℕ
+changed_symbols n old new = marked_below (λ i. not (nat_eq (slice_index old i) (slice_index new i))) n
+
+-- a word after it was corrected, and how many of its symbols changed, or 65535 where it stands for no word of the code
+pub record IsCorrectedWord (times : ℕ → ℕ → ℕ) (root first n checks : ℕ) (flags old new : List ℕ) (count : ℕ) : Type 0 where
+  pub found : (sent : List ℕ) → IsMeantBy times root first n checks flags old sent → (count ≢ 65535) × (new ≡ sent)
+  pub right : count ≢ 65535 → IsMeantBy times root first n checks flags old new × (count ≡ changed_symbols n old new)
+  pub kept : count ≡ 65535 → new ≡ old
+
 module _ (n : ℕ) (times : ℕ → ℕ → ℕ) (root first checks : ℕ) where
   -- so many words are encoded
   pub record AreEncodedWords (k count : ℕ) (old new : List ℕ) : Type 0 where
     pub long : length new ≡ length old
     pub words : (i : ℕ) → i < count → IsEncodedWord times root first checks k (nth_word n i old) (nth_word n i new)
+
+  -- so many words are corrected, whose flags stand one after the other like their symbols, or are left out
+  pub record AreCorrectedWords (count : ℕ) (flags old new counts : List ℕ) : Type 0 where
+    pub long : length new ≡ length old
+    pub words : (i : ℕ) → i < count
+        → IsCorrectedWord times root first n checks (nth_word n i flags) (nth_word n i old) (nth_word n i new) (slice_index counts i)
 
   -- the values of so many words at the roots, those of each word one after the other
   abbrev pub AreSyndromes : ℕ → List ℕ → List ℕ → Type 0
@@ -71,3 +97,11 @@ module _ (modulus n k first step : ℕ) where
   TellsCodeWords words old new status =
       CallOfCode (HasCorrectingCode modulus n k step) ((length words % n ≡ 0) × (length old ≡ length words / n)) (Unit {0})
       (OverCode (λ times root. TellWords n times root first (n - k) (length words / n) words new)) old new status
+
+  -- a call that corrects words
+  abbrev pub CorrectsWords : List ℕ → List ℕ → List ℕ → List ℕ → List ℕ → ℕ → Type 0
+  CorrectsWords flags old old_counts new counts status =
+      CallOfCode {T = List ℕ × List ℕ} (HasCorrectingCode modulus n k step)
+      ((length old % n ≡ 0) × ((length flags ≡ 0) ⊎ (length flags ≡ length old)) × (length old_counts ≡ length old / n)) (Unit {0})
+      (OverCode (λ times root. AreCorrectedWords n times root first (n - k) (length old / n) flags old new counts))
+      (old, old_counts) (new, counts) status

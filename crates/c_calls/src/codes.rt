@@ -1,14 +1,19 @@
 // Reed-Solomon codes over bytes that correct errors, on words that stand one after the other. A code is named by the modulus of its field,
 // bit i for x^i, and the numbers that `CorrectingCode::new` takes.
-ghost use Rattle.std.specs.Prelude.{◌≡◌, ◌-◌, ◌*◌, ◌/◌, ◌%◌, ◌+◌, ◌≤◌, IfSome, IsNone, length};
+ghost use Rattle.std.specs.Prelude.{◌≡◌, ◌-◌, ◌*◌, ◌/◌, ◌%◌, ◌+◌, ◌≤◌, ℕ, IfSome, IsNone, length, take};
 ghost use borrow.Rule.Slice.PartMut.{put_mid};
 ghost use Rattle.error_codes.specs.ByteFields.{byte_modulus, byte_times};
-ghost use Rattle.c_calls.specs.Codes.{AreEncodedWords, AreSyndromes, EncodesWords, HasCorrectingCode, IsCorrectingCode, TellWords};
+ghost use Rattle.error_codes.specs.Correcting.{is_listed};
+ghost use Rattle.c_calls.specs.Codes.{AreCorrectedWords, AreEncodedWords, AreSyndromes, CorrectsWords, EncodesWords, HasCorrectingCode};
+ghost use Rattle.c_calls.specs.Codes.{IsCorrectedWord, IsCorrectingCode, TellWords, is_flagged};
 ghost use Rattle.c_calls.specs.Codes.{TellsCodeWords, WritesSyndromes, code_root};
 
 use crate::shapes::has_shape;
 use crate::status;
 use error_codes::{ByteField, CorrectingCode};
+
+/// What `correct` writes of a word that stands for no word of the code.
+pub const NOT_CORRECTED: u16 = 65535;
 
 /// Writes the symbols of each word behind its data, so that it is a word of the code. `CODE` says that there is no such code, and then
 /// `LENGTH` that there are no whole words.
@@ -83,6 +88,37 @@ pub fn are_words(
     status::OK
 }
 
+/// Corrects each word in place, and writes how many of its symbols changed, or `NOT_CORRECTED` where it stands for no word of the code and
+/// stays as it was. A symbol is erased where its flag is not 0; no flags say that none is.
+pub fn correct(
+    modulus: u64,
+    word_length: u64,
+    dimension: u64,
+    first_root: u64,
+    root_step: u64,
+    words: &mut [u8],
+    erasures: &[u8],
+    corrected: &mut [u16],
+) -> u32
+    ensures { CorrectsWords modulus word_length dimension first_root root_step erasures.now words.old corrected.old words.new corrected.new
+        result }
+{
+    let code = match code_of(modulus, word_length, dimension, first_root, root_step) {
+        Some(code) => code,
+        None => return status::CODE,
+    };
+    if words.len() % code.word_length() != 0
+        || corrected.len() != words.len() / code.word_length()
+    {
+        return status::LENGTH;
+    }
+    if erasures.len() != 0 && erasures.len() != words.len() {
+        return status::LENGTH;
+    }
+    correct_words(&code, words, erasures, corrected);
+    status::OK
+}
+
 // Encodes each word.
 fn encode_words(code: &CorrectingCode, words: &mut [u8])
     ensures { AreEncodedWords code.now.word_length (byte_times code.now.field) code.now.root code.now.first_root
@@ -136,6 +172,55 @@ fn write_flags(code: &CorrectingCode, words: &[u8], flags: &mut [u8])
         let end = start + size;
         flags[i] = u8::from(code.is_code_word(&words[start..end]));
     }
+}
+
+// Corrects each word, and writes how many symbols changed.
+fn correct_words(code: &CorrectingCode, words: &mut [u8], erasures: &[u8], corrected: &mut [u16])
+    requires { length corrected.old ≡ length words.old / code.now.word_length }
+    ensures long { length corrected.new ≡ length corrected.old }
+    ensures words { AreCorrectedWords code.now.word_length (byte_times code.now.field) code.now.root code.now.first_root
+        (code.now.word_length - code.now.dimension) (length corrected.old) erasures.now words.old words.new corrected.new }
+{
+    let size = code.word_length();
+    for i in 0..corrected.len() {
+        let start = i * size;
+        let end = start + size;
+        let from = start.min(erasures.len());
+        let to = end.min(erasures.len());
+        corrected[i] = correct_word(code, &mut words[start..end], &erasures[from..to]);
+    }
+}
+
+// Corrects a word, and says how many symbols changed.
+fn correct_word(code: &CorrectingCode, word: &mut [u8], flags: &[u8]) -> u16
+    requires long { length word.old ≡ code.now.word_length }
+    requires few { length flags.now ≤ code.now.word_length }
+    ensures long { length word.new ≡ length word.old }
+    ensures corrected { IsCorrectedWord (byte_times code.now.field) code.now.root code.now.first_root code.now.word_length
+        (code.now.word_length - code.now.dimension) flags.now word.old word.new result }
+{
+    let mut places = [0; 256];
+    let count = list_places(flags, &mut places);
+    match code.correct(word, &places[..count]) {
+        Ok(corrected) => corrected.count as u16,
+        Err(_) => NOT_CORRECTED,
+    }
+}
+
+// Writes the places of the flags that are not 0, and says how many there are.
+fn list_places(flags: &[u8], places: &mut [usize; 256]) -> usize
+    requires { length flags.now ≤ 256 }
+    ensures few { result ≤ length flags.now }
+    ensures listed { (i : ℕ) → is_listed (take result places.new) i ≡ is_flagged flags.now i }
+{
+    let mut count = 0;
+    for i in 0..flags.len() {
+        if flags[i] != 0 {
+            places[count] = i;
+            count += 1;
+        }
+    }
+    count
 }
 
 // The code with these numbers.
