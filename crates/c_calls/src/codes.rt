@@ -88,8 +88,10 @@ pub fn are_words(
     status::OK
 }
 
-/// Corrects each word in place, and writes how many of its symbols changed, or `NOT_CORRECTED` where it stands for no word of the code and
-/// stays as it was. A symbol is erased where its flag is not 0; no flags say that none is.
+/// Corrects each word in place: it becomes the only word of the code from which it differs at t places beside e erased ones, where 2 t + e is
+/// at most the number of symbols that are not data, and how many of its symbols changed is written. Where there is none it stays, and
+/// `NOT_CORRECTED` is written. A symbol is erased where its flag is not 0; no flags say that none is. `CODE` says that there is no such code,
+/// and then `LENGTH` that there are no whole words, not one number for each of them, or flags but not one for each symbol.
 pub fn correct(
     modulus: u64,
     word_length: u64,
@@ -174,7 +176,7 @@ fn write_flags(code: &CorrectingCode, words: &[u8], flags: &mut [u8])
     }
 }
 
-// Corrects each word, and writes how many symbols changed.
+// Corrects each word by its own flags, and writes how many symbols of each changed.
 fn correct_words(code: &CorrectingCode, words: &mut [u8], erasures: &[u8], corrected: &mut [u16])
     requires { length corrected.old ≡ length words.old / code.now.word_length }
     ensures long { length corrected.new ≡ length corrected.old }
@@ -191,7 +193,7 @@ fn correct_words(code: &CorrectingCode, words: &mut [u8], erasures: &[u8], corre
     }
 }
 
-// Corrects a word, and says how many symbols changed.
+// Corrects a word, and says how many symbols changed; 65535 is no such number, since a word has at most 255.
 fn correct_word(code: &CorrectingCode, word: &mut [u8], flags: &[u8]) -> u16
     requires long { length word.old ≡ code.now.word_length }
     requires few { length flags.now ≤ code.now.word_length }
