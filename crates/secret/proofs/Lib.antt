@@ -1,2 +1,3 @@
 mod ShareLines
 mod Entries
+mod TextRecords

@@ -1,8 +1,10 @@
 // Text of shares from a secret, and a secret from text of shares.
-ghost use Rattle.std.specs.Prelude.{◌≡◌, ◌≢◌, ◌-◌, ◌*◌, ◌<◌, ◌≤◌, ℕ, List, length, slice_index, string_bytes, IfOk, MatchOption};
+ghost use Rattle.std.specs.Prelude.{◌≡◌, ◌≢◌, ◌-◌, ◌*◌, ◌<◌, ◌≤◌, ◌++◌, ℕ, List, [], ◌∷◌, length, slice_index};
+ghost use Rattle.std.specs.Prelude.{string_bytes, IfOk, IsTrue, MatchOption, OnOk};
 ghost use Rattle.error_codes.specs.Filling.{is_marked};
 ghost use Rattle.secret.specs.Combining.{entries_at, IsSecretOf};
 ghost use Rattle.secret.specs.Records.{lines_of, number_of};
+ghost use Rattle.secret.specs.Texts.{AreGathered, AreOfSet, CutsLine, IsSecretOfText, TextSays};
 ghost use Rattle.secret_sharing.specs.Sharing.{AreSplit};
 ghost use Rattle.secret_sharing.specs.declared.field.ShareField.{ShareField};
 
@@ -92,13 +94,18 @@ pub(crate) struct Restored {
 }
 
 /// The secret of the shares that the lines of a text say. Empty lines are passed over.
-pub(crate) fn combine_text(alloc: Global, text: &[u8]) -> Result<Restored, Fault> {
+pub(crate) fn combine_text(alloc: Global, text: &[u8]) -> Result<Restored, Fault>
+    ensures { IfOk result (λ answer. IsSecretOfText text.now answer.secret.items answer.wrong.items) }
+{
     let mut shares = Gathered {
         first: Vec::new(alloc),
         indexes: Vec::new(alloc),
         bytes: Vec::new(alloc),
     };
-    let said = gather(alloc, text, &mut shares).and_then(|()| combined(alloc, &shares));
+    let said = match gather(alloc, text, &mut shares) {
+        Ok(()) => combined(alloc, &shares),
+        Err(fault) => Err(fault),
+    };
     wipe(&mut shares.first);
     wipe(&mut shares.bytes);
     said
@@ -113,20 +120,21 @@ struct Gathered {
 }
 
 // Gathers the shares of a text. An error names the line, counted from 1.
-fn gather(alloc: Global, text: &[u8], shares: &mut Gathered) -> Result<(), Fault> {
+fn gather(alloc: Global, text: &[u8], shares: &mut Gathered) -> Result<(), Fault>
+    requires first { shares.old.first.items ≡ [] }
+    requires indexes { shares.old.indexes.items ≡ [] }
+    requires bytes { shares.old.bytes.items ≡ [] }
+    ensures { OnOk result ((entries : List (List ℕ)) × TextSays text.now entries
+        × AreGathered entries shares.new.first.items shares.new.indexes.items shares.new.bytes.items) }
+{
     let mut rest = text;
     let mut number = 0;
     'lines: while !rest.is_empty() {
-        let end = memchr(b'\n', rest).unwrap_or(rest.len());
-        let line = &rest[..end];
-        rest = if end < rest.len() {
-            &rest[end + 1..]
-        } else {
-            &rest[end..]
-        };
+        let parts = cut_line(rest);
+        rest = parts.1;
         number += 1;
-        if !line.is_empty() {
-            let mut entry = match read_record(alloc, line) {
+        if !parts.0.is_empty() {
+            let mut entry = match read_record(alloc, parts.0) {
                 Ok(entry) => entry,
                 Err(fault) => return Err(fault_in(fault, number)),
             };
@@ -136,6 +144,17 @@ fn gather(alloc: Global, text: &[u8], shares: &mut Gathered) -> Result<(), Fault
         }
     }
     Ok(())
+}
+
+// The first line of a text, and what stands behind its line feed.
+fn cut_line(text: &[u8]) -> (&[u8], &[u8])
+    ensures cut { CutsLine text.now result.0.now result.1.now }
+    ensures shorter { 0 < length text.now → length result.1.now < length text.now }
+{
+    match memchr(b'\n', text) {
+        Some(end) => (&text[..end], &text[end + 1..]),
+        None => (text, &text[text.len()..]),
+    }
 }
 
 // What is wrong with a line.
@@ -148,7 +167,11 @@ fn fault_in(fault: LineFault, number: usize) -> Fault {
 }
 
 // Puts the share of a record to the others, if it is of their set.
-fn put_record(entry: &[u8], number: usize, shares: &mut Gathered) -> Result<(), Fault> {
+fn put_record(entry: &[u8], number: usize, shares: &mut Gathered) -> Result<(), Fault>
+    ensures { OnOk result ((entries : List (List ℕ))
+        → AreGathered entries shares.old.first.items shares.old.indexes.items shares.old.bytes.items
+        → AreGathered (entries ++ entry.now ∷ []) shares.new.first.items shares.new.indexes.items shares.new.bytes.items) }
+{
     if entry.len() <= HEAD || field_of(entry[0]).is_none() {
         return Err(Fault::NoShare(number));
     }
@@ -164,9 +187,11 @@ fn put_record(entry: &[u8], number: usize, shares: &mut Gathered) -> Result<(), 
 }
 
 // Whether two records are of one set: all but the index and the share is the same, and the shares are of one length.
-fn is_of_set(first: &[u8], entry: &[u8]) -> bool {
+fn is_of_set(first: &[u8], entry: &[u8]) -> bool
+    ensures { IsTrue result → AreOfSet first.now entry.now }
+{
     first.len() == entry.len()
-        && HEAD <= entry.len()
+        && HEAD < entry.len()
         && &first[..2] == &entry[..2]
         && &first[3..HEAD] == &entry[3..HEAD]
 }
