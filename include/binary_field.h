@@ -2009,6 +2009,16 @@ uint32_t bf_code_syndromes(uint64_t modulus, size_t symbols, size_t data, uint64
 uint32_t bf_code_are_words(uint64_t modulus, size_t symbols, size_t data, uint64_t first_root, uint64_t root_step,
     const uint8_t *words, size_t words_length, uint8_t *flags, size_t flags_length) BF_CHECKED;
 
+/* corrected: corrects each word, and writes how many of its symbols changed; a symbol is erased where its byte of
+ * erasures is not 0. A word becomes the only word of the code from which it differs at t places beside e erased
+ * ones, with 2 * t + e at most symbols - data. Where there is none it stays, and corrected is 65535. BF_CODE if
+ * modulus is none of those above, data is 0 or not below symbols, symbols is above 255, or a power of g^root_step
+ * with an exponent from 1 to symbols - 1 is 1. BF_LENGTH unless words has a multiple of symbols, erasures as many
+ * bytes or none, and corrected one for each word. */
+uint32_t bf_code_correct(uint64_t modulus, size_t symbols, size_t data, uint64_t first_root, uint64_t root_step,
+    uint8_t *words, size_t words_length, const uint8_t *erasures, size_t erasures_length,
+    uint16_t *corrected, size_t corrected_length) BF_CHECKED;
+
 /* ------------------------------------------------------------------------------------------------------------------ */
 /* Reed-Solomon codes over t16 by additive transforms, of thousands of shards: column i of the shards, their word i,
  * has the values of one polynomial. With 2^n the least power of two that is at least data, it has a degree below

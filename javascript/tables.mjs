@@ -397,6 +397,7 @@ export const FUNCTIONS = {
   code_encode: [["number", "modulus", "u64"], ["count", "symbols", "u64"], ["count", "data", "u64"], ["number", "first_root", "u64"], ["number", "root_step", "u64"], ["inout", "words", "u8"]],
   code_syndromes: [["number", "modulus", "u64"], ["count", "symbols", "u64"], ["count", "data", "u64"], ["number", "first_root", "u64"], ["number", "root_step", "u64"], ["in", "words", "u8"], ["out", "syndromes", "u8"]],
   code_are_words: [["number", "modulus", "u64"], ["count", "symbols", "u64"], ["count", "data", "u64"], ["number", "first_root", "u64"], ["number", "root_step", "u64"], ["in", "words", "u8"], ["out", "flags", "u8"]],
+  code_correct: [["number", "modulus", "u64"], ["count", "symbols", "u64"], ["count", "data", "u64"], ["number", "first_root", "u64"], ["number", "root_step", "u64"], ["inout", "words", "u8"], ["in", "erasures", "u8"], ["out", "corrected", "u16"]],
   erasure_space: [["count", "data", "u64"], ["count", "parity", "u64"], ["result", "length", "u64"]],
   erasure_encode: [["count", "data", "u64"], ["count", "parity", "u64"], ["in", "shards", "u16"], ["out", "parity_shards", "u16"], ["space", "space", "u16"]],
   erasure_verify: [["count", "data", "u64"], ["count", "parity", "u64"], ["in", "shards", "u16"], ["in", "parity_shards", "u16"], ["space", "space", "u16"], ["result", "whole", "u8"]],

@@ -92,6 +92,10 @@ CODE_FUNCTIONS = [
     ("syndromes", [("in", "words", "u8"), ("out", "syndromes", "u8")],
      "the values of each word at the roots, that at the first root first; symbols - data of them a word"),
     ("are_words", [("in", "words", "u8"), ("out", "flags", "u8")], "1 for each word that is one of the code, 0 for each other"),
+    ("correct", [("inout", "words", "u8"), ("in", "erasures", "u8"), ("out", "corrected", "u16")],
+     "corrects each word, and writes how many of its symbols changed; a symbol is erased where its byte of erasures is not 0. A word becomes the only "
+     "word of the code from which it differs at t places beside e erased ones, with 2 * t + e at most symbols - data. Where there is none it stays, "
+     "and corrected is 65535"),
 ]
 
 # (name, parameters, what it computes). The word of every parameter stands in it.

@@ -149,6 +149,7 @@ for _name, _contract, _clause in (
     ("encode", "EncodesWords", "words.old words.new result"),
     ("syndromes", "WritesSyndromes", "words.now syndromes.old syndromes.new result"),
     ("are_words", "TellsCodeWords", "words.now flags.old flags.new result"),
+    ("correct", "CorrectsWords", "erasures.now words.old corrected.old words.new corrected.new result"),
 ):
     OTHER_CALLS[f"code_{_name}"] = ["codes", f"codes::{_name}", f"{_contract} modulus symbols «data» first_root root_step {_clause}"]
 
@@ -193,7 +194,7 @@ HOMES = {
         "AddsOneMultiple", "AddsOneShard", "BeginsHash", "ChangesMessage", "Compares", "Encodes", "EncodesPrepared", "EndsHash", "Hashes",
         "Prepares", "Reconstructs", "TellsFactors", "TellsTablesLength", "Verifies", "VerifiesPrepared",
     ],
-    "c_calls.specs.Codes": ["EncodesWords", "TellsCodeWords", "WritesSyndromes"],
+    "c_calls.specs.Codes": ["CorrectsWords", "EncodesWords", "TellsCodeWords", "WritesSyndromes"],
     "c_calls.specs.ChosenFields": ["OverField", "PreparesField", "TakesTraces", "chosen_field"],
     "c_calls.specs.Erasure": ["EncodesErasure", "ReconstructsErasure", "TellsSpace", "VerifiesErasure"],
     "c_calls.specs.Linear": ["MapsLinearly"],

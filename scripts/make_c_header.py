@@ -68,6 +68,7 @@ LENGTHS = {
     "answer": "answer has at least as many bytes as are written, for which 48 are enough",
     "code_encode": "words has a multiple of symbols",
     "code_syndromes": "words has a multiple of symbols, and syndromes symbols - data for each word",
+    "code_correct": "words has a multiple of symbols, erasures as many bytes or none, and corrected one for each word",
     "code_are_words": "words has a multiple of symbols, and flags one for each word",
     "secret_split": "secret has a byte or more, draws needed - 1 times as many, and shares count times as many",
     "secret_combine": "secret has a byte or more, and shares as many for each of indexes",

@@ -420,6 +420,9 @@ CORRECTING_CODES = [
     (0x187, 5, 3, (1 << 64) - 1, (1 << 64) - 2), (0x11D, 3, 2, 5, 85),
 ]
 
+# Codes with so few words that all are looked at: of one symbol of data.
+FEW_WORDS = [(0x11D, 2, 1, 0, 1), (0x11D, 5, 1, 0, 1), (0x187, 6, 1, 3, 11), (0x11B, 7, 1, 1, 1)]
+
 # No codes: a modulus that is none of these, no data, nothing but data, words that are too long, and roots that come again.
 NO_CODES = [
     (0x12D, 5, 3, 0, 1), (0x1D, 5, 3, 0, 1), (1 << 32 | 0x11D, 5, 3, 0, 1), (0x11D, 5, 0, 0, 1), (0x11D, 5, 5, 0, 1), (0x11D, 5, 6, 0, 1),
@@ -451,6 +454,48 @@ def correcting_cases(draw):
             yield refused(case("code_encode", *code, (words, words)), "BF_CODE")
             yield refused(case("code_syndromes", *code, words, [0] * 4), "BF_CODE")
             yield refused(case("code_are_words", *code, words, [0] * 2), "BF_CODE")
+
+
+def correction(code, received, erased, meant):
+    """The cases of some words, with flags and, where no symbol is erased, without: what each becomes, and how many of its symbols change."""
+    after = [old if new is None else new for old, new in zip(received, meant)]
+    counts = [65535 if new is None else sum(a != b for a, b in zip(old, new)) for old, new in zip(received, meant)]
+    flags = sum(erased, [])
+    for given in [flags] if any(flags) else [flags, []]:
+        yield case("code_correct", *code, (sum(received, []), sum(after, [])), given, counts)
+
+
+def correct_cases(draw):
+    """Words with errors and erased symbols, up to as many as a code corrects and beyond."""
+    for code in FEW_WORDS:
+        symbols, checks = code[1], code[1] - code[2]
+        words = [definitions.code_word(code, [it]) for it in range(256)]
+        for count in (0, 1, 2, 3, 20):
+            received, erased = [list(draw.choice(words)) for _ in range(count)], []
+            for it in received:
+                for place in draw.sample(range(symbols), draw.randrange(symbols + 1)):
+                    it[place] = draw.choice((0, draw.getrandbits(8)))
+                erased.append([draw.choice((0, 0, 0, 1, 255)) for _ in it])
+            for flags in (erased, [[0] * symbols for _ in received]):
+                yield from correction(code, received, flags, [definitions.code_meant(checks, words, *it) for it in zip(received, flags)])
+    for code in CORRECTING_CODES:
+        symbols, checks = code[1], code[1] - code[2]
+        for lost in sorted({0, 1, checks // 2, checks}):
+            word = definitions.code_word(code, draw.randbytes(code[2]))
+            places = draw.sample(range(symbols), lost + (checks - lost) // 2)
+            received = [it ^ draw.randrange(1, 256) if at in places else it for at, it in enumerate(word)]
+            erased = [draw.randrange(1, 256) if at in places[:lost] else 0 for at in range(symbols)]
+            # One more than can be erased, in a word of the code.
+            many = [1] * (checks + 1) + [0] * (code[2] - 1)
+            yield from correction(code, [received], [erased], [word])
+            yield from correction(code, [word, received, word], [many, erased, [0] * symbols], [None, word, word])
+    code, words = FEW_WORDS[1], [0] * 15
+    for flags, count in ((14, 3), (16, 3), (15, 2), (15, 4), (5, 3), (0, 2)):
+        yield refused(case("code_correct", *code, (words, words), [0] * flags, [0] * count), "BF_LENGTH")
+    yield refused(case("code_correct", *code, (words[1:], words[1:]), [], [0] * 3), "BF_LENGTH")
+    for code in NO_CODES:
+        yield refused(case("code_correct", *code, (words, words), [], [0] * 3), "BF_CODE")
+        yield refused(case("code_correct", *code, ([], []), [0], []), "BF_CODE")
 
 
 def erasure_cases(draw):
@@ -603,8 +648,9 @@ def length_cases(it):
             shards = it.name.startswith("rs_") and it.arguments[at].name == "shards"
             more_space = it.arguments[at].kind == "space" and other > length
             whole_words = it.name == "code_encode" and other % it.arguments[1].after[0] == 0
+            no_flags = it.name == "code_correct" and at == 6 and other == 0
             whole_shards = shards and other and other % (it.arguments[0].after[0] + it.arguments[1].after[0]) == 0
-            if other >= 0 and not (power or longer_basis or no_values or more_space or whole_words or whole_shards):
+            if other >= 0 and not (power or longer_basis or no_values or more_space or whole_words or no_flags or whole_shards):
                 yield refused(of_length(it, at, other), "BF_LENGTH")
 
 
@@ -723,7 +769,7 @@ def all_cases():
         cases += field_cases(field, draw)
         cases += matrix_cases(field, draw)
     others = (
-        basis_cases, chosen_cases, bit_matrix_cases, stage_cases, tag_cases, code_cases, correcting_cases, erasure_cases, secret_cases, long_cases,
+        basis_cases, chosen_cases, bit_matrix_cases, stage_cases, tag_cases, code_cases, correcting_cases, correct_cases, erasure_cases, secret_cases, long_cases,
         line_cases,
     )
     for them in others:

@@ -428,6 +428,40 @@ class CorrectingCodes(unittest.TestCase):
             self.assertIs(code.detect(short), False)
             self.assertEqual(pickle.loads(pickle.dumps(code)).encode(data[0][0]).tolist(), words[0, 0].tolist())
 
+    def test_words_are_corrected(self):
+        draw = random.Random(6)
+        for n, k, c, step, field in ((255, 223, 112, 11, 0x187), (26, 16, 0, 1, 0x11D), (9, 4, 1, 3, 0x11B)):
+            code = bf.CorrectingCode(n, k, c=c, root_step=step, field=field)
+            sent = code.encode([[list(draw.randbytes(k)) for _ in range(3)] for _ in range(2)])
+            words, erased = sent.copy(), np.zeros(sent.shape, bool)
+            for at in np.ndindex(2, 3):
+                lost = draw.randrange(n - k + 1)
+                places = draw.sample(range(n), lost + (n - k - lost) // 2)
+                words[at][places] ^= draw.randrange(1, 256)
+                erased[at][places[:lost]] = True
+            read = words.tolist()
+            data, changed = code.decode(words, errors=True, erasures=erased)
+            self.assertEqual(data.tolist(), sent[..., :k].tolist())
+            self.assertEqual(changed.tolist(), (words != sent).sum(axis=-1).tolist())
+            self.assertEqual(code.decode(words, "codeword", erasures=erased).tolist(), sent.tolist())
+            self.assertEqual(words.tolist(), read)
+            short = code.encode([1, 2, 3])
+            short[1] ^= 5
+            self.assertEqual(code.decode(short).tolist(), [1, 2, 3])
+            # One mask for all words.
+            words = sent ^ (np.arange(n) < n - k).astype(np.uint8)
+            self.assertEqual(code.decode(words, "codeword", erasures=np.arange(n) < n - k).tolist(), sent.tolist())
+
+    def test_words_near_to_none_stay(self):
+        code, words = bf.CorrectingCode(3, 1, c=0), [[2, 6, 4], [2, 6, 5], [9, 8, 7]]
+        data, changed = code.decode(words, errors=True)
+        self.assertEqual((data.tolist(), changed.tolist()), ([[2], [2], [9]], [0, 1, -1]))
+        self.assertEqual(code.decode(words, output="codeword").tolist(), [[2, 6, 4], [2, 6, 4], [9, 8, 7]])
+        self.assertEqual(code.decode([9, 8, 7], "codeword", True, [True, True, False])[1], 2)
+        self.assertEqual(code.decode([9, 8, 7], errors=True, erasures=[True] * 3)[1], -1)
+        self.assertRaises(ValueError, code.decode, words, output="word")
+        self.assertRaises(ValueError, code.decode, words, erasures=[True] * 2)
+
     def test_what_is_no_code_or_no_word_is_refused(self):
         for n, k in ((256, 9), (5, 5), (5, 0), (5, -1), (1 << 64, 3)):
             self.assertRaises(ValueError, bf.CorrectingCode, n, k)

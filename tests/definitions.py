@@ -471,6 +471,18 @@ def code_word(code, data):
         for place, it in enumerate(generator):
             rest[at + place] ^= code_product(modulus, factor, it)
     return [*data, *rest[len(data):]]
+
+
+def code_meant(checks, words, received, erased):
+    """What a received word stands for: that of all words of a code with so many symbols that are not data from which it differs at t places beside
+    e erased ones, where 2 t + e is at most their number; or None."""
+    for it in words:
+        wrong = sum(a != b for a, b, flag in zip(it, received, erased) if not flag)
+        if 2 * wrong + sum(map(bool, erased)) <= checks:
+            return it
+    return None
+
+
 # ---- shares of a secret
 
 

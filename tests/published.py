@@ -105,7 +105,7 @@ RFC_8452 = [
 def of_codes():
     """The shards of TestOneEncode of klauspost/reedsolomon (reedsolomon_test.go), five of data and five of parity: written, verified with a byte
     changed and as they are, and the data alone restored where a shard of each kind is lost. And the code words of 01234567 in a QR code of version
-    1-M (ISO/IEC 18004, annex I)."""
+    1-M (ISO/IEC 18004, annex I), which are read with five wrong and with ten that are lost."""
     shards = [0, 1, 4, 5, 2, 3, 6, 7, 8, 9, 12, 13, 10, 11, 14, 15, 90, 91, 94, 95]
     yield "rs_encode", 5, 5, (shards[:10] + [0] * 10, shards)
     yield "rs_verify", 5, 5, shards, [1]
@@ -115,6 +115,9 @@ def of_codes():
     symbol = hexadecimal("10200c566180ec11ec11ec11ec11ec11" "a524d4c1ed36c7872c55")
     yield "code_encode", 0x11D, 26, 16, 0, 1, (symbol[:16] + [0] * 10, symbol)
     yield "code_are_words", 0x11D, 26, 16, 0, 1, symbol + symbol[:25] + [0x56], [1, 0]
+    read = [it ^ 0xFF if at % 5 == 0 and at < 25 else it for at, it in enumerate(symbol)]
+    yield "code_correct", 0x11D, 26, 16, 0, 1, (read, symbol), [], [5]
+    yield "code_correct", 0x11D, 26, 16, 0, 1, (symbol[:16] + [0] * 10, symbol), [0] * 16 + [1] * 10, [10]
 
 
 # FIPS 197, figure 7, row by row.

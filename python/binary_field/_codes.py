@@ -12,6 +12,8 @@ from ._storage import Stored
 
 # What a call takes of an integer: a number of 64 bits.
 _END = 1 << 64
+# What a call writes of a word that is near to no word of the code.
+_NOT_CORRECTED = 65535
 
 
 def _symbols(value: Any) -> Words:
@@ -197,6 +199,38 @@ class CorrectingCode:
         flags = np.empty(words.shape[:-1], np.uint8)
         call("code_are_words", *self._of(words.shape[-1]), words, flags)
         return flags == 0 if flags.ndim else not flags
+
+    def decode(self, codeword: Any, output: str = "message", errors: bool = False, erasures: Any = None) -> Any:
+        """The data of words, corrected where they are near enough to a word of the code: where they differ from one at t places beside e erased
+        ones, and 2 t + e is at most n - k. With output="codeword" it is that word. `erasures` has True for each symbol that is erased, whatever
+        is read there. A word that is near to none stays as it is. With errors=True also how many symbols of each changed, and -1 where none is
+        near.
+
+        >>> code = bf.CorrectingCode(15, 9)
+        >>> word = code.encode(b"some data")
+        >>> word[[1, 5, 13]] ^= 7
+        >>> code.decode(word).tobytes(), code.decode(word, errors=True)[1]
+        (b'some data', 3)
+        >>> lost = [place < 6 for place in range(15)]
+        >>> word = code.encode(b"some data")
+        >>> word[:6] = 0
+        >>> code.decode(word, erasures=lost).tobytes(), code.decode(word, errors=True)[1]
+        (b'some data', -1)
+        """
+        if output not in ("codeword", "message"):
+            raise ValueError('output is "message" or "codeword"')
+        words = np.array(self._words(codeword), order="C")
+        flags = np.zeros(0, np.uint8)
+        if erasures is not None:
+            flags = np.ascontiguousarray(np.broadcast_to(np.asarray(erasures, bool), words.shape)).view(np.uint8)
+        counts = np.empty(words.shape[:-1], np.uint16)
+        call("code_correct", *self._of(words.shape[-1]), words, flags, counts)
+        result = words if output == "codeword" else words[..., : words.shape[-1] - (self._n - self._k)].copy()
+        if not errors:
+            return result
+        numbers = counts.astype(np.int64)
+        numbers[numbers == _NOT_CORRECTED] = -1
+        return result, numbers if numbers.ndim else int(numbers)
 
     def _words(self, codeword: Any) -> Words:
         """Words, which may be shortened."""

@@ -397,6 +397,7 @@ FUNCTIONS: dict[str, list[tuple[str, str, str]]] = {
     "code_encode": [("number", "modulus", "u64"), ("number", "symbols", "u64"), ("number", "data", "u64"), ("number", "first_root", "u64"), ("number", "root_step", "u64"), ("inout", "words", "u8")],
     "code_syndromes": [("number", "modulus", "u64"), ("number", "symbols", "u64"), ("number", "data", "u64"), ("number", "first_root", "u64"), ("number", "root_step", "u64"), ("in", "words", "u8"), ("out", "syndromes", "u8")],
     "code_are_words": [("number", "modulus", "u64"), ("number", "symbols", "u64"), ("number", "data", "u64"), ("number", "first_root", "u64"), ("number", "root_step", "u64"), ("in", "words", "u8"), ("out", "flags", "u8")],
+    "code_correct": [("number", "modulus", "u64"), ("number", "symbols", "u64"), ("number", "data", "u64"), ("number", "first_root", "u64"), ("number", "root_step", "u64"), ("inout", "words", "u8"), ("in", "erasures", "u8"), ("out", "corrected", "u16")],
     "erasure_space": [("number", "data", "u64"), ("number", "parity", "u64"), ("result", "length", "u64")],
     "erasure_encode": [("number", "data", "u64"), ("number", "parity", "u64"), ("in", "shards", "u16"), ("out", "parity_shards", "u16"), ("space", "space", "u16")],
     "erasure_verify": [("number", "data", "u64"), ("number", "parity", "u64"), ("in", "shards", "u16"), ("in", "parity_shards", "u16"), ("space", "space", "u16"), ("result", "whole", "u8")],

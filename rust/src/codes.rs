@@ -29,6 +29,9 @@ pub struct CorrectingCode {
     root_step: u64,
 }
 
+/// What [`CorrectingCode::correct`] writes of a word that stands for no word of the code.
+pub const NOT_CORRECTED: u16 = u16::MAX;
+
 impl CorrectingCode {
     /// The code over the field with this modulus, bit i for x^i: 0x11d (QR codes, DVB) and 0x187 (CCSDS), whose generator is 2, or 0x11b
     /// (AES), with 3. Its roots are the powers root_step (first_root + m) of the generator, for m below the number of symbols that are not
@@ -158,6 +161,31 @@ impl CorrectingCode {
     pub fn are_words(&self, words: &[u8], flags: &mut [bool]) -> Result<(), Error> {
         Error::of(
             call!(bf_code_are_words: self.modulus, self.symbols, self.data, self.first_root, self.root_step, [words], [mut flags]),
+        )
+    }
+
+    /// Corrects each word, and writes how many of its symbols changed. `erasures` has a flag for each symbol, or is empty where none is erased.
+    /// A word becomes the only word of the code from which it differs at t places beside e erased ones, where 2 t + e is at most the number of
+    /// symbols that are not data; where there is none it stays, and [`NOT_CORRECTED`] is written. It fails with `Error::Length` where a slice
+    /// has another length.
+    ///
+    /// ```
+    /// use binary_field::{CorrectingCode, NOT_CORRECTED};
+    ///
+    /// let code = CorrectingCode::qr(3, 1)?;
+    /// let (mut words, mut corrected) = ([2, 6, 5, 9, 8, 7], [0; 2]);
+    /// code.correct(&mut words, &[], &mut corrected)?;
+    /// assert_eq!((words, corrected), ([2, 6, 4, 9, 8, 7], [1, NOT_CORRECTED]));
+    /// # Ok::<(), binary_field::Error>(())
+    /// ```
+    pub fn correct(
+        &self,
+        words: &mut [u8],
+        erasures: &[bool],
+        corrected: &mut [u16],
+    ) -> Result<(), Error> {
+        Error::of(
+            call!(bf_code_correct: self.modulus, self.symbols, self.data, self.first_root, self.root_step, [mut words], [erasures], [mut corrected]),
         )
     }
 }

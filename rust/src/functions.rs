@@ -3292,6 +3292,25 @@ unsafe extern "C" {
         flags: *mut u8,
         flags_length: usize,
     ) -> u32;
+    /// corrected: corrects each word, and writes how many of its symbols changed; a symbol is erased where its byte
+    /// of erasures is not 0. A word becomes the only word of the code from which it differs at t places beside e
+    /// erased ones, with 2 * t + e at most symbols - data. Where there is none it stays, and corrected is 65535.
+    /// BF_CODE if modulus is none of those above, data is 0 or not below symbols, symbols is above 255, or a power of
+    /// g^root_step with an exponent from 1 to symbols - 1 is 1. BF_LENGTH unless words has a multiple of symbols,
+    /// erasures as many bytes or none, and corrected one for each word.
+    pub fn bf_code_correct(
+        modulus: u64,
+        symbols: usize,
+        data: usize,
+        first_root: u64,
+        root_step: u64,
+        words: *mut u8,
+        words_length: usize,
+        erasures: *const u8,
+        erasures_length: usize,
+        corrected: *mut u16,
+        corrected_length: usize,
+    ) -> u32;
     /// length: how many words of space each call of the code takes: 40 times the least power of two that is at least
     /// data, counted up to a power of two, and parity together. BF_CODE if data and parity are not both at least 1,
     /// or data, counted up to a power of two, and parity are together more than 65536.

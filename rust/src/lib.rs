@@ -79,7 +79,7 @@ pub use bits::{
 };
 pub use bytes::{Ghash, Polyval, Prepared, ReedSolomon, gcm_ghash, ghash, polyval, tags_are_equal};
 pub use challenger::BinaryChallenger;
-pub use codes::CorrectingCode;
+pub use codes::{CorrectingCode, NOT_CORRECTED};
 pub use erasure::TransformCode;
 pub use error::Error;
 pub use field::Field;

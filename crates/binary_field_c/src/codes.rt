@@ -1,6 +1,6 @@
 // Calls of Reed-Solomon codes over bytes that correct errors, on words that stand one after the other.
 // Written by scripts/make_c_exports.py; do not edit.
-ghost use Rattle.c_calls.specs.Codes.{EncodesWords, TellsCodeWords, WritesSyndromes};
+ghost use Rattle.c_calls.specs.Codes.{CorrectsWords, EncodesWords, TellsCodeWords, WritesSyndromes};
 
 /// Writes the symbols behind the data of each word, so that it is a word of the code.
 #[unsafe(no_mangle)]
@@ -49,4 +49,26 @@ pub extern "C" fn bf_code_are_words(
     ensures { TellsCodeWords modulus symbols «data» first_root root_step words.now flags.old flags.new result }
 {
     c_calls::codes::are_words(modulus, symbols, data, first_root, root_step, words, flags)
+}
+
+/// Corrects each word, and writes how many of its symbols changed; a symbol is erased where its byte of erasures is not 0. A word becomes
+/// the only word of the code from which it differs at t places beside e erased ones, with 2 * t + e at most symbols - data. Where there is
+/// none it stays, and corrected is 65535.
+#[unsafe(no_mangle)]
+pub extern "C" fn bf_code_correct(
+    modulus: u64,
+    symbols: u64,
+    data: u64,
+    first_root: u64,
+    root_step: u64,
+    words: &mut [u8],
+    erasures: &[u8],
+    corrected: &mut [u16],
+) -> u32
+    ensures { CorrectsWords modulus symbols «data» first_root root_step erasures.now words.old
+        corrected.old words.new corrected.new result }
+{
+    c_calls::codes::correct(
+        modulus, symbols, data, first_root, root_step, words, erasures, corrected,
+    )
 }
