@@ -7,8 +7,8 @@ pub enum CodeError {
     /// A code has at least one symbol of data, and at least one other.
     #[error("a code has symbols of data and others")]
     NoSymbols,
-    /// A word has at most 255 symbols.
-    #[error("a word has at most 255 symbols")]
+    /// A word has at most 255 symbols, and over the field of 16 elements 15.
+    #[error("a word has more symbols than its field allows")]
     TooLong,
     /// The powers of the root that belong to the symbols are not different.
     #[error("the order of the root is below the length")]

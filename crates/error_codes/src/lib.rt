@@ -1,5 +1,5 @@
-//! Reed-Solomon codes that correct errors: their laws, their encoder and decoder over bytes, the shortest shift registers
-//! of sequences, and what shares of a secret hide.
+//! Reed-Solomon codes that correct errors: their laws, their encoder and decoder over bytes and over the field of 16 elements, of one
+//! word and of many that stand interleaved, the shortest shift registers of sequences, and what shares of a secret hide.
 #![tactic(auto)]
 
 mod byte_field;
