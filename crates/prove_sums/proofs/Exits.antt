@@ -19,13 +19,6 @@ use Rattle.prove_sums.proofs.SumSteps.{degree-product, product-within}
 
 -- ---- memory
 
--- an error that is one of memory, since the call within failed with it
-pub memory-alone : {T : Type 0} {Q : ProtocolError → Type 0} (result : Result T ProtocolError) → IsErrAnd result Q
-    → ((error : ProtocolError) → Q error → error ≡ Memory) → IfErr result (λ error. error ≡ Memory)
-memory-alone {T} result fails only =
-    let error = err_from_is_err_and result fails in
-    subst (λ (r : Result T ProtocolError). IfErr r (λ e. e ≡ Memory)) (sym error.1) (only error.0 error.2)
-
 -- the sum of two tables can be stated
 sum-stated : (width rounds : ℕ) → 3 ≤ width → rounds < 2 ^ width → CanBeStated width rounds 2 product_terms
 sum-stated width rounds wide fits =

@@ -24,8 +24,8 @@ use Rattle.protocols.specs.OpenedTables.{AreColumnsOf, CommitsTo, OpenedValuesNe
 use Rattle.protocols.specs.RootColumns.{AreAccepted, HasSent, HaveOtherColumns, RootsHoldColumns, SentColumns, column_bytes}
 use Rattle.protocols.specs.SoundnessErrors.{sent_messages}
 use Rattle.protocols.specs.Tables.{AgreesAt}
-use Rattle.protocols.proofs.ProofBytes.{length-proof, proof-cons}
-use Rattle.protocols.proofs.TableOpenings.{opens-same, row-room}
+use Rattle.protocols.proofs.OpenedColumns.{opened-accepted, opened-agrees}
+use Rattle.protocols.proofs.ProofBytes.{length-proof}
 use Rattle.prove_sums.specs.Shapes.{columns_in, columns_size, depth_of, element_count, levels_of, messages_in, nodes_in, row_in, row_size, rows_of, sum_in}
 use Rattle.prove_sums.specs.ProofFiles.{file_bytes}
 use Rattle.prove_sums.specs.Soundness.{AcceptedFile, AcceptedProof, ElementsAreRun, ElementsShowSum, FilesShowSums, HasPoints, HaveColumns, RootsShowSums, ShowsSum, SumsAreProved, SumsNeedLuck, sent_columns}
@@ -103,13 +103,6 @@ sent-always [] (r ∷ rs) same = absurd (omega (arith, same))
 sent-always (g ∷ gs) [] same = absurd (omega (arith, same))
 sent-always (g ∷ gs) (r ∷ rs) same = ap (λ (l : List (List ℕ)). g ∷ l) (sent-always gs rs (omega (arith, same)))
 
--- the bytes of elements are those of their numbers
-number-bytes : {F : Type 0} (size : ℕ) (repr : F → ℕ) (xs : List F) → joined_bytes size repr xs ≡ joined_bytes size (λ (n : ℕ). n) (map repr xs)
-number-bytes size repr [] = refl
-number-bytes size repr (x ∷ xs) =
-    proof-cons size repr x xs ∙ ap (λ (l : List ℕ). low_bytes size (repr x) ++ l) (number-bytes size repr xs)
-    ∙ sym (proof-cons size (λ (n : ℕ). n) (repr x) (map repr xs))
-
 -- digests of a part have the size of all
 part-digests : (digest from size : ℕ) (nodes : List (List ℕ)) → HaveDigestSize digest nodes → HaveDigestSize digest (take size (drop from nodes))
 part-digests digest from size nodes all k below =
@@ -118,17 +111,6 @@ part-digests digest from size nodes all k below =
     let inside : k < size = omega (arith, front, below) in
     let within : from + k < length nodes = omega (arith, front, back, below) in
     ap length (get_or-take size (drop from nodes) k [] inside ∙ get_or-drop from nodes k []) ∙ all (from + k) within
-
--- a column among columns of one length has that length
-column-long : {F : Type 0} (count height : ℕ) (columns : List F) (k : ℕ) → length columns ≡ count * height → k < count
-    → length (row_at height columns k) ≡ height
-column-long count height columns k long below =
-    let room = row-room count height (length columns) k long below in
-    let behind = length-drop (k * height) columns in
-    length-take-le height (drop (k * height) columns) (enough (k * height) (length columns) (length (drop (k * height) columns)) room behind)
-  where
-    enough : (from all left : ℕ) → from + height ≤ all → left ≡ all - from → height ≤ left
-    enough from all left room is = omega (arith, room, is)
 
 -- ---- of proofs
 
@@ -162,21 +144,9 @@ module _ {C F : Type 0} (observes : C → F → C → Type 0) (gives : C → F �
 
   accepted : (which : ℕ) (root : List ℕ) (p : Proof) → Opens which root p
       → AreAccepted hash digest size width (depth_of n) (2 ^ rows_of n) root (sent which p)
-  accepted which root p opens = record {
-    digests = part-digests digest (which * (length p.nodes / 2)) (length p.nodes / 2) p.nodes p.digests;
-    heights = λ k below.
-        length-map (row_at (2 ^ rows_of n) (columns_in n which p.elements) k) repr
-        ∙ column-long (length p.verdict.places) (2 ^ rows_of n) (columns_in n which p.elements) k
-        (opens.count ∙ ap (λ (h : ℕ). length p.verdict.places * 2 ^ h) (first-long p)) below;
-    fits = λ k below. numbers-lt repr width points.range (row_at (2 ^ rows_of n) (columns_in n which p.elements) k);
-    opened =
-        opens-same hash (depth_of n) root p.verdict.places
-        (λ k. joined_bytes size repr (row_at (2 ^ length (first p)) (columns_in n which p.elements) k)) (column_bytes size (sent which p))
-        (nodes_in which p.nodes)
-        (λ k below.
-        ap (λ (h : ℕ). joined_bytes size repr (row_at (2 ^ h) (columns_in n which p.elements) k)) (first-long p)
-        ∙ number-bytes size repr (row_at (2 ^ rows_of n) (columns_in n which p.elements) k)) opens.opened;
-  }
+  accepted which root p opens =
+      opened-accepted hash repr size width times vector (levels_of n) 2 (rows_of n) root (first-long p) opens digest points.range
+      (part-digests digest (which * (length p.nodes / 2)) (length p.nodes / 2) p.nodes p.digests)
 
   -- its row agrees with the columns that a root holds
   agreed : (which : ℕ) (root : List ℕ) (p : Proof) → Opens which root p → (column : ℕ → List ℕ)
@@ -184,17 +154,8 @@ module _ {C F : Type 0} (observes : C → F → C → Type 0) (gives : C → F �
       → map repr (row_at (2 ^ rows_of n) (columns_in n which p.elements) k) ≡ column (slice_index p.verdict.places k))
       → AgreesAt width times vector (levels_of n) 2 (map repr (first p)) (map repr (row_in n which p.elements)) p.verdict.places
       (λ k. column (slice_index p.verdict.places k))
-  agreed which root p opens column same = record {
-    word = opens.agrees.word;
-    code_word = opens.agrees.code_word;
-    begins = opens.agrees.begins;
-    below = opens.agrees.below;
-    agrees = λ k below.
-        ap (λ (c : List ℕ). multilinear_value times c (map repr (first p)))
-        (sym
-        (ap (λ (h : ℕ). map repr (row_at (2 ^ h) (columns_in n which p.elements) k)) (first-long p) ∙ same k below))
-        ∙ opens.agrees.agrees k below;
-  }
+  agreed which root p opens column same =
+      opened-agrees hash repr size width times vector (levels_of n) 2 (rows_of n) root (first-long p) opens column same
 
   shows : (one other : ℕ → List ℕ) → AreColumnsOf width (2 ^ 2 * 2 ^ levels_of n) one → AreColumnsOf width (2 ^ 2 * 2 ^ levels_of n) other
       → (p : Proof)

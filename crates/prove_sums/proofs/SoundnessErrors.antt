@@ -23,20 +23,21 @@ use Rattle.proximity.proofs.Openings.{little-missed, near-row}
 use Rattle.sum_checks.specs.SumcheckClaims.{reduced_claim}
 use Rattle.sum_checks.specs.Terms.{table_value, terms_value}
 use Rattle.protocols.specs.CodeDistances.{point_generator}
+use Rattle.protocols.specs.CommitmentScheme.{block_places}
 use Rattle.protocols.specs.OpenedTables.{AreColumnsOf, CommitsTo, column_symbol}
 use Rattle.protocols.specs.SoundnessErrors.{sent_messages}
 use Rattle.protocols.specs.Tables.{AgreesAt}
 use Rattle.protocols.proofs.OpenedTables.{code-distance, code-word-of, commits, row-value, row-values, table}
 use Rattle.protocols.proofs.SoundnessErrors.{MissesFew, at-most-one, few_runs_save, seldom-or-near}
-use Rattle.prove_sums.specs.Shapes.{block_bits, block_count, depth_of, levels_of, places_of, rows_of}
+use Rattle.prove_sums.specs.Shapes.{block_bits, block_count, depth_of, levels_of, rows_of}
 use Rattle.prove_sums.specs.SoundnessErrors.{Cheats, FewCheatsSucceed, Prover, accepted_runs}
 use Rattle.prove_sums.specs.Verdicts.{interleaved, product_terms}
 use Rattle.prove_sums.proofs.TwoTables.{tables-shape, values-product}
 
 -- the places of numbers below the length of a block
 pub placed : (bits q : ℕ) (numbers : List ℕ) → AreNumbersBelow q (2 ^ bits) numbers
-    → (length (places_of bits numbers) ≡ length numbers)
-    × ((i : ℕ) → i < length numbers → slice_index (places_of bits numbers) i ≡ i * 2 ^ bits + slice_index numbers i)
+    → (length (block_places bits numbers) ≡ length numbers)
+    × ((i : ℕ) → i < length numbers → slice_index (block_places bits numbers) i ≡ i * 2 ^ bits + slice_index numbers i)
 placed bits q numbers are = (
   length-map-range_with_len (λ i. i * 2 ^ bits + slice_index numbers i % 2 ^ bits) 0 (length numbers),
   λ i inside.
@@ -182,8 +183,8 @@ module _ (width : ℕ) (times : ℕ → ℕ → ℕ) (vector : ℕ → ℕ) (wid
         (agrees : (point numbers : List ℕ) → AreNumbersBelow n (2 ^ width) point
         → AreNumbersBelow (block_count n) (2 ^ block_bits n) numbers
         → accepted point numbers ≡ true
-        → AgreesAt width times vector k 2 (take h point) (row point) (places_of (block_bits n) numbers)
-        (λ i. column (slice_index (places_of (block_bits n) numbers) i))) where
+        → AgreesAt width times vector k 2 (take h point) (row point) (block_places (block_bits n) numbers)
+        (λ i. column (slice_index (block_places (block_bits n) numbers) i))) where
       abbrev Few : List ℕ → Type 0
       Few point = MissesFew width times vector k 2 e (block_count n) (2 ^ block_bits n) column (take h point)
           (row point) (accepted point)
@@ -192,7 +193,7 @@ module _ (width : ℕ) (times : ℕ → ℕ → ℕ) (vector : ℕ → ℕ) (wid
       found point are =
           seldom-or-near width times vector some_width field vectors fit k 2 deep some e (block_count n)
           (2 ^ block_bits n) weight small
-          (places_of (block_bits n)) (λ numbers below. placed (block_bits n)
+          (block_places (block_bits n)) (λ numbers below. placed (block_bits n)
           (block_count n) numbers below) seldom column (take h point) (row point) fits
           (accepted point) (λ numbers below is. agrees point numbers are below is)
 
@@ -282,15 +283,15 @@ module _ (width : ℕ) (times : ℕ → ℕ → ℕ) (vector : ℕ → ℕ) (wid
     left-agrees : (point numbers : List ℕ) → AreNumbersBelow n (2 ^ width) point
         → AreNumbersBelow (block_count n) (2 ^ block_bits n) numbers
         → accepted point numbers ≡ true
-        → AgreesAt width times vector k 2 (take h point) (prover.left_row point) (places_of (block_bits n) numbers)
-        (λ i. left (slice_index (places_of (block_bits n) numbers) i))
+        → AgreesAt width times vector k 2 (take h point) (prover.left_row point) (block_places (block_bits n) numbers)
+        (λ i. left (slice_index (block_places (block_bits n) numbers) i))
     left-agrees point numbers are below is = (cheats.tests point numbers are below is).left_agrees
 
     right-agrees : (point numbers : List ℕ) → AreNumbersBelow n (2 ^ width) point
         → AreNumbersBelow (block_count n) (2 ^ block_bits n) numbers
         → accepted point numbers ≡ true
-        → AgreesAt width times vector k 2 (take h point) (prover.right_row point) (places_of (block_bits n) numbers)
-        (λ i. right (slice_index (places_of (block_bits n) numbers) i))
+        → AgreesAt width times vector k 2 (take h point) (prover.right_row point) (block_places (block_bits n) numbers)
+        (λ i. right (slice_index (block_places (block_bits n) numbers) i))
     right-agrees point numbers are below is = (cheats.tests point numbers are below is).right_agrees
 
     -- columns of which both are near those of a table

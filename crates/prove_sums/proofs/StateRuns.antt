@@ -4,8 +4,9 @@ use Rattle.transcripts.specs.Lists.{InTurn}
 use Rattle.merkle_trees.specs.Queries.{AreQueries}
 use Rattle.merkle_trees.specs.declared.merkle_tree.MerkleTree.{MerkleTree}
 use Rattle.sum_checks.specs.Sumcheck.{AreTurns, IsRunOf, IsTurn, Statement, messages_of}
+use Rattle.protocols.specs.CommitmentScheme.{ArePlacesDrawn, opening_work}
 use Rattle.prove_sums.specs.Shapes.{block_bits, messages_in, rows_in, sum_in, witness_in}
-use Rattle.prove_sums.specs.Verdicts.{DrawsPlaces, IsHonestProof, IsReducedClaim, IsSummed, VerifiesSum, sum_statement, work_bits}
+use Rattle.prove_sums.specs.Verdicts.{IsHonestProof, IsReducedClaim, IsSummed, VerifiesSum, sum_statement}
 
 module _ {C S : Type 0} (state : C → S) where
   -- steps in turn, as steps of the states
@@ -44,26 +45,26 @@ module _ {C S : Type 0} (state : C → S) where
         (bits_by : (old : C) (bits number : ℕ) (new : C) → gives_bits old bits number new → given_bits (state old) bits number (state new))
         (number repr : F → ℕ) (n : ℕ) (elements : List F) where
       queries : (old new : C) (witness : ℕ) (works : Bool) (places : List ℕ)
-          → AreQueries passing checks gives_bits old work_bits witness works (block_bits n) places new
-          → AreQueries passed checked given_bits (state old) work_bits witness works (block_bits n) places (state new)
+          → AreQueries passing checks gives_bits old opening_work witness works (block_bits n) places new
+          → AreQueries passed checked given_bits (state old) opening_work witness works (block_bits n) places (state new)
       queries old new witness works places all = (
         state all.0,
-        all.1 ∙ passing_by old work_bits witness,
-        checks_by old work_bits witness all.0 all.2,
+        all.1 ∙ passing_by old opening_work witness,
+        checks_by old opening_work witness all.0 all.2,
         in_turn (λ (from : C) (place : ℕ) (to : C). gives_bits from (block_bits n) place to)
             (λ (from : S) (place : ℕ) (to : S). given_bits from (block_bits n) place to)
             (λ from place to is. bits_by from (block_bits n) place to is) places all.0 new all.3,
       )
 
       draws-on_states : (rows : List F) (witness : ℕ) (old new : C) (works : Bool) (places : List ℕ)
-          → DrawsPlaces observes gives passing checks gives_bits n rows witness old works places new
-          → DrawsPlaces observed given passed checked given_bits n rows witness (state old) works places (state new)
+          → ArePlacesDrawn observes gives passing checks gives_bits 7 n rows witness old works places new
+          → ArePlacesDrawn observed given passed checked given_bits 7 n rows witness (state old) works places (state new)
       draws-on_states rows witness old new works places drawn = record {
         challenge = drawn.challenge;
-        sent = state drawn.sent;
+        turned = state drawn.turned;
         numbers = drawn.numbers;
-        turn = turn rows drawn.challenge old drawn.sent drawn.turn;
-        queries = queries drawn.sent new witness works drawn.numbers drawn.queries;
+        turn = turn rows drawn.challenge old drawn.turned drawn.turn;
+        queries = queries drawn.turned new witness works drawn.numbers drawn.queries;
         count = drawn.count;
         chosen = drawn.chosen;
       }

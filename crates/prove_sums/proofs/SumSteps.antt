@@ -1,13 +1,10 @@
 -- The terms of a sum of products of two tables, and what their proofs say.
 use Rattle.std.proofs.Common.{◌≡◌, ◌↔◌, ℕ, zero, suc, ◌*◌, ◌<◌, Bool, true, false, List, [], ◌∷◌, ◌++◌, append_assoc, length, map, drop, get_or, refl, sym, ◌∙◌, ap, subst, arith}
 use Rattle.std.specs.Prelude.{IsTrue, None, Option, Some, is_some, slice_index}
-use Rattle.transcripts.specs.Lists.{InTurn}
-use Rattle.merkle_trees.specs.Queries.{AreQueries}
 use Rattle.sum_checks.specs.Sumcheck.{AreTurns, IsRunOf, messages_of, statement_of}
 use Rattle.sum_checks.specs.SumcheckClaims.{AreHonestMessages, reduced_claim}
 use Rattle.sum_checks.specs.Terms.{AreWithin, Product, cube_sum, degree_of}
-use Rattle.prove_sums.specs.Shapes.{block_bits, block_count, places_of}
-use Rattle.prove_sums.specs.Verdicts.{DrawsPlaces, interleaved, product_terms, sum_statement, work_bits}
+use Rattle.prove_sums.specs.Verdicts.{interleaved, product_terms, sum_statement}
 
 -- ---- the terms
 
@@ -46,13 +43,6 @@ pub number-at : {F : Type 0} (repr : F → ℕ) (xs : List F) (place : ℕ) (x :
 number-at repr [] place x inside read = absurd (omega (arith, inside))
 number-at repr (y ∷ ys) zero x inside read = ap repr read
 number-at repr (y ∷ ys) (suc place) x inside read = number-at repr ys place x (omega (arith, inside)) read
-
--- a comparison of elements as one of numbers
-pub decided : (accepted test : Bool) (one other left right : ℕ) → accepted ≡ test → IsTrue test ↔ (one ≡ other) → one ≡ left → other ≡ right
-    → IsTrue accepted ↔ (left ≡ right)
-decided accepted test one other left right same law is_left is_right =
-    subst (λ (t : Bool). IsTrue t ↔ (left ≡ right)) (sym same)
-    ((λ holds. sym is_left ∙ law.0 holds ∙ is_right), λ equal. law.1 (is_left ∙ equal ∙ sym is_right))
 
 -- ---- runs
 
@@ -119,24 +109,10 @@ pub run-length : {C F : Type 0} (observes gives : C → F → C → Type 0) (d r
 run-length observes gives d rounds messages challenges begun new turns =
     turns-length observes gives (messages_of d rounds messages) challenges begun new turns ∙ messages-length d rounds messages
 
--- places that are drawn by numbers of `bits` bits, behind what was read as rows and as a witness
-pub places-drawn : {C F : Type 0} (observes gives : C → F → C → Type 0) (passing : C → ℕ → ℕ → Bool) (checks gives_bits : C → ℕ → ℕ → C → Type 0)
-    (n : ℕ) (numbers : List ℕ) {bits witness number : ℕ} {read rows : List F} {works : Bool} {places : List ℕ} {old turned sent new : C} {challenge : F}
-    → read ≡ rows → witness ≡ number → bits ≡ block_bits n → InTurn observes read old turned → gives turned challenge sent
-    → AreQueries passing checks gives_bits sent work_bits witness works bits numbers new → length numbers ≡ block_count n
-    → places ≡ places_of (block_bits n) numbers → DrawsPlaces observes gives passing checks gives_bits n rows number old works places new
-places-drawn observes gives passing checks gives_bits n numbers {bits} {witness} {number} {read} {rows} {works} {places} {old} {turned} {sent} {new}
-    {challenge} are is_number are_bits observed given queries count chosen = record {
-      challenge = challenge;
-      sent = sent;
-      numbers = numbers;
-      turn = (turned, subst (λ (l : List _). InTurn observes l old turned) are observed, given);
-      queries =
-          subst (λ (b : ℕ). AreQueries passing checks gives_bits sent work_bits number works b numbers new) are_bits
-          (subst (λ (w : ℕ). AreQueries passing checks gives_bits sent work_bits w works bits numbers new) is_number queries);
-      count = count;
-      chosen = chosen;
-    }
+-- what is said by the sizes of a commitment, and of a value, is said by other sizes and of another value that are the same
+pub sizes-same : {X : Type 0} (says : ℕ → ℕ → X → Type 0) {q m v n : ℕ} {x y : X} → q ≡ m → v ≡ n → x ≡ y → says q v x → says m n y
+sizes-same says {q} {m} {v} {n} {x} {y} one two three holds =
+    subst (λ (a : ℕ). says a n y) one (subst (λ (a : ℕ). says q a y) two (subst (says q v) three holds))
 
 -- four tests that hold together
 pub all-decided : {all one two three four : Bool} {B C D : Type 0} → IsTrue all ↔ (IsTrue one × IsTrue two × IsTrue three × IsTrue four)

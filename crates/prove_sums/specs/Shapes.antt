@@ -1,28 +1,29 @@
 -- The sizes of a proof for two tables of 2 ^ n elements, and its parts.
-use Rattle.std.specs.Prelude.{ℕ, ◌+◌, ◌-◌, ◌*◌, ◌/◌, ◌%◌, ◌^◌, List, length, map, take, drop, slice_index}
-use Rattle.std.specs.List.{range_with_len}
+use Rattle.std.specs.Prelude.{ℕ, ◌+◌, ◌*◌, ◌/◌, ◌^◌, List, length, map, take, drop, slice_index}
+use Rattle.protocols.specs.CommitmentScheme.{matrix_rows, place_bits, place_count, row_levels, word_levels}
 
 -- ---- sizes
 
--- A table is a matrix of 2 ^ rows_of n rows: with 128 columns opened, a row is then about as long as they are together.
+-- Each table is committed to by the scheme of `protocols`, with 2 ^ 7 places opened, or all where there are fewer: as a matrix of
+-- 2 ^ rows_of n rows ..
 abbrev pub rows_of : ℕ → ℕ
-rows_of n = (n - 7) / 2
+rows_of n = matrix_rows 7 n
 
--- a row has 2 ^ levels_of n elements
+-- .. of 2 ^ levels_of n elements each,
 abbrev pub levels_of : ℕ → ℕ
-levels_of n = n - rows_of n
+levels_of n = row_levels 7 n
 
--- a row's code word has 2 ^ depth_of n places, four for each of its elements
+-- whose code words have 2 ^ depth_of n places
 abbrev pub depth_of : ℕ → ℕ
-depth_of n = 2 + levels_of n
+depth_of n = word_levels 7 n
 
--- one place is opened in each block of a code word's places, and a place of a block is a number of so many bits
+-- one place is opened in each block of places, and a place of a block is a number of so many bits
 abbrev pub block_bits : ℕ → ℕ
-block_bits n = depth_of n - 7
+block_bits n = place_bits 7 n
 
--- there are 128 blocks, or as many as places where those are fewer
+-- there are so many blocks
 abbrev pub block_count : ℕ → ℕ
-block_count n = 2 ^ (depth_of n - block_bits n)
+block_count n = place_count 7 n
 
 -- the elements of a row
 abbrev pub row_size : ℕ → ℕ
@@ -31,10 +32,6 @@ row_size n = 2 ^ levels_of n
 -- the elements of the columns that are opened
 abbrev pub columns_size : ℕ → ℕ
 columns_size n = block_count n * 2 ^ rows_of n
-
--- the places that these numbers are in their blocks
-abbrev pub places_of : ℕ → List ℕ → List ℕ
-places_of bits numbers = map (λ i. i * 2 ^ bits + slice_index numbers i % 2 ^ bits) (range_with_len 0 (length numbers))
 
 -- ---- parts
 

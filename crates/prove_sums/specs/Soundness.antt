@@ -4,11 +4,11 @@ use Rattle.field_base.specs.Field.{IsField}
 use Rattle.field_base.specs.Orders.{AreCantorVectors}
 use Rattle.field_element.specs.Element.{repr_of}
 use Rattle.field_slices.specs.Multilinear.{multilinear_value}
-use Rattle.merkle_trees.specs.Commitments.{row_at}
 use Rattle.merkle_trees.specs.MerkleTrees.{HaveDigestSize}
 use Rattle.sum_checks.specs.Sumcheck.{messages_of}
 use Rattle.sum_checks.specs.SumcheckClaims.{AreMessages, IsSaved, reduced_claim}
 use Rattle.sum_checks.specs.Terms.{cube_sum}
+use Rattle.protocols.specs.CommitmentScheme.{value_columns}
 use Rattle.protocols.specs.OpenedTables.{AreColumnsOf, AreLuckyPlaces, CommitsTo, HasLuckyCoordinate}
 use Rattle.protocols.specs.RootColumns.{HasSent, HaveOtherColumns, SentColumns}
 use Rattle.protocols.specs.Tables.{AgreesAt}
@@ -75,11 +75,7 @@ pub record AcceptedProof {C F : Type 0} (observes gives : C → F → C → Type
 
 -- the columns of table 0 or 1 that it opens
 abbrev pub sent_columns : {F : Type 0} → (F → ℕ) → ℕ → ℕ → List F → List (List ℕ) → List ℕ → SentColumns
-sent_columns repr n which elements nodes places = record {
-  places = places;
-  column = λ k. map repr (row_at (2 ^ rows_of n) (columns_in n which elements) k);
-  nodes = nodes_in which nodes;
-}
+sent_columns repr n which elements nodes places = value_columns repr 7 n (columns_in n which elements) (nodes_in which nodes) places
 
 -- what its messages and rows show of the columns of both roots
 abbrev pub ElementsShowSum : {F : Type 0} → (F → ℕ) → ℕ → (ℕ → ℕ → ℕ) → (ℕ → ℕ) → ℕ → ℕ → (ℕ → List ℕ) → (ℕ → List ℕ) → List F

@@ -14,10 +14,11 @@ use Rattle.proximity.specs.Openings.{AreNumbersBelow, sum_lists}
 use Rattle.sum_checks.specs.SumcheckClaims.{reduced_claim}
 use Rattle.sum_checks.specs.Terms.{cube_sum}
 use Rattle.protocols.specs.CodeDistances.{point_generator}
+use Rattle.protocols.specs.CommitmentScheme.{block_places}
 use Rattle.protocols.specs.OpenedTables.{AreColumnsOf, CommitsTo}
 use Rattle.protocols.specs.SoundnessErrors.{SendsMessages, sent_messages}
 use Rattle.protocols.specs.Tables.{AgreesAt}
-use Rattle.prove_sums.specs.Shapes.{block_bits, block_count, depth_of, levels_of, places_of, rows_of}
+use Rattle.prove_sums.specs.Shapes.{block_bits, block_count, depth_of, levels_of, rows_of}
 use Rattle.prove_sums.specs.Verdicts.{interleaved, product_terms, word_times, word_vector}
 
 -- ---- runs
@@ -60,7 +61,7 @@ pub record Cheats (width : ℕ) (times : ℕ → ℕ → ℕ) (vector : ℕ → 
   pub tests : (point numbers : List ℕ) → AreNumbersBelow n (2 ^ width) point
       → AreNumbersBelow (block_count n) (2 ^ block_bits n) numbers
       → accepted point numbers ≡ true
-      → IsAcceptedRun width times vector n left right sum prover point (places_of (block_bits n) numbers)
+      → IsAcceptedRun width times vector n left right sum prover point (block_places (block_bits n) numbers)
 
 -- how many lists of challenges and of numbers of places there are
 abbrev pub all_runs : ℕ → ℕ → ℕ

@@ -14,9 +14,9 @@ use Rattle.field_base.specs.Basis.{basis_image, ghash_images}
 use Rattle.field_base.specs.Remainder.{ghash_modulus, mul_mod}
 use Rattle.field_slices.specs.Multilinear.{multilinear_value}
 use Rattle.word_tables.specs.Cantor.{cantor_vector}
-use Rattle.merkle_trees.specs.Queries.{AreQueries}
-use Rattle.sum_checks.specs.Sumcheck.{IsRunOf, IsTurn, Statement, messages_of, statement_of}
+use Rattle.sum_checks.specs.Sumcheck.{IsRunOf, Statement, messages_of, statement_of}
 use Rattle.sum_checks.specs.SumcheckClaims.{AreHonestMessages, reduced_claim}
+use Rattle.protocols.specs.CommitmentScheme.{ArePlacesDrawn}
 use Rattle.protocols.specs.Tables.{AreColumnsAt, AreExtendedColumns, OpensColumns, OpensPlaces}
 use Rattle.merkle_trees.specs.Commitments.{IsTreeOver, root_of, row_at}
 use Rattle.merkle_trees.specs.MerkleTrees.{rows_root}
@@ -25,7 +25,7 @@ use Rattle.sum_checks.specs.Terms.{Product, cube_sum}
 use Rattle.field_element.specs.Element.{repr_of}
 use Rattle.prove_sums.specs.ProofFiles.{IsFileOf, IsNoFile, file_bytes, number_in}
 use Rattle.prove_sums.specs.declared.tables.Table.{Table}
-use Rattle.prove_sums.specs.Shapes.{block_bits, block_count, columns_in, depth_of, levels_of, messages_in, nodes_in, places_of, row_in, row_size, rows_in, rows_of, sum_in, witness_in}
+use Rattle.prove_sums.specs.Shapes.{columns_in, depth_of, levels_of, messages_in, nodes_in, row_in, row_size, rows_in, rows_of, sum_in, witness_in}
 use Rattle.prove_sums.specs.declared.refusal.Refusal.{Refusal}
 use Rattle.prove_sums.specs.declared.refusal.Refusal.TheVariants.{NotAProof, OtherField, Length, OtherLeft, OtherRight, NotProved}
 
@@ -65,23 +65,6 @@ pub record IsReducedClaim {C F : Type 0} (observes gives : C → F → C → Typ
 
 -- ---- the verdict
 
--- the bits of a proof's work
-abbrev pub work_bits : ℕ
-work_bits = 16
-
--- rows are observed and a challenge is sampled, a witness is checked, which says whether it works, and then places are sampled, a number for
--- each block
-pub record DrawsPlaces {C F : Type 0} (observes gives : C → F → C → Type 0) (passing : C → ℕ → ℕ → Bool)
-    (checks : C → ℕ → ℕ → C → Type 0) (gives_bits : C → ℕ → ℕ → C → Type 0) (n : ℕ) (rows : List F) (witness : ℕ) (old : C)
-    (works : Bool) (places : List ℕ) (new : C) : Type 0 where
-  pub challenge : F
-  pub sent : C
-  pub numbers : List ℕ
-  pub turn : IsTurn observes gives old rows challenge sent
-  pub queries : AreQueries passing checks gives_bits sent work_bits witness works (block_bits n) numbers new
-  pub count : length numbers ≡ block_count n
-  pub chosen : places ≡ places_of (block_bits n) numbers
-
 -- the claim is the product of both rows' values at the other coordinates of the point
 abbrev pub IsProductAt : {F : Type 0} → (F → ℕ) → (ℕ → ℕ → ℕ) → ℕ → List F → List F → ℕ → Type 0
 IsProductAt repr times n elements others claim =
@@ -113,7 +96,7 @@ pub record VerifiesSum {C F : Type 0} (observes gives : C → F → C → Type 0
   pub between : C
   pub new : C
   pub reduced : IsReducedClaim observes gives repr width times n elements old point claim between
-  pub drawn : DrawsPlaces observes gives passing checks gives_bits n (rows_in n elements) (witness_in number n elements) between works places new
+  pub drawn : ArePlacesDrawn observes gives passing checks gives_bits 7 n (rows_in n elements) (witness_in number n elements) between works places new
   pub decided : IsTrue accepted
       ↔ IsTrue works
       × IsProductAt repr times n elements (drop (rows_of n) point) claim
@@ -162,7 +145,7 @@ pub record IsHonestProof {C F A : Type 0} (observes gives : C → F → C → Ty
   pub summed : IsSummed observes gives repr width times n left right old parts.sum parts.messages point between
   pub rows_are : map repr parts.rows ≡ values_at repr times n left_columns (take (rows_of n) point)
       ++ values_at repr times n right_columns (take (rows_of n) point)
-  pub drawn : DrawsPlaces observes gives passing checks gives_bits n parts.rows (number parts.witness) between true places new
+  pub drawn : ArePlacesDrawn observes gives passing checks gives_bits 7 n parts.rows (number parts.witness) between true places new
   pub left_opened : AreColumnsAt (2 ^ rows_of n) left_columns places parts.left
   pub right_opened : AreColumnsAt (2 ^ rows_of n) right_columns places parts.right
   pub written : elements ≡ sent_elements parts

@@ -7,13 +7,12 @@ ghost use Rattle.protocols.specs.Tables.{AreColumnsAt, OpensPlaces};
 ghost use Rattle.prove_sums.specs.Shapes.{depth_of, row_size, rows_of};
 ghost use Rattle.prove_sums.specs.Verdicts.{HoldsTable, IsHonestProof, values_at};
 
-use crate::shapes::{EXPANSION, Shape};
+use crate::shapes::Shape;
 use crate::sums;
-use crate::verifying::WORK;
 use field_base::traits::Field;
-use protocols::ProtocolError;
-use protocols::queries::draw_queries;
-use protocols::tables::{TableColumns, column_values, commit_table, open_columns};
+use protocols::commitment_scheme::grind_places;
+use protocols::tables::{TableColumns, column_values, open_columns};
+use protocols::{ProtocolError, commitment_scheme};
 use std::alloc::{AllocError, Global};
 use transcript_elements::{ByteLevel, FieldChallenger};
 use transcripts::{ByteHasher32, CanSampleUniformBits, GrindingChallenger};
@@ -51,8 +50,8 @@ pub fn commit<F: ByteLevel, H: ByteHasher32>(
     ensures tree { IfOk result (λ committed. IsTreeOver (H.digest hasher.now)
         (λ p. joined_bytes F.NUM_BYTES F.repr (row_at (2 ^ rows_of shape.now.rounds) committed.held.columns.items p)) committed.held.tree) }
 {
-    let table = elements.as_slice();
-    let held = commit_table(alloc, hasher, table, shape.rows, shape.levels, EXPANSION)?;
+    let sizes = shape.sizes();
+    let held = commitment_scheme::commit(alloc, hasher, &sizes, elements.as_slice())?;
     Ok(Committed { elements, held })
 }
 
@@ -81,11 +80,8 @@ pub fn prove<
     let (point, _others) = summed.point.as_slice().split_at(shape.rows);
     let rows = rows_of(alloc, shape, left, right, point)?;
     let rows = rows.as_slice();
-    challenger.observe_slice(rows)?;
-    let _challenge = challenger.sample()?;
-    let count = shape.block_count();
-    let (witness, numbers) = draw_queries(alloc, challenger, WORK, shape.bits, count)?;
-    let places = shape.places(alloc, numbers.as_slice())?;
+    let sizes = shape.sizes();
+    let (witness, places) = grind_places(alloc, challenger, &sizes, rows)?;
     let mut elements = Vec::new(alloc);
     elements.push(summed.sum)?;
     elements.extend_from_slice(summed.messages.as_slice())?;

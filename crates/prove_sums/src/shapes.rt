@@ -1,12 +1,12 @@
 // The sizes of a proof for two tables of 2^rounds elements, and its parts.
-ghost use Rattle.std.specs.Prelude.{◌≡◌, ◌+◌, ◌*◌, ◌^◌, ◌<◌, ◌≤◌, ℕ, length, IfOk};
-ghost use Rattle.prove_sums.specs.Shapes.{block_bits, block_count, columns_size, element_count, levels_of};
-ghost use Rattle.prove_sums.specs.Shapes.{part, places_of, row_size, rows_of};
+ghost use Rattle.std.specs.Prelude.{◌≡◌, ◌+◌, ◌*◌, ◌^◌, ◌≤◌, length};
+ghost use Rattle.prove_sums.specs.Shapes.{block_count, columns_size, element_count, levels_of, part, row_size, rows_of};
 
-use std::alloc::{AllocError, Global};
+use protocols::commitment_scheme::Parameters;
+use protocols::merkle_paths::power_of_two;
 
-/// The logarithm of what a row of a code word is longer than the row itself.
-pub(crate) const EXPANSION: usize = 2;
+// The logarithm of how many places are opened, where there are so many.
+const OPENED: usize = 7;
 
 /// The sizes of a proof for two tables of 2^rounds elements.
 #[derive(Clone, Copy)]
@@ -17,14 +17,11 @@ pub struct Shape {
     pub rows: usize,
     /// The logarithm of the length of a row.
     pub levels: usize,
-    /// The bits by which a block's places are numbered.
-    pub bits: usize,
     ghost few: { rounds ≤ 39 },
     ghost rows_are: { rows ≡ rows_of rounds },
     ghost few_rows: { rows ≤ 16 },
     ghost levels_are: { levels ≡ levels_of rounds },
     ghost few_levels: { levels ≤ 24 },
-    ghost bits_are: { bits ≡ block_bits rounds },
 }
 
 impl Shape {
@@ -33,15 +30,20 @@ impl Shape {
         requires { rounds ≤ 39 }
         ensures { result.rounds ≡ rounds }
     {
-        let rows = rounds.saturating_sub(7) / 2;
-        let levels = rounds - rows;
-        let bits = (EXPANSION + levels).saturating_sub(7);
+        let sizes = Parameters::new(rounds, OPENED);
         Shape {
             rounds,
-            rows,
-            levels,
-            bits,
+            rows: sizes.rows,
+            levels: sizes.levels,
         }
+    }
+
+    /// The sizes of the commitment to each table.
+    pub fn sizes(&self) -> Parameters
+        ensures variables { result.variables ≡ self.now.rounds }
+        ensures queries { result.queries ≡ 7 }
+    {
+        Parameters::new(self.rounds, OPENED)
     }
 
     /// How many places are opened.
@@ -49,7 +51,7 @@ impl Shape {
         ensures count { result ≡ block_count self.now.rounds }
         ensures few { result ≤ 128 }
     {
-        power_of_two(EXPANSION + self.levels - self.bits)
+        self.sizes().place_count()
     }
 
     /// How many elements a row has.
@@ -83,29 +85,6 @@ impl Shape {
     {
         2 * self.rounds + 2 + 2 * self.row_size() + 2 * self.columns_size()
     }
-
-    /// The places that these numbers are, each in its block. It fails if memory was refused.
-    pub fn places(&self, alloc: Global, numbers: &[usize]) -> Result<Vec<usize>, AllocError>
-        requires { length numbers.now ≡ block_count self.now.rounds }
-        ensures { IfOk result (λ places. places.items ≡ places_of (block_bits self.now.rounds) numbers.now) }
-    {
-        let size = power_of_two(self.bits);
-        let mut places = Vec::new(alloc);
-        'numbers: for index in 0..numbers.len() {
-            places.push(index * size + numbers[index] % size)?;
-        }
-        Ok(places)
-    }
-}
-
-// 2^levels.
-fn power_of_two(levels: usize) -> usize
-    requires { levels ≤ 40 }
-    ensures power { result ≡ 2 ^ levels }
-    ensures few { (most : ℕ) → levels ≤ most → result ≤ 2 ^ most }
-    ensures some { 0 < result }
-{
-    1 << levels
 }
 
 /// So many values, from a place on.

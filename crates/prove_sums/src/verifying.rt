@@ -1,23 +1,21 @@
 // The verifier of a sum of products of two tables, of which it has the commitments alone.
 ghost use Rattle.std.specs.Prelude.{◌≡◌, ◌↔◌, ◌+◌, ◌*◌, ◌≤◌, ◌<◌, false, length, IfErr, IfOk, IsTrue};
 ghost use Rattle.sum_checks.specs.declared.error.ProtocolError.TheVariants.{Memory};
-ghost use Rattle.prove_sums.specs.Shapes.{block_count, columns_size, element_count, levels_of, row_in, rows_in, rows_of, witness_in};
-ghost use Rattle.prove_sums.specs.Verdicts.{DrawsPlaces, IsProductAt, VerifiesSum, OpensTable, root_in};
+ghost use Rattle.protocols.specs.CommitmentScheme.{ArePlacesDrawn};
+ghost use Rattle.prove_sums.specs.Shapes.{columns_size, element_count, levels_of, row_in, rows_in, rows_of, witness_in};
+ghost use Rattle.prove_sums.specs.Verdicts.{IsProductAt, VerifiesSum, OpensTable, root_in};
 
 use crate::proof_file::{Proof, Roots};
-use crate::shapes::{EXPANSION, Shape, part};
+use crate::shapes::{Shape, part};
 use crate::sums::reduce;
 use field_slices::evaluate_multilinear;
 use protocols::ProtocolError;
+use protocols::commitment_scheme::{EXPANSION, draw_places};
 use protocols::merkle_paths::Commitment;
-use protocols::queries::check_queries;
 use protocols::tables::{ClaimedRow, ColumnOpening, verify_columns};
 use std::alloc::{AllocError, Global};
 use transcript_elements::{ByteLevel, FieldChallenger};
 use transcripts::{ByteHasher32, CanSampleUniformBits, GrindingChallenger};
-
-/// The bits of a proof's work.
-pub(crate) const WORK: usize = 16;
 
 /// Whether a proof proves that its first element is the sum of the products of the tables to which its roots commit. In a transcript that
 /// has not failed it fails only if memory was refused.
@@ -56,8 +54,7 @@ fn all_hold(one: bool, two: bool, three: bool, four: bool) -> bool
     one && two && three && four
 }
 
-// Observes the rows, checks the work, and samples the places. A challenge is sampled in between, so that a witness is tried on its digest
-// and not on the rows.
+// Observes the rows, checks the work, and samples the places.
 fn sample_places<
     F: ByteLevel,
     C: FieldChallenger<F> + GrindingChallenger<Witness = F> + CanSampleUniformBits<F>,
@@ -68,19 +65,16 @@ fn sample_places<
     elements: &[F],
 ) -> Result<(bool, Vec<usize>), ProtocolError>
     requires { length elements.now ≡ element_count shape.now.rounds }
-    ensures drawn { IfOk result (λ drawn. DrawsPlaces C.observes C.gives C.passing C.checks C.gives_bits shape.now.rounds
+    ensures drawn { IfOk result (λ drawn. ArePlacesDrawn C.observes C.gives C.passing C.checks C.gives_bits 7 shape.now.rounds
         (rows_in shape.now.rounds elements.now) (witness_in C.number shape.now.rounds elements.now) challenger.old drawn.0 drawn.1.items
         challenger.new) }
     ensures memory { C.has_failed challenger.old ≡ false → IfErr result (λ error. error ≡ Memory) }
 {
     let rows = part(elements, 2 * shape.rounds + 2, 2 * shape.row_size());
-    challenger.observe_slice(rows)?;
-    let _challenge = challenger.sample()?;
     let place = 2 * shape.rounds + 1;
     let witness = elements[place];
-    let count = shape.block_count();
-    let (works, numbers) = check_queries(alloc, challenger, witness, WORK, shape.bits, count)?;
-    let places = shape.places(alloc, numbers.as_slice())?;
+    let sizes = shape.sizes();
+    let (works, places) = draw_places(alloc, challenger, &sizes, rows, witness)?;
     Ok((works, places))
 }
 

@@ -1,7 +1,7 @@
 use Rattle.std.proofs.Common.{◌≡◌, ℕ, List, false, true, rules, ◌∙◌, subst}
 use Rattle.field_element.specs.Element.{repr_of}
+use Rattle.protocols.proofs.SchemeRuns.{memory-alone}
 use Rattle.prove_sums.specs.ProofFiles.{IsFileOf}
-use Rattle.prove_sums.proofs.Exits.{memory-alone}
 use Rattle.prove_sums.proofs.Refusals.{answered, err-told, ok-told, unread}
 use Rattle.prove_sums.proofs.answers.answer_to.Goals as goal
 

@@ -1,7 +1,7 @@
 use Rattle.std.proofs.Common.{◌^◌, ◌++◌, ℕ, List, sym, ◌∙◌, ap, subst, arith}
 use Rattle.merkle_trees.specs.Openings.{AreAscending}
 use Rattle.protocols.specs.Tables.{AreColumnsAt}
-use Rattle.prove_sums.proofs.Sizes.{columns-counted}
+use Rattle.protocols.proofs.BlockPlaces.{columns-counted}
 use Rattle.prove_sums.proofs.proving.open.Goals as goal
 
 pub open_columns-requires-clause-few : goal.open_columns-requires-clause-few
@@ -9,7 +9,7 @@ open_columns-requires-clause-few g c = let few = c.args.shape.now.few_rows in om
 
 pub open_columns-requires-clause-count : goal.open_columns-requires-clause-count
 open_columns-requires-clause-count g c =
-    columns-counted c.args.shape.now.rounds c.args.shape.now.rows_are c.requires.holds.depth c.requires.holds.extended.count
+    columns-counted 7 c.args.shape.now.rounds c.args.shape.now.rows_are c.requires.holds.depth c.requires.holds.extended.count
 
 pub open_columns-requires-clause-places : goal.open_columns-requires-clause-places
 open_columns-requires-clause-places g c =

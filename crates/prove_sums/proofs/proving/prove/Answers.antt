@@ -1,23 +1,21 @@
-use Rattle.std.proofs.Common.{◌≡◌, ◌++◌, ◌^◌, ℕ, List, length, take, refl, sym, ◌∙◌, ap, subst}
+use Rattle.std.proofs.Common.{◌≡◌, ◌++◌, ◌^◌, ℕ, true, List, length, take, refl, sym, ◌∙◌, ap, subst}
 use Rattle.merkle_trees.specs.Openings.{AreAscending}
-use Rattle.prove_sums.specs.Shapes.{block_bits, depth_of, places_of, rows_of}
+use Rattle.protocols.specs.CommitmentScheme.{ArePlacesDrawn, word_levels}
 use Rattle.protocols.specs.Tables.{AreColumnsAt, OpensPlaces}
+use Rattle.prove_sums.specs.Shapes.{rows_of}
 use Rattle.prove_sums.specs.Verdicts.{IsSummed, values_at}
-use Rattle.prove_sums.proofs.Sizes.{ascending}
-use Rattle.prove_sums.proofs.SumSteps.{elements-listed, places-drawn}
+use Rattle.prove_sums.proofs.SumSteps.{elements-listed, sizes-same}
 use Rattle.prove_sums.proofs.proving.prove.Goals as goal
 
 pub open-requires-clause-places : goal.open-requires-clause-places
 open-requires-clause-places g c =
-    subst (λ (l : List ℕ). AreAscending (2 ^ depth_of c.args.shape.now.rounds) l) (sym (c.as_slice-4.ensures.value ∙ c.in_ok-places.ensures))
-    (ascending c.args.shape.now.rounds c.as_slice-2.result.now
-    (ap length c.as_slice-2.ensures.value ∙ c.in_ok-witness.ensures.count ∙ c.block_count-count.ensures.count))
+    sizes-same (λ (m n : ℕ) (l : List ℕ). AreAscending (2 ^ word_levels m n) l) c.sizes-sizes.ensures.queries c.sizes-sizes.ensures.variables
+    (sym c.as_slice-3.ensures.value) c.in_ok-witness.ensures.ascending
 
 pub open-requires-2-clause-places : goal.open-requires-2-clause-places
 open-requires-2-clause-places g c =
-    subst (λ (l : List ℕ). AreAscending (2 ^ depth_of c.args.shape.now.rounds) l) (sym (c.as_slice-5.ensures.value ∙ c.in_ok-places.ensures))
-    (ascending c.args.shape.now.rounds c.as_slice-2.result.now
-    (ap length c.as_slice-2.ensures.value ∙ c.in_ok-witness.ensures.count ∙ c.block_count-count.ensures.count))
+    sizes-same (λ (m n : ℕ) (l : List ℕ). AreAscending (2 ^ word_levels m n) l) c.sizes-sizes.ensures.queries c.sizes-sizes.ensures.variables
+    (sym c.as_slice-4.ensures.value) c.in_ok-witness.ensures.ascending
 
 pub returns : goal.returns
 returns g c =
@@ -43,9 +41,9 @@ returns g c =
         right = c.in_ok-open-2.ensures.0;
       };
       point = summed.point.items;
-      places = c.in_ok-places.places.items;
+      places = c.in_ok-witness.places.items;
       between = c.prove.new.challenger;
-      new = c.draw_queries.new.challenger;
+      new = c.grind_places.new.challenger;
       summed =
           subst (λ (l : List _). says l right.elements.items) c.as_slice-one.ensures.value
           (subst (λ (l : List _). says c.as_slice-one.result.now l) c.as_slice-other.ensures.value c.in_ok-summed.ensures);
@@ -54,26 +52,28 @@ returns g c =
           ∙ ap (λ (p : List _). values_at field.repr field.product n left.held.columns.items p
           ++ values_at field.repr field.product n right.held.columns.items p) point;
       drawn =
-          places-drawn g.C.CanObserve.observes g.C.CanSample.gives g.C.GrindingChallenger.passing g.C.GrindingChallenger.checks
-          g.C.CanSampleBits.gives_bits n c.in_ok-witness.numbers.items c.as_slice-rows.ensures.value refl shape.bits_are c.in_ok-observe_slice.ensures.ok
-          c.in_ok-_challenge.ensures.ok c.in_ok-witness.ensures.drawn (c.in_ok-witness.ensures.count ∙ c.block_count-count.ensures.count)
-          (c.in_ok-places.ensures ∙ ap (places_of (block_bits n)) c.as_slice-2.ensures.value);
+          sizes-same
+          (λ (m v : ℕ) (sent : List _).
+          ArePlacesDrawn g.C.CanObserve.observes g.C.CanSample.gives g.C.GrindingChallenger.passing g.C.GrindingChallenger.checks
+          g.C.CanSampleBits.gives_bits m v sent (g.C.GrindingChallenger.number c.in_ok-witness.witness) c.prove.new.challenger true
+          c.in_ok-witness.places.items c.grind_places.new.challenger) c.sizes-sizes.ensures.queries c.sizes-sizes.ensures.variables
+          c.as_slice-rows.ensures.value c.in_ok-witness.ensures.drawn;
       left_opened =
-          subst (λ (ps : List ℕ). AreColumnsAt (2 ^ rows_of n) left.held.columns.items ps c.in_ok-open.ensures.0) c.as_slice-4.ensures.value
+          subst (λ (ps : List ℕ). AreColumnsAt (2 ^ rows_of n) left.held.columns.items ps c.in_ok-open.ensures.0) c.as_slice-3.ensures.value
           c.in_ok-open.ensures.2;
       right_opened =
-          subst (λ (ps : List ℕ). AreColumnsAt (2 ^ rows_of n) right.held.columns.items ps c.in_ok-open-2.ensures.0) c.as_slice-5.ensures.value
+          subst (λ (ps : List ℕ). AreColumnsAt (2 ^ rows_of n) right.held.columns.items ps c.in_ok-open-2.ensures.0) c.as_slice-4.ensures.value
           c.in_ok-open-2.ensures.2;
       written =
           elements-listed c.in_ok-open.ensures.0 c.in_ok-open-2.ensures.0 summed.sum c.in_ok-witness.witness c.new-elements.ensures.items c.in_ok-push.ensures.items c.in_ok-extend_from_slice.ensures.items
-          c.as_slice-3.ensures.value c.in_ok-push-2.ensures.items c.in_ok-extend_from_slice-2.ensures.items c.as_slice-rows.ensures.value
+          c.as_slice-2.ensures.value c.in_ok-push-2.ensures.items c.in_ok-extend_from_slice-2.ensures.items c.as_slice-rows.ensures.value
           c.in_ok-open.ensures.1 c.in_ok-open-2.ensures.1;
       left_nodes = c.in_ok-open.ensures.3;
       right_nodes = c.in_ok-open-2.ensures.3;
       left_nodes_open =
-          subst (λ (ps : List ℕ). OpensPlaces left.held.tree ps c.in_ok-open.ensures.3) c.as_slice-4.ensures.value c.in_ok-open.ensures.5;
+          subst (λ (ps : List ℕ). OpensPlaces left.held.tree ps c.in_ok-open.ensures.3) c.as_slice-3.ensures.value c.in_ok-open.ensures.5;
       right_nodes_open =
-          subst (λ (ps : List ℕ). OpensPlaces right.held.tree ps c.in_ok-open-2.ensures.3) c.as_slice-5.ensures.value c.in_ok-open-2.ensures.5;
+          subst (λ (ps : List ℕ). OpensPlaces right.held.tree ps c.in_ok-open-2.ensures.3) c.as_slice-4.ensures.value c.in_ok-open-2.ensures.5;
       nodes_are =
           c.in_ok-open-2.ensures.4
           ∙ ap (λ (l : List (List ℕ)). l ++ c.in_ok-open-2.ensures.3)

@@ -1,7 +1,8 @@
 use Rattle.std.proofs.Common.{length, map, ◌∙◌, ap, arith}
 use Rattle.sum_checks.specs.Products.{term_product}
+use Rattle.protocols.proofs.SchemeRuns.{memory-alone}
 use Rattle.prove_sums.specs.Shapes.{messages_in, sum_in}
-use Rattle.prove_sums.proofs.Exits.{memory-alone, sum-taken}
+use Rattle.prove_sums.proofs.Exits.{sum-taken}
 use Rattle.prove_sums.proofs.SumSteps.{number-at, verified-sum}
 use Rattle.prove_sums.proofs.sums.reduce.Goals as goal
 

@@ -1,7 +1,7 @@
 use Rattle.std.proofs.Common.{◌^◌, ℕ, List, length, map, refl, sym, ◌∙◌, ap, ap₂, arith}
 use Rattle.field_slices.specs.Multilinear.{multilinear_value}
+use Rattle.protocols.proofs.SchemeRuns.{decided}
 use Rattle.prove_sums.proofs.Sizes.{row-long}
-use Rattle.prove_sums.proofs.SumSteps.{decided}
 use Rattle.prove_sums.proofs.verifying.is_product.Goals as goal
 
 pub evaluate_multilinear-one-requires : goal.evaluate_multilinear-one-requires

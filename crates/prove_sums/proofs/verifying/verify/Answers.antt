@@ -1,8 +1,10 @@
 use Rattle.std.proofs.Common.{◌≡◌, ℕ, List, length, take, drop, refl, ◌∙◌, ap, subst, arith, rules}
 use Rattle.std.specs.Prelude.{◌↔◌, IsTrue}
+use Rattle.protocols.specs.CommitmentScheme.{ArePlacesDrawn}
+use Rattle.protocols.proofs.SchemeRuns.{memory-alone}
 use Rattle.prove_sums.specs.Shapes.{element_count, row_size, rows_in, rows_of, witness_in}
-use Rattle.prove_sums.specs.Verdicts.{DrawsPlaces, IsProductAt, IsReducedClaim, OpensTable}
-use Rattle.prove_sums.proofs.Exits.{memory-alone, rounds-fit}
+use Rattle.prove_sums.specs.Verdicts.{IsProductAt, IsReducedClaim, OpensTable}
+use Rattle.prove_sums.proofs.Exits.{rounds-fit}
 use Rattle.prove_sums.proofs.Sizes.{front-room}
 use Rattle.prove_sums.proofs.SumSteps.{all-decided}
 use Rattle.prove_sums.proofs.verifying.verify.Goals as goal
@@ -74,8 +76,8 @@ returns-clause-verdict g c =
           c.args.challenger.now whole claim c.reduce.new.challenger) same c.in_ok-reduced.ensures.reduced;
       drawn =
           subst
-          (λ (es : List _). DrawsPlaces g.C.CanObserve.observes g.C.CanSample.gives g.C.GrindingChallenger.passing
-          g.C.GrindingChallenger.checks g.C.CanSampleBits.gives_bits n (rows_in n es) (witness_in g.C.GrindingChallenger.number n es)
+          (λ (es : List _). ArePlacesDrawn g.C.CanObserve.observes g.C.CanSample.gives g.C.GrindingChallenger.passing
+          g.C.GrindingChallenger.checks g.C.CanSampleBits.gives_bits 7 n (rows_in n es) (witness_in g.C.GrindingChallenger.number n es)
           c.reduce.new.challenger works drawn c.sample_places.new.challenger) same c.in_ok-works.ensures.drawn;
       decided =
           subst (λ (p : List _). says p (drop (rows_of n) whole) drawn) front

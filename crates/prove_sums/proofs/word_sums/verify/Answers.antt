@@ -1,9 +1,9 @@
 use Rattle.std.proofs.Common.{[], refl, ◌∙◌}
 use Rattle.field_element.specs.Element.{repr_of}
 use Rattle.transcript_elements.specs.Challengers.{state_of}
+use Rattle.protocols.proofs.SchemeRuns.{memory-alone}
 use Rattle.prove_sums.specs.ProofFiles.{file_bytes}
 use Rattle.prove_sums.specs.Verdicts.{word_times, word_vector}
-use Rattle.prove_sums.proofs.Exits.{memory-alone}
 use Rattle.prove_sums.proofs.StateRuns.{verdict-on_states}
 use Rattle.prove_sums.proofs.word_sums.verify.Goals as goal
 

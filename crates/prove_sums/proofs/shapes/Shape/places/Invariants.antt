@@ -1,7 +1,0 @@
-use Rattle.std.proofs.Common.{◌≡◌, ◌+◌, ◌*◌, ◌%◌, ℕ, map, slice_index}
-use Rattle.std.specs.List.{range_with_len}
-use Rattle.prove_sums.proofs.shapes.Shape.places.Given as goal
-
--- the places of the blocks so far
-abbrev pub invariant-numbers : goal.invariant-numbers
-invariant-numbers l = l.places.items ≡ map (λ (i : ℕ). i * l.size + slice_index l.numbers i % l.size) (range_with_len 0 l.index)
