@@ -1,3 +1,4 @@
+mod Completeness
 mod Exits
 mod Files
 mod Places

@@ -1,3 +1,4 @@
+pub mod Completeness
 pub mod ProofFiles
 pub mod Reports
 pub mod Shapes

@@ -1,9 +1,13 @@
-// Soundness of sums of products of two tables, for every prover, as contracts of functions that compute nothing.
+// Soundness of sums of products of two tables, for every prover, and completeness, as contracts of functions that compute nothing.
+ghost use Rattle.prove_sums.specs.Completeness.{HonestSumsAreAccepted};
 ghost use Rattle.prove_sums.specs.Soundness.{HasPoints, SumsAreProved, SumsNeedLuck, WordFilesShowSums};
 ghost use Rattle.prove_sums.specs.SoundnessErrors.{ErrorsAreSmall, FewCheatsSucceed};
 
 use field_element::Ghash128;
-use protocols::laws::{false_claims_need_luck, opened_values_need_luck, roots_hold_columns};
+use protocols::laws::{
+    false_claims_need_luck, honest_reduces, opened_values_need_luck, roots_hold_columns,
+};
+use protocols::openings::openings_have_one_count;
 use transcript_elements::{ByteLevel, FieldChallenger};
 use transcripts::{ByteHasher32, CanSampleUniformBits, GrindingChallenger};
 
@@ -44,6 +48,20 @@ pub fn files_show_sums<H: ByteHasher32>()
     field_has_points::<Ghash128>();
     roots_hold_columns();
     sums_need_luck();
+}
+
+/// States completeness with what `proving::prove` says: on what it makes of two tables that are committed to, in transcripts of any
+/// challenger and for every hash function, `verifying::verify` says true for both roots, where its transcript begins in the same state.
+pub fn honest_sums_are_accepted<
+    F: ByteLevel,
+    C: FieldChallenger<F> + GrindingChallenger<Witness = F> + CanSampleUniformBits<F>,
+>()
+    ensures { HonestSumsAreAccepted C.state C.observes C.gives C.passing C.checks C.gives_bits C.number F.repr F.NUM_BYTES F.width F.product
+        (λ i. F.basis (F.cantor i)) }
+{
+    field_has_points::<F>();
+    honest_reduces();
+    openings_have_one_count();
 }
 
 /// States the soundness error of the interactive protocol over every field, as a count: of all lists of challenges and places, at most the

@@ -1,0 +1,23 @@
+-- Completeness of proofs of sums of products of two tables: what an honest prover sends is accepted.
+use Rattle.std.specs.Prelude.{◌≡◌, ℕ, ◌≤◌, Bool, true, List}
+use Rattle.std.specs.declared.alloc.Global.{Global}
+use Rattle.merkle_trees.specs.Commitments.{root_of}
+use Rattle.merkle_trees.specs.declared.merkle_tree.MerkleTree.{MerkleTree}
+use Rattle.protocols.specs.CommitmentScheme.{HoldsColumns}
+use Rattle.prove_sums.specs.Verdicts.{IsHonestProof, VerifiesSum}
+
+-- Of two tables that are committed to, whatever the hash function is: on the proof that an honest prover makes in one transcript, each
+-- verdict for both roots is true that begins in the same state.
+abbrev pub HonestSumsAreAccepted : {C S F : Type 0} → (C → S) → (C → F → C → Type 0) → (C → F → C → Type 0) → (C → ℕ → ℕ → Bool)
+    → (C → ℕ → ℕ → C → Type 0) → (C → ℕ → ℕ → C → Type 0) → (F → ℕ) → (F → ℕ) → ℕ → ℕ → (ℕ → ℕ → ℕ) → (ℕ → ℕ) → Type 0
+HonestSumsAreAccepted {C} {S} {F} state observes gives passing checks gives_bits number repr size width times vector =
+    (hash : List ℕ → List ℕ) (n : ℕ) (left right left_columns right_columns : List F) (left_tree right_tree : MerkleTree Global)
+    (elements : List F) (nodes : List (List ℕ)) (prover verifier : C) (accepted : Bool) → 2 ≤ width
+    → HoldsColumns hash repr size width times vector 7 n left left_columns left_tree
+    → HoldsColumns hash repr size width times vector 7 n right right_columns right_tree
+    → IsHonestProof observes gives passing checks gives_bits number repr width times n left right left_columns right_columns left_tree
+    right_tree elements nodes prover
+    → state prover ≡ state verifier
+    → VerifiesSum observes gives passing checks gives_bits number repr hash size width times vector n (root_of left_tree) (root_of right_tree)
+    elements nodes verifier accepted
+    → accepted ≡ true
