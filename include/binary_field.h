@@ -1723,6 +1723,22 @@ uint32_t bf_field_power(const bf_field *field, const bf_u128 *values, size_t val
 uint32_t bf_field_trace(const bf_field *field, const bf_u128 *values, size_t values_length,
     bf_u128 *traces, size_t traces_length) BF_CHECKED BF_NONNULL(1);
 
+/* quotients: the quotient of the elements at each index, and 0 where that of right is 0. BF_LENGTH unless left,
+ * right and quotients have one length. BF_NOT_AN_ELEMENT unless each word that is read is below 2^degree. */
+uint32_t bf_field_divide(const bf_field *field, const bf_u128 *left, size_t left_length,
+    const bf_u128 *right, size_t right_length, bf_u128 *quotients, size_t quotients_length) BF_CHECKED BF_NONNULL(1);
+
+/* sum: the sum of the products of the elements at each index, which is 0 of none. BF_LENGTH unless left and right
+ * have one length. BF_NOT_AN_ELEMENT unless each word that is read is below 2^degree. */
+uint32_t bf_field_dot_product(const bf_field *field, const bf_u128 *left, size_t left_length,
+    const bf_u128 *right, size_t right_length, bf_u128 *sum) BF_CHECKED BF_NONNULL(1) BF_NONNULL(6);
+
+/* values: the value at each point of the polynomial with these coefficients, the constant one first; of none it is
+ * 0. BF_LENGTH unless points and values have one length. BF_NOT_AN_ELEMENT unless each word that is read is below
+ * 2^degree. */
+uint32_t bf_field_evaluate(const bf_field *field, const bf_u128 *coefficients, size_t coefficients_length,
+    const bf_u128 *points, size_t points_length, bf_u128 *values, size_t values_length) BF_CHECKED BF_NONNULL(1);
+
 /* ------------------------------------------------------------------------------------------------------------------ */
 /* Stages of additive transforms over g128, and the whole transform over g128 and levels of the tower. s_0(x) = x,
  * and s_(j+1)(x) = s_j(x)^2 + s_j(x). The basis of subspace polynomials is the products of the s_j: coefficient k is

@@ -85,6 +85,12 @@ field_power  chosen  fields::power  OverField field.now (RaisesTo (chosen_field 
 powers.old powers.new result
 field_trace  chosen  fields::trace  OverField field.now (TakesTraces (chosen_field field.now) values.now traces.old traces.new result) \
 traces.old traces.new result
+field_divide  chosen  fields::divide  OverField field.now (TakesQuotients (chosen_field field.now) left.now right.now quotients.old quotients.new \
+result) quotients.old quotients.new result
+field_dot_product  chosen  fields::dot_product  OverField field.now (TakesDotProduct (chosen_field field.now) left.now right.now sum.old sum.new \
+result) sum.old sum.new result
+field_evaluate  chosen  fields::evaluate  OverField field.now (Evaluates (chosen_field field.now) coefficients.now points.now values.old values.new \
+result) values.old values.new result
 g128_butterfly_forward  transforms  butterfly_forward  ButterfliesForward (wide_number scalar.now) low.old high.old low.new high.new result
 g128_butterfly_inverse  transforms  butterfly_inverse  ButterfliesInverse (wide_number scalar.now) low.old high.old low.new high.new result
 g128_low_stages         transforms  low_stages         RunsLowStages shifts.now basis.now first_run values.old values.new result
@@ -195,7 +201,7 @@ HOMES = {
         "Prepares", "Reconstructs", "TellsFactors", "TellsTablesLength", "Verifies", "VerifiesPrepared",
     ],
     "c_calls.specs.Codes": ["CorrectsWords", "EncodesWords", "TellsCodeWords", "WritesSyndromes"],
-    "c_calls.specs.ChosenFields": ["OverField", "PreparesField", "TakesTraces", "chosen_field"],
+    "c_calls.specs.ChosenFields": ["OverField", "PreparesField", "TakesQuotients", "TakesTraces", "chosen_field"],
     "c_calls.specs.Erasure": ["EncodesErasure", "ReconstructsErasure", "TellsSpace", "VerifiesErasure"],
     "c_calls.specs.Linear": ["MapsLinearly"],
     "c_calls.specs.Lines": ["AnswersLine"],

@@ -220,12 +220,24 @@ def chosen_cases(draw):
         for exponent in (0, 1, 5, (1 << 64) - 1):
             yield case("field_power", words, left, exponent, [power(a, exponent) for a in left], each=size)
         yield case("field_trace", words, left, [definitions.total(power(a, 1 << i) for i in range(degree)) for a in left], each=size)
+        quotients = [times(a, power(b, (1 << degree) - 2)) if b else 0 for a, b in zip(left, right)]
+        yield case("field_divide", words, left, right, quotients, each=size)
+        dot = lambda a, b: definitions.total(times(x, y) for x, y in zip(a, b))
+        value = lambda coefficients, x: definitions.total(times(c, power(x, i)) for i, c in enumerate(coefficients))
+        for count in (0, 1, size):
+            yield case("field_dot_product", words, left[:count], right[:count], [dot(left[:count], right[:count])])
+            yield case("field_evaluate", words, left[:count], right, [value(left[:count], x) for x in right])
         if degree < 128:
             for at in (0, size - 1):
                 wrong = [1 << degree if it == at else a for it, a in enumerate(left)]
                 yield refused(case("field_multiply", words, wrong, right, [0] * size), "BF_NOT_AN_ELEMENT")
                 yield refused(case("field_multiply", words, right, wrong, [0] * size), "BF_NOT_AN_ELEMENT")
                 yield refused(case("field_inverse", words, wrong, [0] * size), "BF_NOT_AN_ELEMENT")
+                for name in ("field_divide", "field_evaluate"):
+                    yield refused(case(name, words, wrong, right, [0] * size), "BF_NOT_AN_ELEMENT")
+                    yield refused(case(name, words, right, wrong, [0] * size), "BF_NOT_AN_ELEMENT")
+                yield refused(case("field_dot_product", words, wrong, right, [0]), "BF_NOT_AN_ELEMENT")
+                yield refused(case("field_dot_product", words, right, wrong, [0]), "BF_NOT_AN_ELEMENT")
             yield refused(case("field_multiply_by", words, left, 1 << degree, [0] * size), "BF_NOT_AN_ELEMENT")
     for degree, tail in ((0, 0), (0, 1), (129, 3), ((1 << 64) - 1, 1), (4, 0b101), (8, 0x11B), (8, 1), (8, 0), (2, 0), (128, 0), (64, 1 << 64 | 0x1B)):
         yield refused(case("field_init", [0], degree, tail), "BF_REDUCIBLE")

@@ -1,5 +1,6 @@
 /* Compares the functions bf_field_* with NTL's GF2E: 10,000 drawn cases over 60 degrees and moduli, and which moduli are refused. */
 #include <NTL/GF2E.h>
+#include <NTL/GF2EX.h>
 #include <NTL/GF2XFactoring.h>
 
 #include <binary_field.h>
@@ -69,11 +70,21 @@ long compare(const GF2X &modulus, long degree, size_t count) {
     expect("power", degree, bf_field_power(&field, l, count, exponent, f, count), found, z);
     for (size_t i = 0; i < count; i++) z[i] = NTL::conv<GF2E>(NTL::trace(x[i]));
     expect("trace", degree, bf_field_trace(&field, l, count, f, count), found, z);
+    for (size_t i = 0; i < count; i++) z[i] = NTL::IsZero(y[i]) ? y[i] : x[i] / y[i];
+    expect("divide", degree, bf_field_divide(&field, l, count, r, count, f, count), found, z);
+    NTL::GF2EX polynomial;
+    for (size_t i = 0; i < count; i++) NTL::SetCoeff(polynomial, static_cast<long>(i), x[i]);
+    for (size_t i = 0; i < count; i++) z[i] = NTL::eval(polynomial, y[i]);
+    expect("evaluate", degree, bf_field_evaluate(&field, l, count, r, count, f, count), found, z);
+    std::vector<GF2E> total(1);
+    for (size_t i = 0; i < count; i++) total[0] += x[i] * y[i];
+    std::vector<bf_u128> sum(1);
+    expect("dot_product", degree, bf_field_dot_product(&field, l, count, r, count, sum.data()), sum, total);
     std::vector<bf_u128> squared(count);
     const uint32_t status = bf_field_square_root(&field, l, count, f, count);
     if (bf_field_square(&field, f, count, squared.data(), count) != BF_OK) wrong++;
     expect("square_root", degree, status, squared, x);
-    return 8 * static_cast<long>(count);
+    return 10 * static_cast<long>(count) + 1;
 }
 
 // Whether a polynomial is told irreducible as NTL tells it.

@@ -149,18 +149,10 @@ class _Functions:
         product[...] = factors[0] if len(factors) else _words_of(1, product.dtype)
 
     def dot_product(self, left: Words, right: Words, result: Words) -> None:
-        products = np.empty_like(left)
-        self.multiply(left, right, products)
-        if products.dtype == _WIDE:
-            result["words"][...] = np.bitwise_xor.reduce(products["words"], axis=0)
-        else:
-            result[...] = np.bitwise_xor.reduce(products, axis=0)
+        self._written("dot_product", result, _wide(left), _wide(right))
 
     def evaluate(self, coefficients: Words, points: Words, values: Words) -> None:
-        values[...] = np.zeros((), values.dtype)
-        for coefficient in coefficients[::-1]:
-            self.multiply(values, points, values)
-            self.add(values, np.broadcast_to(coefficient, values.shape), values)
+        self._written("evaluate", values, _wide(coefficients), _wide(points))
 
 
 def _words_of(number: int, dtype: np.dtype[Any]) -> Words:

@@ -161,4 +161,50 @@ impl ChosenField {
             |made| call!(bf_field_trace: &raw const self.words, [values], [mut made]),
         )
     }
+
+    /// Writes the quotient of the elements at each place, and 0 where that of `right` is 0.
+    pub fn divide(
+        &self,
+        left: &[u128],
+        right: &[u128],
+        quotients: &mut [u128],
+    ) -> Result<(), Error> {
+        let (left, right) = (words_of(left), words_of(right));
+        self.written(
+            quotients,
+            |made| call!(bf_field_divide: &raw const self.words, [left], [right], [mut made]),
+        )
+    }
+
+    /// The sum of the products of the elements at each place, which is 0 of none.
+    pub fn dot_product(&self, left: &[u128], right: &[u128]) -> Result<u128, Error> {
+        let (left, right, mut sum) = (words_of(left), words_of(right), [0; 2]);
+        Error::of(
+            call!(bf_field_dot_product: &raw const self.words, [left], [right], &raw mut sum),
+        )?;
+        Ok(whole(sum))
+    }
+
+    /// Writes the value at each point of the polynomial with these coefficients, the constant one first; of none it is 0.
+    ///
+    /// ```
+    /// use binary_field::chosen::ChosenField;
+    ///
+    /// let mut values = [0; 2];
+    /// ChosenField::new(8, 0x1d)?.evaluate(&[5, 1], &[0, 2], &mut values)?;
+    /// assert_eq!(values, [5, 7]);
+    /// # Ok::<(), binary_field::Error>(())
+    /// ```
+    pub fn evaluate(
+        &self,
+        coefficients: &[u128],
+        points: &[u128],
+        values: &mut [u128],
+    ) -> Result<(), Error> {
+        let (coefficients, points) = (words_of(coefficients), words_of(points));
+        self.written(
+            values,
+            |made| call!(bf_field_evaluate: &raw const self.words, [coefficients], [points], [mut made]),
+        )
+    }
 }

@@ -2928,6 +2928,39 @@ unsafe extern "C" {
         traces: *mut [u64; 2],
         traces_length: usize,
     ) -> u32;
+    /// quotients: the quotient of the elements at each place, and 0 where that of right is 0. BF_LENGTH unless left,
+    /// right and quotients have one length. BF_NOT_AN_ELEMENT unless each word that is read is below 2^degree.
+    pub fn bf_field_divide(
+        field: *const [u64; 5],
+        left: *const [u64; 2],
+        left_length: usize,
+        right: *const [u64; 2],
+        right_length: usize,
+        quotients: *mut [u64; 2],
+        quotients_length: usize,
+    ) -> u32;
+    /// sum: the sum of the products of the elements at each place, which is 0 of none. BF_LENGTH unless left and
+    /// right have one length. BF_NOT_AN_ELEMENT unless each word that is read is below 2^degree.
+    pub fn bf_field_dot_product(
+        field: *const [u64; 5],
+        left: *const [u64; 2],
+        left_length: usize,
+        right: *const [u64; 2],
+        right_length: usize,
+        sum: *mut [u64; 2],
+    ) -> u32;
+    /// values: the value at each point of the polynomial with these coefficients, the constant one first; of none it
+    /// is 0. BF_LENGTH unless points and values have one length. BF_NOT_AN_ELEMENT unless each word that is read is
+    /// below 2^degree.
+    pub fn bf_field_evaluate(
+        field: *const [u64; 5],
+        coefficients: *const [u64; 2],
+        coefficients_length: usize,
+        points: *const [u64; 2],
+        points_length: usize,
+        values: *mut [u64; 2],
+        values_length: usize,
+    ) -> u32;
     /// low += scalar * high, and then high += low, at each place. BF_LENGTH unless low and high have one length.
     pub fn bf_g128_butterfly_forward(
         low: *mut [u64; 2],

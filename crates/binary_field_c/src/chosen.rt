@@ -1,7 +1,8 @@
 // Calls over slices of elements of a field that the caller chooses.
 // Written by scripts/make_c_exports.py; do not edit.
-ghost use Rattle.c_calls.specs.ChosenFields.{OverField, PreparesField, TakesTraces, chosen_field};
-ghost use Rattle.c_calls.specs.Calls.{Adds, Inverts, Multiplies, MultipliesBy, RaisesTo, Squares, TakesRoots};
+ghost use Rattle.c_calls.specs.ChosenFields.{OverField, PreparesField, TakesQuotients, TakesTraces, chosen_field};
+ghost use Rattle.c_calls.specs.Calls.{Adds, Evaluates, Inverts, Multiplies, MultipliesBy, RaisesTo, Squares, TakesDotProduct};
+ghost use Rattle.c_calls.specs.Calls.{TakesRoots};
 ghost use Rattle.c_calls.specs.Fields.{wide_number};
 
 use c_calls::{ChosenField, Wide};
@@ -110,4 +111,46 @@ pub extern "C" fn bf_field_trace(field: &ChosenField, values: &[Wide], traces: &
         traces.new result) traces.old traces.new result }
 {
     c_calls::fields::trace(*field, values, traces)
+}
+
+/// The quotient of the elements at each place, and 0 where that of right is 0.
+#[unsafe(no_mangle)]
+pub extern "C" fn bf_field_divide(
+    field: &ChosenField,
+    left: &[Wide],
+    right: &[Wide],
+    quotients: &mut [Wide],
+) -> u32
+    ensures { OverField field.now (TakesQuotients (chosen_field field.now) left.now right.now
+        quotients.old quotients.new result) quotients.old quotients.new result }
+{
+    c_calls::fields::divide(*field, left, right, quotients)
+}
+
+/// The sum of the products of the elements at each place, which is 0 of none.
+#[unsafe(no_mangle)]
+pub extern "C" fn bf_field_dot_product(
+    field: &ChosenField,
+    left: &[Wide],
+    right: &[Wide],
+    sum: &mut Wide,
+) -> u32
+    ensures { OverField field.now (TakesDotProduct (chosen_field field.now) left.now right.now
+        sum.old sum.new result) sum.old sum.new result }
+{
+    c_calls::fields::dot_product(*field, left, right, sum)
+}
+
+/// The value at each point of the polynomial with these coefficients, the constant one first; of none it is 0.
+#[unsafe(no_mangle)]
+pub extern "C" fn bf_field_evaluate(
+    field: &ChosenField,
+    coefficients: &[Wide],
+    points: &[Wide],
+    values: &mut [Wide],
+) -> u32
+    ensures { OverField field.now (Evaluates (chosen_field field.now) coefficients.now points.now
+        values.old values.new result) values.old values.new result }
+{
+    c_calls::fields::evaluate(*field, coefficients, points, values)
 }

@@ -1,9 +1,9 @@
 -- What calls over a field that the caller chooses do: fields modulo any irreducible polynomial of degree 1 to 128, by words that the caller keeps.
-use Rattle.std.specs.Prelude.{◌≡◌, ◌≢◌, ℕ, List}
+use Rattle.std.specs.Prelude.{◌≡◌, ◌≢◌, ℕ, ◌^◌, ◌<◌, List}
 use Rattle.field_base.specs.Powers.{sum_of_squarings}
 use Rattle.any_field.specs.Contexts.{IsFieldModulus, field_product}
 use Rattle.many_words.specs.Fields.{WordField, field_of}
-use Rattle.c_calls.specs.Calls.{CallOnEach}
+use Rattle.c_calls.specs.Calls.{CallOnEach, CallOnTwo}
 use Rattle.c_calls.specs.Fields.{wide_number}
 use Rattle.c_calls.specs.declared.field_words.ChosenField.{ChosenField}
 use Rattle.c_calls.specs.declared.status.TheConstants.{OK, REDUCIBLE}
@@ -37,3 +37,8 @@ pub record PreparesField (degree tail : ℕ) (old new : ChosenField) (status : �
 -- a call that writes the traces over GF(2), which are 0 or 1
 abbrev pub TakesTraces : WordField Wide → List Wide → List Wide → List Wide → ℕ → Type 0
 TakesTraces field xs old new status = CallOnEach field (λ x y. y ≡ sum_of_squarings 1 field.times field.width x) xs old new status
+
+-- a call that writes the quotients of the elements at each place, which are elements, and 0 where the divisor is 0
+abbrev pub TakesQuotients : WordField Wide → List Wide → List Wide → List Wide → List Wide → ℕ → Type 0
+TakesQuotients field xs ys old new status =
+    CallOnTwo field (λ x y q. (q < 2 ^ field.width) × (y ≢ 0 → field.times q y ≡ x) × (y ≡ 0 → q ≡ 0)) xs ys old new status

@@ -1,5 +1,5 @@
 // Operations on one element and on two of a field that a caller chooses, which calls over slices apply.
-ghost use Rattle.std.specs.Prelude.{◌≡◌, ◌<◌, ◌^◌, ℕ, bit_xor};
+ghost use Rattle.std.specs.Prelude.{◌≡◌, ◌≢◌, ◌<◌, ◌^◌, ℕ, bit_xor};
 ghost use Rattle.field_base.specs.Field.{IsInverseOrZero};
 ghost use Rattle.field_base.specs.Powers.{power, sum_of_squarings};
 ghost use Rattle.any_field.specs.Contexts.{field_product};
@@ -19,13 +19,17 @@ pub(crate) trait AtOne {
         ensures { gives self.now x result };
 }
 
-/// An operation on two words.
+/// An operation on two elements.
 pub(crate) trait AtTwo {
-    // How its result is related to its operands.
+    // The bits of its operands, and how its result is related to them.
+    ghost width: { Self → ℕ };
+
     ghost gives: { Self → ℕ → ℕ → ℕ → Type 0 };
 
-    /// Its result at two words.
+    /// Its result at two elements.
     fn at(&self, x: u128, y: u128) -> u128
+        requires left { x < 2 ^ width self.now }
+        requires right { y < 2 ^ width self.now }
         ensures { gives self.now x y result };
 }
 
@@ -131,9 +135,14 @@ impl AtOne for Traced {
 }
 
 /// The sum.
-pub(crate) struct Together;
+#[derive(Drop)]
+pub(crate) struct Together {
+    pub(crate) field: BinaryExtension,
+}
 
 impl AtTwo for Together {
+    ghost width = { λ operation. operation.field.degree };
+
     ghost gives = { λ operation x y z. z ≡ bit_xor x y };
 
     fn at(&self, x: u128, y: u128) -> u128 {
@@ -148,9 +157,31 @@ pub(crate) struct Times {
 }
 
 impl AtTwo for Times {
+    ghost width = { λ operation. operation.field.degree };
+
     ghost gives = { λ operation x y z. z ≡ field_product operation.field.degree operation.field.tail x y };
 
     fn at(&self, x: u128, y: u128) -> u128 {
         self.field.multiply(x, y)
+    }
+}
+
+/// The quotient, and 0 where the divisor is.
+#[derive(Drop)]
+pub(crate) struct Quotient {
+    pub(crate) field: BinaryExtension,
+}
+
+impl AtTwo for Quotient {
+    ghost width = { λ operation. operation.field.degree };
+
+    ghost gives = { λ operation x y q. (q < 2 ^ operation.field.degree)
+        × (y ≢ 0 → field_product operation.field.degree operation.field.tail q y ≡ x) × (y ≡ 0 → q ≡ 0) };
+
+    fn at(&self, x: u128, y: u128) -> u128 {
+        match self.field.divide(x, y) {
+            Some(quotient) => quotient,
+            None => 0,
+        }
     }
 }

@@ -1,14 +1,16 @@
 // Calls over slices of elements of a field that the caller chooses: modulo any irreducible polynomial of degree 1 to 128.
-ghost use Rattle.std.specs.Prelude.{◌≡◌, ◌^◌, ◌<◌, ◌↔◌, IfNone, IfSome, IsTrue};
-ghost use Rattle.any_field.specs.Contexts.{IsFieldModulus};
+ghost use Rattle.std.specs.Prelude.{◌≡◌, ◌^◌, ◌<◌, ◌↔◌, IfNone, IfSome, IsTrue, length};
+ghost use Rattle.field_base.specs.Powers.{dot_of, value_of};
+ghost use Rattle.any_field.specs.Contexts.{IsFieldModulus, field_product};
 ghost use Rattle.many_words.specs.Words.{AreElements};
-ghost use Rattle.c_calls.specs.Calls.{Adds, CallOnEach, CallOnTwo, Inverts, Multiplies, MultipliesBy, RaisesTo, Squares, TakesRoots};
-ghost use Rattle.c_calls.specs.ChosenFields.{NamesAField, OverField, PreparesField, TakesTraces};
+ghost use Rattle.c_calls.specs.Calls.{Adds, CallOnEach, CallOnTwo, Evaluates, Inverts, Multiplies, MultipliesBy};
+ghost use Rattle.c_calls.specs.Calls.{RaisesTo, Squares, TakesDotProduct, TakesRoots};
+ghost use Rattle.c_calls.specs.ChosenFields.{NamesAField, OverField, PreparesField, TakesQuotients, TakesTraces};
 ghost use Rattle.c_calls.specs.ChosenFields.{chosen_field, residue_field};
 ghost use Rattle.c_calls.specs.Fields.{wide_number};
 
 use crate::field_operations::{
-    AtOne, AtTwo, Inverted, Multiple, Raised, Rooted, Squared, Times, Together, Traced,
+    AtOne, AtTwo, Inverted, Multiple, Quotient, Raised, Rooted, Squared, Times, Together, Traced,
 };
 use crate::field_words::ChosenField;
 use crate::status;
@@ -105,6 +107,7 @@ fn write_at_two<O: AtTwo>(
     results: &mut [Wide],
     operation: &O,
 ) -> u32
+    requires { O.width operation.now ≡ field.degree }
     ensures { CallOnTwo (residue_field field.degree field.tail) (O.gives operation.now) left.now right.now results.old results.new result }
 {
     if left.len() != results.len() || right.len() != results.len() {
@@ -125,7 +128,7 @@ pub fn add(field: ChosenField, left: &[Wide], right: &[Wide], sums: &mut [Wide])
 {
     match field_of_words(field) {
         None => status::REDUCIBLE,
-        Some(found) => write_at_two(found, left, right, sums, &Together),
+        Some(found) => write_at_two(found, left, right, sums, &Together { field: found }),
     }
 }
 
@@ -172,6 +175,102 @@ fn write_multiples(
         scalar: number,
     };
     write_at_each(field, words, products, &operation)
+}
+
+/// Writes the quotient of the elements at each place, and 0 where the divisor is 0.
+pub fn divide(field: ChosenField, left: &[Wide], right: &[Wide], quotients: &mut [Wide]) -> u32
+    ensures { OverField field (TakesQuotients (chosen_field field) left.now right.now quotients.old quotients.new result)
+        quotients.old quotients.new result }
+{
+    match field_of_words(field) {
+        None => status::REDUCIBLE,
+        Some(found) => write_at_two(found, left, right, quotients, &Quotient { field: found }),
+    }
+}
+
+/// Writes the sum of the products of the elements at each place, which is 0 of none.
+pub fn dot_product(field: ChosenField, left: &[Wide], right: &[Wide], sum: &mut Wide) -> u32
+    ensures { OverField field (TakesDotProduct (chosen_field field) left.now right.now sum.old sum.new result) sum.old sum.new result }
+{
+    match field_of_words(field) {
+        None => status::REDUCIBLE,
+        Some(found) => write_dot_product(found, left, right, sum),
+    }
+}
+
+// Writes the sum of the products at each place.
+fn write_dot_product(field: BinaryExtension, left: &[Wide], right: &[Wide], sum: &mut Wide) -> u32
+    ensures { TakesDotProduct (residue_field field.degree field.tail) left.now right.now sum.old sum.new result }
+{
+    if left.len() != right.len() {
+        return status::LENGTH;
+    }
+    if !are_both_elements(field, left, right) {
+        return status::NOT_AN_ELEMENT;
+    }
+    *sum = Wide::of_stored(sum_of_products(field, left, right));
+    status::OK
+}
+
+// The sum of the products at each place.
+fn sum_of_products(field: BinaryExtension, left: &[Wide], right: &[Wide]) -> u128
+    requires { length left.now ≡ length right.now }
+    ensures { result ≡ dot_of (field_product field.degree field.tail) wide_number left.now right.now }
+{
+    let mut sum: u128 = 0;
+    for place in 0..left.len() {
+        sum ^= field.multiply(left[place].stored(), right[place].stored());
+    }
+    sum
+}
+
+/// Writes the value at each point of the polynomial with these coefficients, the constant one first.
+pub fn evaluate(
+    field: ChosenField,
+    coefficients: &[Wide],
+    points: &[Wide],
+    values: &mut [Wide],
+) -> u32
+    ensures { OverField field (Evaluates (chosen_field field) coefficients.now points.now values.old values.new result)
+        values.old values.new result }
+{
+    match field_of_words(field) {
+        None => status::REDUCIBLE,
+        Some(found) => write_values(found, coefficients, points, values),
+    }
+}
+
+// Writes the value at each point.
+fn write_values(
+    field: BinaryExtension,
+    coefficients: &[Wide],
+    points: &[Wide],
+    values: &mut [Wide],
+) -> u32
+    ensures { Evaluates (residue_field field.degree field.tail) coefficients.now points.now values.old values.new result }
+{
+    if points.len() != values.len() {
+        return status::LENGTH;
+    }
+    if !are_both_elements(field, coefficients, points) {
+        return status::NOT_AN_ELEMENT;
+    }
+    for place in 0..values.len() {
+        values[place] = Wide::of_stored(value_at(field, coefficients, points[place].stored()));
+    }
+    status::OK
+}
+
+// The value at a point, by Horner's rule.
+fn value_at(field: BinaryExtension, coefficients: &[Wide], point: u128) -> u128
+    requires { AreElements (residue_field field.degree field.tail) coefficients.now }
+    ensures { result ≡ value_of 1 (field_product field.degree field.tail) wide_number coefficients.now point }
+{
+    let mut value: u128 = 0;
+    for place in (0..coefficients.len()).rev() {
+        value = field.multiply(value, point) ^ coefficients[place].stored();
+    }
+    value
 }
 
 /// Writes the square of each element.
