@@ -70,6 +70,9 @@ pub use field_slices;
 // polynomials in many variables by their values at corners, in one by those at the first elements, and rounds of sum-check
 pub use field_slices as polynomials;
 
+// fields modulo any irreducible polynomial, which is chosen at run time
+pub use any_field;
+
 // universal hashes of two authenticated ciphers
 pub use tags;
 
