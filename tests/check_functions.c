@@ -7,7 +7,7 @@
 #include <stdlib.h>
 #include <string.h>
 
-enum { PARAMETERS = 7, FILL = 0xa5 };
+enum { PARAMETERS = 8, FILL = 0xa5 };
 
 /* One argument of a call: its bytes, at the end of a block. */
 struct buffer {
@@ -307,7 +307,11 @@ int main(int arguments, char **argument)
         struct parameter p[PARAMETERS];
         long n;
         int i;
-        for (i = 0; i < parameters && i < PARAMETERS; i++) {
+        if (parameters > PARAMETERS) {
+            fprintf(stderr, "check_functions: bf_%s has %d parameters, and there is room for %d\n", name, parameters, PARAMETERS);
+            return 2;
+        }
+        for (i = 0; i < parameters; i++) {
             unsigned long size, count;
             if (fscanf(file, "%7s %lu %d %lu", p[i].kind, &size, &p[i].cut, &count) != 4) {
                 fputs("check_functions: the file ends early\n", stderr);
