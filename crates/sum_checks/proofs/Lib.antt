@@ -3,6 +3,7 @@ mod ColumnSteps
 mod Refusals
 mod RoundValues
 pub mod Rows
+pub mod Runs
 pub mod Soundness
 mod SumcheckStatements
 mod SumcheckSteps

@@ -12,10 +12,10 @@ use Rattle.field_slices.specs.Multilinear.{folded, folded_all, on_line}
 use Rattle.field_slices.proofs.CubeLaws.{line-zero}
 use Rattle.std.specs.Simd.Lanes.{zip2}
 use Rattle.transcripts.specs.Lists.{InTurn}
-use Rattle.transcripts.specs.States.{GivesByState, LeadsByState}
-use Rattle.sum_checks.specs.Sumcheck.{AreTurns, IsTurn, messages_of, term_numbers}
+use Rattle.sum_checks.specs.Sumcheck.{AreTurns, messages_of, term_numbers}
 use Rattle.sum_checks.specs.SumcheckClaims.{AreHonestMessages, honest_message, message_at, node_values, reduced_claim}
 use Rattle.sum_checks.specs.Terms.{Product, cube_sum, honest_at}
+use Rattle.sum_checks.proofs.Runs.{messages-length, turns-length}
 
 -- ---- lists
 
@@ -49,11 +49,6 @@ numbers-more repr items pushed final x n ns rest is same others all =
 
 -- ---- messages
 
-pub messages-length : {F : Type 0} (d n : ℕ) (values : List F) → length (messages_of d n values) ≡ n
-unfolding messages_of
-messages-length d zero values = refl
-messages-length d (suc n) values = ap suc (messages-length d n (drop d values))
-
 -- one after the other they are read back
 pub messages-cons : {F : Type 0} (d n : ℕ) (message rest : List F) → length message ≡ d
     → messages_of d (suc n) (message ++ rest) ≡ message ∷ messages_of d n rest
@@ -64,14 +59,6 @@ messages-cons d n message rest long =
     (ap (λ (ms : List _). messages_of d n ms) (ap (λ (k : ℕ). drop k (message ++ rest)) (sym long) ∙ drop-append_seam message rest))
 
 module _ {C F : Type 0} (observes : C → F → C → Type 0) (gives : C → F → C → Type 0) where
-  -- there is a challenge for each message
-  pub turns-length : (gs : List (List F)) (rs : List F) (old new : C) → AreTurns observes gives old gs rs new → length rs ≡ length gs
-  unfolding AreTurns
-  turns-length [] [] old new turns = refl
-  turns-length [] (r ∷ rs) old new turns = absurd turns
-  turns-length (g ∷ gs) [] old new turns = absurd turns
-  turns-length (g ∷ gs) (r ∷ rs) old new turns = ap suc (turns-length gs rs turns.0 new turns.2)
-
   module _ (width : ℕ) (times : ℕ → ℕ → ℕ) (repr : F → ℕ) (d : ℕ) where
     -- ---- the verifier
 
@@ -144,7 +131,7 @@ module _ {C F : Type 0} (observes : C → F → C → Type 0) (gives : C → F �
           (subst (λ (vs : List ℕ). Proved after (suc m - 1) vs pushed messages' longer point' left' new) is_next so_far) in
           let all : messages_of d (suc m) (message ++ later.0) ≡ message ∷ messages_of d m later.0 = messages-cons d m message later.0 long in
           let rounds_left : m ≡ length (map repr later.1) =
-          sym (length-map later.1 repr ∙ turns-length (messages_of d m later.0) later.1 after new later.7 ∙ messages-length d m later.0) in (
+          sym (length-map later.1 repr ∙ turns-length observes gives (messages_of d m later.0) later.1 after new later.7 ∙ messages-length d m later.0) in (
             message ++ later.0,
             r ∷ later.1,
             later.2,
@@ -161,43 +148,6 @@ module _ {C F : Type 0} (observes : C → F → C → Type 0) (gives : C → F �
           longest : (rest : List F) → length (message ++ rest) ≡ length message + length rest → length rest ≡ m * d
               → length (message ++ rest) ≡ suc m * d
           longest rest joined short = joined ∙ ap₂ (λ (a b : ℕ). a + b) long short ∙ omega arith
-
-  -- ---- two runs that begin in one state
-
-  module _ {S : Type 0} (state : C → S) (observes_law : (value : F) → LeadsByState state (λ old new. observes old value new))
-      (gives_law : GivesByState state gives) where
-    pub observed-same : (xs : List F) (old new other_old other_new : C) → state old ≡ state other_old → InTurn observes xs old new
-        → InTurn observes xs other_old other_new → state new ≡ state other_new
-    unfolding InTurn
-    observed-same [] old new other_old other_new same is are = ap state is ∙ same ∙ sym (ap state are)
-    observed-same (x ∷ xs) old new other_old other_new same is are =
-        observed-same xs is.0 new are.0 other_new (observes_law x old is.0 other_old are.0 same is.1 are.1) is.2 are.2
-
-    turn-same : (old new other_old other_new : C) (g : List F) (r s : F) → state old ≡ state other_old
-        → IsTurn observes gives old g r new → IsTurn observes gives other_old g s other_new → (r ≡ s) × (state new ≡ state other_new)
-    turn-same old new other_old other_new g r s same is are =
-        gives_law is.0 new are.0 other_new r s (observed-same g old is.0 other_old are.0 same is.1 are.1) is.2 are.2
-
-    pub turns-same : (gs : List (List F)) (rs ss : List F) (old new other_old other_new : C) → state old ≡ state other_old
-        → AreTurns observes gives old gs rs new → AreTurns observes gives other_old gs ss other_new → rs ≡ ss
-    unfolding AreTurns
-    turns-same [] [] [] old new other_old other_new same is are = refl
-    turns-same [] [] (s ∷ ss) old new other_old other_new same is are = absurd are
-    turns-same [] (r ∷ rs) ss old new other_old other_new same is are = absurd is
-    turns-same (g ∷ gs) [] ss old new other_old other_new same is are = absurd is
-    turns-same (g ∷ gs) (r ∷ rs) [] old new other_old other_new same is are = absurd are
-    turns-same (g ∷ gs) (r ∷ rs) (s ∷ ss) old new other_old other_new same is are =
-        let first : (r ≡ s) × (state is.0 ≡ state are.0) = turn-same old is.0 other_old are.0 g r s same is.1 are.1 in
-        ap₂ (λ (x : F) (xs : List F). x ∷ xs) first.0 (turns-same gs rs ss is.0 new are.0 other_new first.1 is.2 are.2)
-
--- elements with the same numbers are the same
-pub elements-same : {F : Type 0} (repr : F → ℕ) → ((x y : F) → repr x ≡ repr y → x ≡ y) → (xs ys : List F) → map repr xs ≡ map repr ys → xs ≡ ys
-elements-same repr same [] [] are = refl
-elements-same repr same [] (y ∷ ys) are = let none = ap length are in absurd (omega (arith, none))
-elements-same repr same (x ∷ xs) [] are = let none = ap length are in absurd (omega (arith, none))
-elements-same repr same (x ∷ xs) (y ∷ ys) are =
-    ap₂ (λ (z : _) (zs : List _). z ∷ zs) (same x y (ap (λ (ns : List ℕ). slice_index ns 0) are))
-    (elements-same repr same xs ys (ap (λ (ns : List ℕ). drop 1 ns) are))
 
 -- ---- sizes
 

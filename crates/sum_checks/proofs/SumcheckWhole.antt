@@ -10,7 +10,8 @@ use Rattle.transcripts.specs.Lists.{InTurn}
 use Rattle.transcripts.specs.States.{GivesByState, LeadsByState}
 use Rattle.sum_checks.proofs.Rows.{even-length, folded-values, rows-twice, terms_value-same}
 use Rattle.sum_checks.proofs.Soundness.{honest_reduces}
-use Rattle.sum_checks.proofs.SumcheckSteps.{Proved, Verified, elements-same, messages-length, observed-same, turns-length, turns-same}
+use Rattle.sum_checks.proofs.Runs.{elements-same, messages-length, observed-same, turns-length, turns-same}
+use Rattle.sum_checks.proofs.SumcheckSteps.{Proved, Verified}
 use Rattle.sum_checks.proofs.TermSteps.{degree-most, degree-some}
 use Rattle.sum_checks.specs.Products.{term_product}
 use Rattle.sum_checks.specs.Sumcheck.{AreTurns, IsRunOf, Statement, messages_of, statement_numbers, statement_of}
@@ -121,9 +122,9 @@ module _ {C F : Type 0} (observes : C → F → C → Type 0) (gives : C → F �
 
       points : point ≡ other_point
       points =
-          turns-same observes gives state observes_law gives_law (messages_of (degree_of terms) rounds messages) point other_point run.1 new
+          (turns-same observes gives state observes_law gives_law (messages_of (degree_of terms) rounds messages) point other_point run.1 new
           other_run.1 other_new begun_same run.4
-          (subst (λ (xs : List F). AreTurns observes gives other_run.1 (messages_of (degree_of terms) rounds xs) other_point other_new) is_read other_run.4)
+          (subst (λ (xs : List F). AreTurns observes gives other_run.1 (messages_of (degree_of terms) rounds xs) other_point other_new) is_read other_run.4)).0
 
       long : length (map repr point) ≡ rounds
       long =

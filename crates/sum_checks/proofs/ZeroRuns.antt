@@ -14,7 +14,8 @@ use Rattle.sum_checks.specs.Terms.{Product, degree_of, table_value}
 use Rattle.sum_checks.specs.declared.terms.Term.{Term}
 use Rattle.sum_checks.specs.ZeroCheck.{eq_point, zero_check_entry, zero_check_rows, zero_check_terms, zero_check_value}
 use Rattle.sum_checks.specs.ZeroCheckRuns.{NeedsLuck, zero_check_row, zero_check_statement}
-use Rattle.sum_checks.proofs.SumcheckSteps.{message-long, messages-length, rest-long, turns-length}
+use Rattle.sum_checks.proofs.Runs.{messages-length, turns-length}
+use Rattle.sum_checks.proofs.SumcheckSteps.{message-long, rest-long}
 use Rattle.sum_checks.proofs.ZeroSums.{entry-value, false_zeros_need_luck, zeros_reduce}
 
 -- ---- terms
