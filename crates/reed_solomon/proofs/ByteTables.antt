@@ -1,5 +1,5 @@
 -- The tables of the bytes of erasure codes, each checked whole by computation, and the rule that each follows.
-use Rattle.std.proofs.Common.{◌≡◌, ◌≢◌, ℕ, ◌+◌, ◌%◌, ◌^◌, ◌<◌, Bool, true, eqb, drop, refl, sym, ◌∙◌, subst, arith, lit<, lit≤}
+use Rattle.std.proofs.Common.{◌≡◌, ◌≢◌, ℕ, ◌+◌, ◌-◌, ◌*◌, ◌/◌, ◌%◌, ◌^◌, ◌<◌, Bool, true, eqb, drop, length, refl, sym, ◌∙◌, ap, subst, arith, lit<, lit≤}
 use native.Mathlib.Nat.{mod-lt}
 use Rattle.std.proofs.lemmas.Bool.{eqb-true}
 use Rattle.std.specs.Prelude.{slice_index}
@@ -13,9 +13,10 @@ use Rattle.field_base.proofs.LogTables.{inverse_at, is_inverse, is_logarithm, is
 use Rattle.field_base.proofs.PowerLemmas.{repeated_square-mod}
 use Rattle.field_base.proofs.RemainderRing.{mul_mod_ring}
 use Rattle.field_base.proofs.RingLemmas.{times-mod}
-use Rattle.field_base.proofs.TableChecks.{passes, passes_at, repeats}
+use Rattle.field_base.proofs.TableChecks.{passes, passes_at, repeats, tabulates, tabulates_at}
 use Rattle.reed_solomon.specs.ErasureField.{erasure_modulus}
-use Rattle.reed_solomon.specs.declared.byte_field.literals.TheConstants.{EXP, INVERSES, LOG}
+use Rattle.reed_solomon.specs.Tables.{IsEntry}
+use Rattle.reed_solomon.specs.declared.byte_field.literals.TheConstants.{EXP, INVERSES, LOG, PRODUCTS}
 
 -- the polynomials modulo x^8 + x^4 + x^3 + x^2 + 1 are a ring
 ring : IsRing 8 1 (mul_mod 8 erasure_modulus)
@@ -28,6 +29,49 @@ ring = mul_mod_ring 8 erasure_modulus (lit< tt) refl
 pub products : AreLogTables (mul_mod 8 erasure_modulus) EXP LOG
 unfolding mul_mod rem rem_in carryless carryless_in repeats passes is_nothing is_logarithm
 products = log_tables (mul_mod 8 erasure_modulus) ring 2 EXP LOG (lit≤ tt) refl refl refl refl refl refl
+
+-- ---- products that are looked up by halves
+
+-- the product of s by n, or by 16 n
+abbrev product_of : ℕ → ℕ → ℕ → ℕ
+product_of s n high = mul_mod 8 erasure_modulus s (n * (1 + 15 * high))
+
+-- that which stands at a place
+abbrev product_at : ℕ → ℕ
+product_at p = product_of (p / 32) (p % 16) (p / 16 % 2)
+
+-- PRODUCTS has these (computed)
+products_pass : tabulates product_at PRODUCTS ≡ true
+unfolding mul_mod rem rem_in carryless carryless_in tabulates passes
+products_pass = refl
+
+-- the entry at a place, by its digits
+entry_is : (p s n high : ℕ) → p < 8192 → p / 32 ≡ s → p % 16 ≡ n → p / 16 % 2 ≡ high → slice_index PRODUCTS p ≡ product_of s n high
+entry_is p s n high inside of_s of_n of_high =
+    tabulates_at product_at PRODUCTS p products_pass inside
+    ∙ ap (λ (x : ℕ). product_of x (p % 16) (p / 16 % 2)) of_s
+    ∙ ap (λ (x : ℕ). product_of s x (p / 16 % 2)) of_n
+    ∙ ap (product_of s n) of_high
+
+pub products_long : length PRODUCTS ≡ 8192
+products_long = refl
+
+-- from 32 s on it has the entries of s
+pub products_at : (s n : ℕ) → s < 256 → n < 32 → IsEntry s n (slice_index PRODUCTS (32 * s + n))
+products_at s n byte inside =
+    record {
+      low =
+          λ below.
+          let single : n * (1 + 15 * 0) ≡ n = omega arith in
+          entry_is (32 * s + n) s n 0 (omega (arith, byte, inside)) (omega (arith, inside)) (omega (arith, below)) (omega (arith, below))
+          ∙ ap (mul_mod 8 erasure_modulus s) single;
+      high =
+          λ above.
+          let times : (n - 16) * (1 + 15 * 1) ≡ 16 * (n - 16) = omega arith in
+          entry_is (32 * s + n) s (n - 16) 1 (omega (arith, byte, inside)) (omega (arith, inside)) (omega (arith, above, inside))
+          (omega (arith, above, inside))
+          ∙ ap (mul_mod 8 erasure_modulus s) times;
+    }
 
 -- ---- inverses
 

@@ -4,7 +4,7 @@ ghost use Rattle.std.specs.Prelude.{◌≡◌, ◌≢◌};
 ghost use Rattle.field_base.specs.Field.{IsField};
 ghost use Rattle.reed_solomon.specs.ErasureField.{erasure_product};
 
-mod literals;
+pub(crate) mod literals;
 
 use field_base::byte_tables::entry;
 use field_base::log_tables::power_of_sum;

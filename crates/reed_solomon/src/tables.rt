@@ -1,8 +1,10 @@
 // The tables of the factors of up to four rows, by which shards are written four at once.
-ghost use Rattle.std.specs.Prelude.{◌≡◌, ◌≢◌, ◌+◌, ◌-◌, ◌*◌, ◌/◌, ◌%◌, ◌<◌, ◌≤◌, ℕ, length, slice_index};
+ghost use Rattle.std.specs.Prelude.{◌≡◌, ◌≢◌, ◌+◌, ◌*◌, ◌/◌, ◌%◌, ◌<◌, ◌≤◌, ℕ, length, slice_index};
+ghost use Rattle.std.specs.Simd.Lanes.{chunk};
 ghost use Rattle.reed_solomon.specs.Tables.{HasRow, IsEntry};
 
-use crate::byte_field::multiply;
+use crate::byte_field::literals::PRODUCTS;
+use std::simd::prelude::*;
 
 // Tables for all the shards that a code can have: shard j has four rows of 32 entries, from 128 j on. The field without bytes puts
 // them at a multiple of 16, so that no look-up reads from two lines of the cache.
@@ -32,21 +34,25 @@ pub(crate) fn set_row(entries: &mut [u8], row: usize, factors: &[u8; 256], count
     ensures others { (i : ℕ) → i / 32 % 4 ≢ row → slice_index entries.new i ≡ slice_index entries.old i }
     ensures long { length entries.new ≡ length entries.old }
 {
-    for i in 0..32 * count {
-        let n = i % 32;
-        entries[128 * (i / 32) + 32 * row + n] = entry(factors[i / 32], n);
+    for j in 0..count {
+        entries_of(factors[j]).copy_to_slice(&mut entries[128 * j + 32 * row..]);
     }
 }
 
-// Entry n of a factor's 32 entries.
-#[inline]
-fn entry(factor: u8, n: usize) -> u8
-    requires { n < 32 }
-    ensures { IsEntry factor n result }
+// A factor's 32 entries, as they stand in the table of all products.
+#[inline(always)]
+fn entries_of(factor: u8) -> u8x32
+    ensures long { length result ≡ 32 }
+    ensures entries { (n : ℕ) → n < 32 → IsEntry factor n (slice_index result n) }
 {
-    if n < 16 {
-        multiply(factor, n as u8)
-    } else {
-        multiply(factor, 16 * (n - 16) as u8)
-    }
+    bytes_at(&PRODUCTS, 32 * factor as usize)
+}
+
+// The 32 bytes from `start` on.
+#[inline(always)]
+fn bytes_at(bytes: &[u8], start: usize) -> u8x32
+    requires { start + 32 ≤ length bytes.now }
+    ensures { result ≡ chunk start 32 bytes.now }
+{
+    u8x32::from_slice(&bytes[start..])
 }
