@@ -1,15 +1,15 @@
 -- Values of polynomials by Horner's rule.
-use Rattle.std.proofs.Common.{◌≡◌, ℕ, suc, ◌+◌, ◌-◌, ◌*◌, ◌/◌, ◌%◌, ◌^◌, ◌≤◌, ◌<◌, sym, ◌∙◌, ap, ap₂, subst, arith}
+use Rattle.std.proofs.Common.{◌≡◌, ℕ, zero, suc, refl, ◌+◌, ◌-◌, ◌*◌, ◌/◌, ◌%◌, ◌^◌, ◌≤◌, ◌<◌, sym, ◌∙◌, ap, ap₂, subst, arith}
 use Rattle.std.specs.Prelude.{◌↔◌, IsTrue, bit_xor, nat_eq}
 use Rattle.std.proofs.lemmas.Bool.Decides.{Decides-eqb}
 use Rattle.std.proofs.lemmas.Nat.{pow-add, pow_pos, pow_below, xor_comm, xor_lt, shr-shr}
 use native.Mathlib.Nat.{mod-lt, mul-add-div_right, mul-add-mod_self_right}
 use Rattle.field_base.specs.Remainder.{HasDegree, mul_mod}
 use Rattle.field_base.proofs.CarrylessProduct.{bit_cases}
-use Rattle.any_field.specs.Values.{binary_value, IsEmbeddingOf, IsIsomorphismOf}
+use Rattle.any_field.specs.Values.{binary_value, binary_value_in, IsEmbeddingOf, IsIsomorphismOf}
 use Rattle.any_field.proofs.RootValues.{at-step, at-one, at-sum, roots_give_embeddings, roots_give_isomorphisms}
 use Rattle.any_field.specs.Contexts.{IsContext, HasNoFactors, field_product, with_top}
-use Rattle.field_base.proofs.RingLemmas.{xor_cancel}
+use Rattle.field_base.proofs.RingLemmas.{mod-times, xor_cancel}
 use Rattle.any_field.proofs.RatioSteps.{with_top-xor}
 use Rattle.any_field.proofs.WordRemainders.{top-degree, context-ring}
 use Rattle.any_field.proofs.ContextFields.{irreducible-of}
@@ -103,3 +103,19 @@ pub embedded : (w t r v u s b : ℕ) → IsContext w t r → IsContext v u s →
 embedded w t r v u s b context other none root =
     roots_give_embeddings v (with_top v u) w (field_product w t) b other.wide context.wide (top-degree v u other.tail_below)
     (irreducible-of (with_top v u) none) (context-ring w t r context) root
+
+-- a value reads the low bits of the point
+at-low-in : (w t r b low : ℕ) → IsContext w t r → low ≡ b % 2 ^ w → (fuel p : ℕ)
+    → binary_value_in fuel (field_product w t) low p ≡ binary_value_in fuel (field_product w t) b p
+unfolding binary_value_in
+at-low-in w t r b low context is zero p = refl
+at-low-in w t r b low context is (suc fuel) zero = refl
+at-low-in w t r b low context is (suc fuel) (suc p) =
+    ap (bit_xor (suc p % 2))
+    (ap₂ (field_product w t) is (at-low-in w t r b low context is fuel (suc p / 2))
+    ∙ mod-times w 1 (field_product w t) (context-ring w t r context) b (binary_value_in fuel (field_product w t) b (suc p / 2)))
+
+pub at-low : (w t r b low : ℕ) → IsContext w t r → low ≡ b % 2 ^ w → (p : ℕ)
+    → binary_value (field_product w t) low p ≡ binary_value (field_product w t) b p
+unfolding binary_value
+at-low w t r b low context is p = at-low-in w t r b low context is p p

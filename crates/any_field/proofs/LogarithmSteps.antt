@@ -1,13 +1,14 @@
 -- Powers of a base, one after another, until one is the element, is 1, or is 0.
-use Rattle.std.proofs.Common.{◌≡◌, ◌≢◌, ◌⊎◌, inl, inr, ℕ, zero, suc, ◌+◌, ◌-◌, ◌%◌, ◌^◌, ◌≤◌, ◌<◌, below_more, below_none, refl, sym, ◌∙◌, ap, arith}
+use Rattle.std.proofs.Common.{◌≡◌, ◌≢◌, ◌⊎◌, inl, inr, ℕ, zero, suc, ◌+◌, ◌-◌, ◌%◌, ◌^◌, ◌≤◌, ◌<◌, below_more, below_none, mul_comm, refl, sym, ◌∙◌, ap, arith}
 use Rattle.std.proofs.lemmas.Bool.{cases_eq}
 use Rattle.std.proofs.lemmas.Nat.{pow_below}
 use native.Mathlib.Nat.{mod-lt}
 use Rattle.field_base.specs.Field.{IsField}
 use Rattle.field_base.specs.Powers.{power}
-use Rattle.field_base.proofs.PowerLemmas.{power-add, power-one}
+use Rattle.field_base.proofs.PowerLemmas.{power-add, power-mul, power-one}
 use Rattle.field_base.proofs.RingLemmas.{times-mod, times-zero, zero-times}
-use Rattle.any_field.proofs.OrderFactors.{nonzero-order, periodic}
+use Rattle.any_field.specs.Orders.{IsOrder}
+use Rattle.any_field.proofs.OrderFactors.{multiple, nonzero-order, periodic}
 
 -- `now` is the power to the exponent; no power to a lower one is x, nor, but to 0, is 1
 pub record IsWalk (width : ℕ) (times : ℕ → ℕ → ℕ) (base x exponent now : ℕ) : Type 0 where
@@ -105,3 +106,21 @@ module _ (width : ℕ) (times : ℕ → ℕ → ℕ) (wide : 0 < width) (field :
       zero-case none (inr more) =
           other (none ∙ sym (zero-times width 1 times field.ring (power 1 times base more.0)) ∙ ap (λ (z : ℕ). times z (power 1 times base more.0)) (sym none ∙ walk.is)
           ∙ sym (power-add width 1 times field.ring one_fits base exponent more.0) ∙ ap (power 1 times base) more.1 ∙ is)
+
+-- ---- by the order of the base
+
+module _ (width : ℕ) (times : ℕ → ℕ → ℕ) (wide : 0 < width) (field : IsField width times) (base x order : ℕ) where
+  -- a power of the base is 1 to the order
+  pub no-power : power 1 times base order ≡ 1 → power 1 times x order ≢ 1 → (k : ℕ) → power 1 times base k ≢ x
+  no-power one other k is =
+      other (ap (λ (z : ℕ). power 1 times z order) (sym is) ∙ sym (power-mul width 1 times field.ring (pow_below 0 width wide) base k order)
+      ∙ ap (power 1 times base) (mul_comm k order) ∙ multiple width times field.ring (pow_below 0 width wide) base order k one)
+
+  -- no exponent below one that is below the order gives the same power, since the rest of the order would lead from that to 1 too early
+  pub least-logarithm : IsOrder times base order → (e : ℕ) → e < order → power 1 times base e ≡ x → (k : ℕ) → k < e → power 1 times base k ≢ x
+  least-logarithm is_order e below is k less same =
+      let whole : e + (order - e) ≡ order = omega (arith, below) in
+      is_order.least (k + (order - e)) (omega (arith, below)) (omega (arith, below, less))
+      (power-add width 1 times field.ring (pow_below 0 width wide) base k (order - e)
+      ∙ ap (λ (z : ℕ). times z (power 1 times base (order - e))) (same ∙ sym is)
+      ∙ sym (power-add width 1 times field.ring (pow_below 0 width wide) base e (order - e)) ∙ ap (power 1 times base) whole ∙ is_order.one)

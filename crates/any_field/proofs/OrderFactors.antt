@@ -134,7 +134,7 @@ module _ (width : ℕ) (times : ℕ → ℕ → ℕ) (ring : IsRing width 1 time
   one-power (suc n) = ap (λ (z : ℕ). times z 1) (one-power n) ∙ one-times width 1 times ring 1 one_fits
 
   -- a multiple of an exponent to which x is 1 is another
-  multiple : (m n : ℕ) → power 1 times x m ≡ 1 → power 1 times x (m * n) ≡ 1
+  pub multiple : (m n : ℕ) → power 1 times x m ≡ 1 → power 1 times x (m * n) ≡ 1
   multiple m n is = power-mul width 1 times ring one_fits x m n ∙ ap (λ (z : ℕ). power 1 times z n) is ∙ one-power n
 
   -- powers repeat from an exponent to which x is 1

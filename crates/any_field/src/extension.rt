@@ -4,9 +4,11 @@ ghost use Rattle.field_base.specs.Field.{IsField};
 ghost use Rattle.any_field.specs.Contexts.{HasNoFactors, IsContext, IsFieldModulus, field_product, with_top};
 
 mod embeddings;
+mod factored_logarithms;
 mod inverses;
 mod logarithms;
 mod minimal;
+mod multiples;
 mod orders;
 mod powers;
 mod roots;
@@ -15,6 +17,7 @@ mod subfields;
 mod values;
 
 pub use crate::extension::embeddings::Embedding;
+pub use crate::extension::multiples::Multiples;
 use crate::irreducible::is_irreducible;
 use crate::reduction::{low_bits, multiply, ratio_of, square};
 use thiserror::Error;

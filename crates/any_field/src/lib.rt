@@ -10,7 +10,7 @@ mod published;
 mod reduction;
 mod search;
 
-pub use crate::extension::{BinaryExtension, Embedding, NotIrreducible};
+pub use crate::extension::{BinaryExtension, Embedding, Multiples, NotIrreducible};
 pub use crate::irreducible::is_irreducible;
 pub use crate::search::{
     irreducible_pentanomial, irreducible_trinomial, is_field_modulus, next_irreducible,

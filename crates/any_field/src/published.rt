@@ -52,8 +52,25 @@ fn elements_of_the_field_of_aes(rt: HostRuntime) -> Result<(), NotIrreducible> {
     assert_eq!(rt; field.order(0), None);
     assert_eq!(rt; field.logarithm(2, 3), Some(25));
     assert_eq!(rt; field.logarithm(3, 2), None);
+    assert_eq!(rt; field.logarithm_by_factors(2, 3), Some(25));
+    assert_eq!(rt; field.logarithm_by_factors(3, 2), None);
     assert_eq!(rt; field.norm_to(3, 1), Some(1));
     assert_eq!(rt; field.trace_to(3, 3), None);
+    Ok(())
+}
+
+// An exponent of 48 bits is found by the factors of 2^48 - 1, of which the greatest is 673, and not by going along the powers.
+#[test]
+fn logarithms_are_found_by_factors(rt: HostRuntime) -> Result<(), NotIrreducible> {
+    let field = BinaryExtension::new(48, next_irreducible(48, 0).unwrap_or(0))?;
+    let base = field.primitive_element().unwrap_or(0);
+    let exponent: u128 = 0x9876_5432_10fe;
+    let power = field.power(base, exponent);
+    assert_eq!(rt; field.logarithm_by_factors(power, base), Some(exponent));
+    assert_eq!(rt;
+        field.logarithm_by_factors(base, field.power(base, 3)),
+        None
+    );
     Ok(())
 }
 

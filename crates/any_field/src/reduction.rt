@@ -102,6 +102,18 @@ fn times_bit(bit: u128, x: u128) -> u128
     if bit == 1 { x } else { 0 }
 }
 
+/// The product of an element and x, modulo x^width + tail.
+#[inline]
+pub(crate) fn times_x(width: u32, tail: u128, x: u128) -> u128
+    requires wide { 0 < width }
+    requires narrow { width ≤ 128 }
+    requires tail_fits { tail < 2 ^ width }
+    requires fits { x < 2 ^ width }
+    ensures { result ≡ rem width (with_top width tail) (x * 2) }
+{
+    low_bits(x << 1, width) ^ times_bit(x >> (width - 1), tail)
+}
+
 /// The terms of the quotient of x^(2 width) by x^width + tail, but for its highest, by long division.
 pub(crate) fn ratio_of(width: u32, tail: u128) -> u128
     requires wide { 0 < width }
@@ -112,9 +124,8 @@ pub(crate) fn ratio_of(width: u32, tail: u128) -> u128
     let mut ratio: u128 = 0;
     let mut rest = tail;
     for _ in 0..width {
-        let top = rest >> (width - 1);
-        rest = low_bits(rest << 1, width) ^ times_bit(top, tail);
-        ratio = (ratio << 1) ^ top;
+        ratio = (ratio << 1) ^ (rest >> (width - 1));
+        rest = times_x(width, tail, rest);
     }
     ratio
 }

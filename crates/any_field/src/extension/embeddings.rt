@@ -73,6 +73,15 @@ impl Embedding {
         Embedding::new(source, target, root)
     }
 
+    /// The element to which x of the source goes: a root of its modulus. A source of degree 1 has no x but 1.
+    pub fn root(self) -> u128
+        ensures element { result ≡ self.root % 2 ^ self.target.degree }
+        ensures root { binary_value (field_product self.target.degree self.target.tail) result
+            (with_top self.source.degree self.source.tail) ≡ 0 }
+    {
+        low_bits(self.root, self.target.degree)
+    }
+
     /// The image of an element: the value at the root of the polynomial that it is.
     pub fn image(self, x: u128) -> u128
         ensures { result ≡ binary_value (field_product self.target.degree self.target.tail) self.root (x % 2 ^ self.source.degree) }

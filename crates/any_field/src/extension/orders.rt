@@ -13,11 +13,11 @@ mod literals;
 use crate::extension::BinaryExtension;
 use crate::reduction::low_bits;
 
-// How many primes the table has.
-const COUNT: usize = 233;
+/// How many primes the table has.
+pub(crate) const COUNT: usize = 233;
 
-// The prime at a place of the table.
-fn prime_at(place: usize) -> u128
+/// The prime at a place of the table.
+pub(crate) fn prime_at(place: usize) -> u128
     requires { place < 233 }
     ensures entry { result ≡ slice_index PRIMES place }
     ensures above { 1 < result }

@@ -1,19 +1,17 @@
 // Many elements at once. Words are read by their low bits, as in single calls, and what is written are elements.
-ghost use Rattle.std.specs.Prelude.{◌≡◌, ◌≢◌, ◌*◌, ◌%◌, ◌^◌, ◌<◌, ℕ, length, map, slice_index};
+ghost use Rattle.std.specs.Prelude.{◌≡◌, ◌≢◌, ◌%◌, ◌^◌, ◌<◌, ℕ, length, map, slice_index};
 ghost use Rattle.std.specs.Simd.Lanes.{zip2};
 ghost use Rattle.field_base.specs.Field.{AreInverses};
 ghost use Rattle.field_base.specs.Powers.{dot_of, value_of};
 ghost use Rattle.field_slices.specs.Inverses.{nonzero_product};
-ghost use Rattle.word_tables.specs.LinearMap.{map_of};
 ghost use Rattle.any_field.specs.Contexts.{field_product};
 
 use crate::extension::BinaryExtension;
-use crate::reduction::{low_bits, power_of_x, reduce};
+use crate::reduction::{low_bits, reduce};
 use word_carryless::multiply_128;
-use word_tables::LinearMap;
 
-// From so many words on a table of the products by an element pays.
-const MAPPED: usize = 256;
+// From so many words on tables of the products by an element pay.
+const MAPPED: usize = 32;
 
 impl BinaryExtension {
     /// Multiplies each word by the other word at its place. Both slices have to be of one length.
@@ -26,15 +24,14 @@ impl BinaryExtension {
         }
     }
 
-    /// Multiplies each word by `scalar`: from some hundred words on by a table of 8,192 bytes of the linear map that it is.
+    /// Multiplies each word by `scalar`: from some tens of words on by tables of the linear map that it is.
     pub fn multiply_by(self, words: &mut [u128], scalar: u128)
         ensures { words.new ≡ map (λ x. field_product self.degree self.tail x scalar) words.old }
     {
         if words.len() < MAPPED {
             self.multiply_few_by(words, scalar);
         } else {
-            let by_scalar = LinearMap::new(&self.multiples_of(scalar));
-            self.apply_to(&by_scalar, words, scalar);
+            self.multiples(scalar).multiply(words);
         }
     }
 
@@ -44,28 +41,6 @@ impl BinaryExtension {
     {
         for place in 0..words.len() {
             words[place] = self.multiply(words[place], scalar);
-        }
-    }
-
-    // The products of the powers of x by an element.
-    fn multiples_of(self, scalar: u128) -> [u128; 128]
-        ensures length { length result ≡ 128 }
-        ensures each { (j : ℕ) → j < 128 → slice_index result j ≡ field_product self.degree self.tail (2 ^ j) scalar }
-    {
-        let mut multiples = [0; 128];
-        for place in 0..128u32 {
-            multiples[place as usize] = self.multiply(power_of_x(place), scalar);
-        }
-        multiples
-    }
-
-    // Applies the map that multiplies an element by `scalar` to each word.
-    fn apply_to(self, by_scalar: &LinearMap, words: &mut [u128], scalar: u128)
-        requires { (x : ℕ) → x < 2 ^ self.degree → map_of by_scalar.now x ≡ field_product self.degree self.tail x scalar }
-        ensures { words.new ≡ map (λ x. field_product self.degree self.tail x scalar) words.old }
-    {
-        for place in 0..words.len() {
-            words[place] = by_scalar.apply(low_bits(words[place], self.degree));
         }
     }
 
