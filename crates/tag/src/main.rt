@@ -5,9 +5,11 @@
 //! an error, which standard error then names, or 2 where the words are wrong.
 #![tactic(auto)]
 
+mod input;
 mod key;
 mod stream;
 
+use crate::input::Input;
 use crate::key::{Source, read_key};
 use crate::stream::hash;
 use anyhow::{Context, Result};
@@ -71,7 +73,8 @@ fn run(rt: &HostRuntime) -> Result<ExitCode> {
         return misused(rt, "the key is KEY, --key-file FILE or --key-variable NAME");
     };
     let key = read_key(rt, source)?;
-    let hash = hash(choice, &key, &mut rt.stdin()).context("reading standard input")?;
+    let mut input = Input::new(rt.stdin());
+    let hash = hash(choice, &key, &mut input).context("reading standard input")?;
     let text = hex::encode(rt.alloc(), hash.as_slice()).context("writing the hash")?;
     println!(rt; "{text}").context("writing the hash")?;
     Ok(ExitCode::SUCCESS)
