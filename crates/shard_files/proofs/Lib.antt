@@ -19,6 +19,7 @@ mod Scanned
 pub mod ShardPlaces
 mod Sizes
 mod Splits
+mod Splittable
 mod TransformCalls
 mod TransformWords
 mod WordLoops

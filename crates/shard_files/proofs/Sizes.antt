@@ -48,7 +48,7 @@ part_small bytes zero some = max-le some (subst (λ (n : ℕ). n ≤ bytes) (sym
 part_small bytes (suc each) some = part_least bytes (suc each) bytes some (let wide : bytes * suc each ≡ bytes * each + bytes = omega arith in omega (arith, wide))
 
 -- a part is no longer than a stripe may be, where as few stripes as hold the file are alike
-even_small : (k total bytes : ℕ) → even_size k total bytes ≤ 2 ^ 24
+pub even_small : (k total bytes : ℕ) → even_size k total bytes ≤ 2 ^ 24
 even_small zero total bytes =
     subst (λ (n : ℕ). n ≤ 2 ^ 24) (sym (ap (part_count bytes) (nothing (fewest_stripes zero total bytes)) ∙ none bytes)) (omega arith)
   where
@@ -80,6 +80,10 @@ even_small (suc k) total bytes =
 
     turned : (a b c : ℕ) → a * (b * c) ≤ b * (a * c)
     turned a b c = let same : a * (b * c) ≡ b * (a * c) = omega arith in omega (arith, same)
+
+-- nor is it empty
+pub even_some : (k total bytes : ℕ) → 1 ≤ even_size k total bytes
+even_some k total bytes = le-max_left 1 ((bytes + (fewest_stripes k total bytes * k - 1)) / (fewest_stripes k total bytes * k))
 
 -- what is computed by numbers of 64 bits that stop at the greatest
 pub even_size_is : (k total bytes parts most width stripes wide last result : ℕ) → bytes < 2 ^ 64

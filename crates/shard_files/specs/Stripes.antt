@@ -17,6 +17,11 @@ pub record IsPossible (origin : Origin) : Type 0 where
   pub small_size : origin.size ≤ 2 ^ 24
   pub small_length : origin.length ≤ 2 ^ 56
 
+-- a file of so many bytes can be split by the code of that number: there is one with so many shards, in stripes of whole words (of two bytes),
+-- and positions are numbers of 64 bits
+abbrev pub IsSplittable : ℕ → ℕ → ℕ → ℕ → Type 0
+IsSplittable code k m bytes = (0 < k) × (0 < m) × HasCode code k m 2 × (bytes ≤ 2 ^ 56)
+
 -- the least number of parts of `each` bytes, one at least, that hold so many bytes
 abbrev pub part_count : ℕ → ℕ → ℕ
 part_count bytes each = max 1 ((bytes + (each - 1)) / each)

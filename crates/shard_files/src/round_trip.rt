@@ -1,6 +1,7 @@
 // Bytes that are split into shards in memory, joined from those that are left, and repaired: the calls that programs make over the files of
 // a system, over files of which a contract can say what they hold.
-ghost use Rattle.std.specs.Prelude.{◌≡◌, ◌≢◌, ◌⊎◌, ℕ, List, ◌<◌, length, false, true, slice_index_or, IfErr, IfOk, IfSome};
+ghost use Rattle.std.specs.Prelude.{◌≡◌, ◌≢◌, ◌⊎◌, ◌↔◌, ◌^◌, ◌<◌, ◌≤◌, ℕ, List, length, false, true};
+ghost use Rattle.std.specs.Prelude.{slice_index_or, IfErr, IfOk, IfSome, IsSome};
 ghost use Rattle.sha2.specs.Sha256.{sha256};
 ghost use Rattle.shard_files.specs.declared.error.JoinError.TheVariants as join_error;
 ghost use Rattle.shard_files.specs.declared.error.RepairError.TheVariants.{Join, Split};
@@ -8,7 +9,7 @@ ghost use Rattle.shard_files.specs.declared.error.SplitError.TheVariants.{Change
 ghost use Rattle.shard_files.specs.Faults.{IsRepairFault};
 ghost use Rattle.shard_files.specs.Files.{AreShards, shard_file};
 ghost use Rattle.shard_files.specs.Memory.{AreEnough, AreFiles, FewAreLost, file_of, holdings_of};
-ghost use Rattle.shard_files.specs.Stripes.{shard_total};
+ghost use Rattle.shard_files.specs.Stripes.{IsSplittable, shard_total};
 
 use crate::error::{JoinError, RepairError, SplitError};
 use crate::head::Origin;
@@ -20,12 +21,13 @@ use crate::writing::write_shards;
 use sha2::{Digest, Sha256};
 use std::alloc::Global;
 
-/// The layout of the shards of bytes by the code of that number, where it has so many shards.
+/// The layout of the shards of bytes by the code of that number, exactly where it has so many shards and the bytes are at most 2^56.
 pub fn layout_of(code: u32, data_shards: u32, parity_shards: u32, content: &[u8]) -> Option<Layout>
     ensures counts { IfSome result (λ layout. (layout.origin.code ≡ code) × (layout.origin.data_shards ≡ data_shards)
         × (layout.origin.parity_shards ≡ parity_shards)) }
     ensures named { IfSome result (λ layout. (layout.origin.length ≡ length content.now)
         × (layout.origin.identity ≡ sha256 content.now)) }
+    ensures accepted { IsSome result ↔ IsSplittable code data_shards parity_shards (length content.now) }
 {
     let origin = Origin::of_file(
         code,
