@@ -118,13 +118,13 @@ reduced w t r low high above middle top quotient multiple spilled context fits a
         (ap (λ (z : ℕ). high * 2 ^ z) sum ∙ ap (λ (z : ℕ). high * z) (pow-add 2 (128 - w) w) ∙ sym (mul_assoc high (2 ^ (128 - w)) (2 ^ w)))
         ∙ mul-add-mod_self_right (high * 2 ^ (128 - w)) (2 ^ w) low)
 
--- ---- a width up to 64
+-- ---- a width up to that of a word
 
--- an element is a word of 64 bits
-pub word-fits : (w x : ℕ) → w ≤ 64 → x < 2 ^ w → x < 2 ^ 64
-word-fits w x narrow fits = lt_of_lt_of_le fits (pow_mono narrow)
+-- an element is a word of so many bits
+pub word-fits : (w n x : ℕ) → w ≤ n → x < 2 ^ w → x < 2 ^ n
+word-fits w n x narrow fits = lt_of_lt_of_le fits (pow_mono narrow)
 
-module _ (w t r p middle : ℕ) (context : IsContext w t r) (narrow : w ≤ 64) (fits : p < 2 ^ (w + w)) (middle_is : middle ≡ carryless (p / 2 ^ w) r) where
+module _ (w n t r p middle : ℕ) (context : IsContext w t r) (narrow : w ≤ n) (fits : p < 2 ^ (w + w)) (middle_is : middle ≡ carryless (p / 2 ^ w) r) where
   above-lt : p / 2 ^ w < 2 ^ w
   above-lt = shr_below p w w fits
 
@@ -133,8 +133,8 @@ module _ (w t r p middle : ℕ) (context : IsContext w t r) (narrow : w ≤ 64) 
       xor_lt w (p / 2 ^ w) (middle / 2 ^ w) above-lt
       (shr_below middle w w (product-fits (p / 2 ^ w) r w middle above-lt context.ratio_below (sym middle_is)))
 
-  pub quotient-word : bit_xor (p / 2 ^ w) (middle / 2 ^ w) < 2 ^ 64
-  quotient-word = word-fits w (bit_xor (p / 2 ^ w) (middle / 2 ^ w)) narrow quotient-lt
+  pub quotient-word : bit_xor (p / 2 ^ w) (middle / 2 ^ w) < 2 ^ n
+  quotient-word = word-fits w n (bit_xor (p / 2 ^ w) (middle / 2 ^ w)) narrow quotient-lt
 
   -- a double word without a high one
   alone : (x : ℕ) → 0 * 2 ^ 128 + x ≡ x
@@ -149,8 +149,8 @@ module _ (w t r p middle : ℕ) (context : IsContext w t r) (narrow : w ≤ 64) 
       (ap (λ (z : ℕ). bit_xor (p / 2 ^ w) (z / 2 ^ w)) (sym (alone middle))) (sym multiple_is ∙ sym (alone multiple))
       ∙ ap (rem w (with_top w t)) (alone p)
 
-pub above-word : (w p : ℕ) → w ≤ 64 → p < 2 ^ (w + w) → p / 2 ^ w < 2 ^ 64
-above-word w p narrow fits = word-fits w (p / 2 ^ w) narrow (shr_below p w w fits)
+pub above-word : (w n p : ℕ) → w ≤ n → p < 2 ^ (w + w) → p / 2 ^ w < 2 ^ n
+above-word w n p narrow fits = word-fits w n (p / 2 ^ w) narrow (shr_below p w w fits)
 
 pub multiplied : (w t x y p : ℕ) → t < 2 ^ w → x < 2 ^ w → y < 2 ^ w → carryless x y ≡ p
     → rem w (with_top w t) p ≡ mul_mod w (with_top w t) x y

@@ -6,7 +6,9 @@ ghost use Rattle.field_base.specs.Powers.{repeated_square};
 ghost use Rattle.field_base.specs.Remainder.{rem};
 ghost use Rattle.any_field.specs.Contexts.{IsContext, field_product, with_top};
 
-use word_carryless::{carryless_square_64, carryless_square_128, multiply_64, multiply_128};
+use word_carryless::{
+    carryless_square_64, carryless_square_128, multiply_32, multiply_64, multiply_128, spread_32,
+};
 
 /// The low `width` bits of a word.
 #[tactic(auto, using(crate::proofs::WordRemainders::low_bits_are))]
@@ -65,6 +67,20 @@ fn reduce_word(width: u32, tail: u128, ratio: u128, word: u128) -> u128
     low_bits(word ^ multiple, width)
 }
 
+// The same of half as many bits, for a width up to 32.
+fn reduce_half(width: u32, tail: u128, ratio: u128, word: u64) -> u128
+    requires context { IsContext width tail ratio }
+    requires narrow { width ≤ 32 }
+    requires fits { word < 2 ^ (width + width) }
+    ensures { result ≡ rem width (with_top width tail) word }
+{
+    let above = word >> width;
+    let middle = multiply_32(above as u32, ratio as u32);
+    let quotient = above ^ (middle >> width);
+    let multiple = multiply_32(quotient as u32, tail as u32);
+    low_bits((word ^ multiple) as u128, width)
+}
+
 /// The product of two elements modulo x^width + tail.
 pub(crate) fn multiply(width: u32, tail: u128, ratio: u128, x: u128, y: u128) -> u128
     requires context { IsContext width tail ratio }
@@ -72,6 +88,10 @@ pub(crate) fn multiply(width: u32, tail: u128, ratio: u128, x: u128, y: u128) ->
     requires y_fits { y < 2 ^ width }
     ensures { result ≡ field_product width tail x y }
 {
+    if width <= 32 {
+        let product = multiply_32(x as u32, y as u32);
+        return reduce_half(width, tail, ratio, product);
+    }
     if width <= 64 {
         let product = multiply_64(x as u64, y as u64);
         return reduce_word(width, tail, ratio, product);
@@ -86,6 +106,10 @@ pub(crate) fn square(width: u32, tail: u128, ratio: u128, x: u128) -> u128
     requires fits { x < 2 ^ width }
     ensures { result ≡ field_product width tail x x }
 {
+    if width <= 32 {
+        let product = spread_32(x as u32);
+        return reduce_half(width, tail, ratio, product);
+    }
     if width <= 64 {
         let product = carryless_square_64(x as u64);
         return reduce_word(width, tail, ratio, product);

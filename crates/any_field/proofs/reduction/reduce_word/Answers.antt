@@ -3,18 +3,18 @@ use Rattle.any_field.proofs.WordRemainders.{above-word, quotient-word, word-redu
 use Rattle.any_field.proofs.reduction.reduce_word.Goals as goal
 
 pub overflow_cast-above-2 : goal.overflow_cast-above-2
-overflow_cast-above-2 c = omega (arith, above-word c.args.width c.args.word c.requires.narrow c.requires.fits)
+overflow_cast-above-2 c = omega (arith, above-word c.args.width 64 c.args.word c.requires.narrow c.requires.fits)
 
 pub overflow_cast-quotient-2 : goal.overflow_cast-quotient-2
 overflow_cast-quotient-2 c =
     omega (
       arith,
-      quotient-word c.args.width c.args.tail c.args.ratio c.args.word c.multiply_64-middle.result c.requires.context c.requires.narrow
+      quotient-word c.args.width 64 c.args.tail c.args.ratio c.args.word c.multiply_64-middle.result c.requires.context c.requires.narrow
           c.requires.fits c.multiply_64-middle.ensures,
     )
 
 pub returns : goal.returns
 returns c =
     c.low_bits.ensures
-    ∙ word-reduced c.args.width c.args.tail c.args.ratio c.args.word c.multiply_64-middle.result c.requires.context c.requires.narrow
+    ∙ word-reduced c.args.width 64 c.args.tail c.args.ratio c.args.word c.multiply_64-middle.result c.requires.context c.requires.narrow
     c.requires.fits c.multiply_64-middle.ensures c.multiply_64-multiple.result c.multiply_64-multiple.ensures
