@@ -3,10 +3,15 @@
 use Rattle.std.specs.Prelude.{◌≡◌, ◌≢◌, ℕ, ◌<◌, List, length, slice_index}
 use Rattle.field_base.specs.Powers.{power}
 use Rattle.any_field.specs.Rabin.{IsPrime}
+use Rattle.any_field.specs.declared.extension.orders.literals.TheConstants.{PRIMES}
 
 -- each number of a list is prime
 abbrev pub ArePrime : List ℕ → Type 0
 ArePrime qs = (i : ℕ) → i < length qs → IsPrime (slice_index qs i)
+
+-- the numbers of the table of primes that divide 2^m - 1 for an m of 1 to 128 are prime
+abbrev pub TableIsPrime : Type 0
+TableIsPrime = ArePrime PRIMES
 
 -- e is the order of x: the least exponent above 0 to which its power is 1 (Lidl and Niederreiter, chapter 1)
 pub record IsOrder (times : ℕ → ℕ → ℕ) (x e : ℕ) : Type 0 where

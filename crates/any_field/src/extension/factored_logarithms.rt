@@ -3,8 +3,7 @@
 ghost use Rattle.std.specs.Prelude.{◌≡◌, ◌≢◌, ◌%◌, ◌^◌, ◌<◌, ℕ, IfNone, IfSome};
 ghost use Rattle.field_base.specs.Powers.{power};
 ghost use Rattle.any_field.specs.Contexts.{field_product};
-ghost use Rattle.any_field.specs.Orders.{ArePrime};
-ghost use Rattle.any_field.specs.declared.extension.orders.literals.TheConstants.{PRIMES};
+ghost use Rattle.any_field.specs.Orders.{TableIsPrime};
 
 use crate::extension::BinaryExtension;
 use crate::extension::orders::{COUNT, prime_at};
@@ -17,7 +16,7 @@ impl BinaryExtension {
     /// does.
     pub fn logarithm_by_factors(self, x: u128, base: u128) -> Option<u128>
         ensures found { IfSome result (λ e. power 1 (field_product self.degree self.tail) base e ≡ x % 2 ^ self.degree) }
-        ensures least { IfSome result (λ e. ArePrime PRIMES → (k : ℕ) → k < e
+        ensures least { IfSome result (λ e. TableIsPrime → (k : ℕ) → k < e
             → power 1 (field_product self.degree self.tail) base k ≢ x % 2 ^ self.degree) }
         ensures none { IfNone result ((k : ℕ) → power 1 (field_product self.degree self.tail) base k ≢ x % 2 ^ self.degree) }
     {

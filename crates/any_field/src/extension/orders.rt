@@ -5,7 +5,7 @@ ghost use Rattle.std.specs.Prelude.{◌≡◌, ◌≢◌, ◌/◌, ◌%◌, ◌^
 ghost use Rattle.field_base.specs.Orders.{HasFullOrder};
 ghost use Rattle.field_base.specs.Powers.{power};
 ghost use Rattle.any_field.specs.Contexts.{field_product};
-ghost use Rattle.any_field.specs.Orders.{ArePrime, IsOrder};
+ghost use Rattle.any_field.specs.Orders.{IsOrder, TableIsPrime};
 ghost use Rattle.any_field.specs.declared.extension.orders.literals.TheConstants.{PRIMES};
 
 mod literals;
@@ -30,7 +30,7 @@ impl BinaryExtension {
     /// is never refused; that others are rests on the primality of the numbers in a table, of which scripts/make-tables has a test.
     pub fn is_primitive(self, x: u128) -> bool
         ensures complete { HasFullOrder self.degree (field_product self.degree self.tail) x → IsTrue result }
-        ensures sound { ArePrime PRIMES → IsTrue result → HasFullOrder self.degree (field_product self.degree self.tail) x }
+        ensures sound { TableIsPrime → IsTrue result → HasFullOrder self.degree (field_product self.degree self.tail) x }
     {
         if low_bits(x, self.degree) == 0 {
             return false;
@@ -56,7 +56,7 @@ impl BinaryExtension {
     /// has none. That no lower exponent is one rests on the table, as `is_primitive` does.
     pub fn order(self, x: u128) -> Option<u128>
         ensures one { IfSome result (λ e. (0 < e) × (power 1 (field_product self.degree self.tail) x e ≡ 1)) }
-        ensures order { IfSome result (λ e. ArePrime PRIMES → IsOrder (field_product self.degree self.tail) x e) }
+        ensures order { IfSome result (λ e. TableIsPrime → IsOrder (field_product self.degree self.tail) x e) }
         ensures none { IfNone result (x % 2 ^ self.degree ≡ 0) }
         ensures some { IfSome result (λ e. x % 2 ^ self.degree ≢ 0) }
     {
@@ -90,7 +90,7 @@ impl BinaryExtension {
 
     /// The least primitive element, where it is below 65,536, as it is for every field that has been looked at.
     pub fn primitive_element(self) -> Option<u128>
-        ensures primitive { IfSome result (λ g. ArePrime PRIMES → HasFullOrder self.degree (field_product self.degree self.tail) g) }
+        ensures primitive { IfSome result (λ g. TableIsPrime → HasFullOrder self.degree (field_product self.degree self.tail) g) }
         ensures least { IfSome result (λ g. (y : ℕ) → y < g → HasFullOrder self.degree (field_product self.degree self.tail) y → ⊥) }
         ensures none { IfNone result ((y : ℕ) → y < 65536 → HasFullOrder self.degree (field_product self.degree self.tail) y → ⊥) }
     {
