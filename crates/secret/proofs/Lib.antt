@@ -1,3 +1,4 @@
 mod ShareLines
 mod Entries
+mod OneReading
 mod TextRecords

@@ -32,7 +32,7 @@ more_lines field needed identity size shares i text next bytes entry share so_fa
     ∙ ap (lines_of field needed identity size shares) (sym (add-one i))
 
 -- a sum has 8 bytes
-sum-length : (entry : List ℕ) → length (check_sum entry) ≡ 8
+pub sum-length : (entry : List ℕ) → length (check_sum entry) ≡ 8
 sum-length entry =
     let all = length-sha256 entry in let some = length-take 8 (sha256 entry) in omega (arith, all, some)
 
@@ -76,11 +76,10 @@ never : (x : Result (List ℕ) FromHexError) (a : List ℕ) (e : FromHexError) �
 never x a e is failed = cc
 
 -- a line that is not decoded says no record, unless memory was refused
-pub undecoded : (line digits : List ℕ) (e : FromHexError) (fault : LineFault) → digits ≡ drop 8 line → (fault ≡ Memory) ⊎ (e ≢ OutOfMemory)
+pub undecoded : (line digits : List ℕ) (e : FromHexError) (fault : LineFault) → digits ≡ drop 8 line → (e ≡ OutOfMemory → fault ≡ Memory)
     → (e ≡ OutOfMemory) ⊎ (decode_of digits ≡ Err e) → fault ≢ Memory → (entry : List ℕ) → SaysRecord line entry → ⊥
-undecoded line digits e fault digits_are (inl memory) failed other = absurd (other memory)
-undecoded line digits e fault digits_are (inr not_memory) (inl memory) other = absurd (not_memory memory)
-undecoded line digits e fault digits_are (inr not_memory) (inr failed) other =
+undecoded line digits e fault digits_are is_memory (inl memory) other = absurd (other (is_memory memory))
+undecoded line digits e fault digits_are is_memory (inr failed) other =
     λ entry says. never (decode_of digits) (entry ++ check_sum entry) e (ap decode_of digits_are ∙ says.said) failed
 
 -- nor does one whose bytes have no end

@@ -1,5 +1,5 @@
 -- A share as bytes, its record, and as a line of text.
-use Rattle.std.specs.Prelude.{◌≡◌, ℕ, zero, suc, ◌+◌, ◌*◌, ◌<◌, List, [], ◌∷◌, ◌++◌, Ok, codes, drop, length, take}
+use Rattle.std.specs.Prelude.{◌≡◌, ℕ, zero, suc, ◌+◌, ◌*◌, ◌<◌, List, [], ◌∷◌, ◌++◌, Ok, codes, drop, length, slice_index, take}
 use Rattle.hex.specs.Hex.{decode_of, encode_lower}
 use Rattle.sha2.specs.Sha256.{sha256}
 use Rattle.secret_sharing.specs.declared.field.ShareField.{ShareField}
@@ -9,6 +9,10 @@ use Rattle.secret_sharing.specs.declared.field.ShareField.TheVariants.{Gfshare, 
 abbrev pub number_of : ShareField → ℕ
 number_of Rijndael = 0x1b
 number_of Gfshare = 0x1d
+
+-- a record names a field that there is
+abbrev pub HasField : List ℕ → Type 0
+HasField entry = (field : ShareField) × (number_of field ≡ slice_index entry 0)
 
 -- the record: the number of the field, how many shares are needed, the index, 8 bytes of the set, and the share
 abbrev pub record_of : ShareField → ℕ → ℕ → List ℕ → List ℕ → List ℕ

@@ -1,8 +1,8 @@
 -- The records that the lines of a text say, and what is gathered of them.
-use Rattle.std.specs.Prelude.{◌≡◌, ◌⊎◌, ℕ, ◌<◌, List, [], ◌∷◌, ◌++◌, All, drop, length, map, slice_index, take}
+use Rattle.std.specs.Prelude.{◌≡◌, ◌≢◌, ◌⊎◌, ℕ, ◌<◌, List, [], ◌∷◌, ◌++◌, All, drop, length, map, slice_index, take}
 use Rattle.std.specs.List.{flat_map}
 use Rattle.secret.specs.Combining.{IsSecretOf}
-use Rattle.secret.specs.Records.{SaysRecord}
+use Rattle.secret.specs.Records.{HasField, SaysRecord}
 
 -- only line feeds
 abbrev pub AreFeeds : List ℕ → Type 0
@@ -12,9 +12,13 @@ AreFeeds = All (λ b. b ≡ 10)
 abbrev pub EndsLine : List ℕ → Type 0
 EndsLine rest = (rest ≡ []) ⊎ ((more : List ℕ) × (rest ≡ 10 ∷ more))
 
+-- no line feed
+abbrev pub HasNoFeed : List ℕ → Type 0
+HasNoFeed = All (λ b. b ≢ 10)
+
 -- the first line of a text, and what stands behind its line feed, if it has one
 abbrev pub CutsLine : List ℕ → List ℕ → List ℕ → Type 0
-CutsLine text line rest = (text ≡ line ++ 10 ∷ rest) ⊎ ((text ≡ line) × (rest ≡ []))
+CutsLine text line rest = HasNoFeed line × ((text ≡ line ++ 10 ∷ rest) ⊎ ((text ≡ line) × (rest ≡ [])))
 
 -- the lines of a text that are not empty say these records
 unfoldable pub TextSays : List ℕ → List (List ℕ) → Type 0
@@ -34,6 +38,11 @@ pub record AreOfSet (first entry : List ℕ) : Type 0 where
   pub same_length : length first ≡ length entry
   pub same_head : take 2 first ≡ take 2 entry
   pub same_set : take 8 (drop 3 first) ≡ take 8 (drop 3 entry)
+
+-- records are of one set, in a field that there is
+pub record AreOneSet (entries : List (List ℕ)) : Type 0 where
+  pub of_set : All (AreOfSet (first_of entries)) entries
+  pub fields : All HasField entries
 
 -- what is gathered of records of one set: the first, and the indexes and the shares of all
 pub record AreGathered (entries : List (List ℕ)) (first indexes shares : List ℕ) : Type 0 where

@@ -1,4 +1,7 @@
 // Why no secret is combined.
+ghost use Rattle.std.specs.Prelude.{◌≡◌};
+ghost use Rattle.secret.specs.declared.fault.Fault.TheVariants.{Memory};
+
 use secret_sharing::SharingError;
 use std::alloc::{AllocError, AllocFailed};
 use thiserror::Error;
@@ -27,12 +30,16 @@ pub(crate) enum Fault {
 }
 
 impl From<AllocError> for Fault {
+    ghost from_gives = { λ _ fault. fault ≡ Memory };
+
     fn from(_error: AllocError) -> Fault {
         Fault::Memory
     }
 }
 
 impl<T: Drop> From<AllocFailed<T>> for Fault {
+    ghost from_gives = { λ _ fault. fault ≡ Memory };
+
     fn from(_error: AllocFailed<T>) -> Fault {
         Fault::Memory
     }

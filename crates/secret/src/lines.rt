@@ -87,7 +87,7 @@ fn has_sum(entry: &[u8], sum: &[u8]) -> bool
 
 // Why digits are not decoded.
 fn fault_of(error: FromHexError) -> LineFault
-    ensures { (result ≡ Memory) ⊎ (error ≢ OutOfMemory) }
+    ensures { (result ≡ Memory) ↔ (error ≡ OutOfMemory) }
 {
     if error == FromHexError::OutOfMemory {
         LineFault::Memory
@@ -122,6 +122,7 @@ pub(crate) fn read_record(alloc: Global, line: &[u8]) -> Result<Vec<u8>, LineFau
 fn end_of(bytes: &[u8]) -> Result<usize, LineFault>
     ensures whole { IfOk result (IsEnd bytes.now) }
     ensures refused { IfErr result (λ fault. (end : ℕ) → IsEnd bytes.now end → ⊥) }
+    ensures known { IfErr result (λ fault. fault ≢ Memory) }
 {
     if bytes.len() <= HEAD + SUM {
         return Err(LineFault::NoShare);

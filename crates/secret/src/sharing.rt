@@ -1,10 +1,14 @@
 // Text of shares from a secret, and a secret from text of shares.
-ghost use Rattle.std.specs.Prelude.{◌≡◌, ◌≢◌, ◌-◌, ◌*◌, ◌<◌, ◌≤◌, ◌++◌, ℕ, List, [], ◌∷◌, length, slice_index};
-ghost use Rattle.std.specs.Prelude.{string_bytes, IfOk, IsTrue, MatchOption, OnOk};
+ghost use Rattle.std.specs.Prelude.{◌≡◌, ◌≢◌, ◌⊎◌, ◌↔◌, ◌+◌, ◌-◌, ◌*◌, ◌<◌, ◌≤◌, ◌++◌, ℕ, List, [], ◌∷◌, length, slice_index};
+ghost use Rattle.std.specs.Prelude.{string_bytes, IfErr, IfOk, IsTrue, MatchOption, OnOk};
 ghost use Rattle.error_codes.specs.Filling.{is_marked};
 ghost use Rattle.secret.specs.Combining.{entries_at, IsSecretOf};
-ghost use Rattle.secret.specs.Records.{lines_of, number_of};
-ghost use Rattle.secret.specs.Texts.{AreGathered, AreOfSet, CutsLine, IsSecretOfText, TextSays};
+ghost use Rattle.secret.specs.Records.{HasField, lines_of, number_of};
+ghost use Rattle.secret.specs.Texts.{AreGathered, AreOfSet, AreOneSet, CutsLine, IsSecretOfText, TextSays};
+ghost use Rattle.secret.specs.declared.fault.Fault.TheVariants.{Memory, Mistyped, NoShare, Sharing};
+ghost use Rattle.secret.specs.declared.lines.LineFault.TheVariants as line_fault;
+ghost use Rattle.secret_sharing.specs.Refusals.{RefusesSplit};
+ghost use Rattle.secret_sharing.specs.declared.error.SharingError.{SharingError};
 ghost use Rattle.secret_sharing.specs.Sharing.{AreSplit};
 ghost use Rattle.secret_sharing.specs.declared.field.ShareField.{ShareField};
 
@@ -16,17 +20,20 @@ use memchr::memchr;
 use secret_sharing::{ShareField, combine_correcting, split};
 use std::alloc::{AllocError, Global};
 
-/// The lines of the shares of a secret.
+/// The lines of the shares of a secret. It fails where memory is refused, or where `split` of `secret_sharing` does, with its error.
 pub(crate) fn split_text(
     alloc: Global,
     choice: &Choice,
     secret: &[u8],
     drawn: &Drawn,
 ) -> Result<String, Fault>
-    ensures { IfOk result (λ text. (shares : List ℕ)
+    ensures said { IfOk result (λ text. (shares : List ℕ)
         × AreSplit choice.now.field (choice.now.needed - 1) choice.now.count secret.now drawn.now.coefficients.items shares
         × (length shares ≡ choice.now.count * length secret.now)
         × (string_bytes text ≡ lines_of choice.now.field choice.now.needed drawn.now.identity (length secret.now) shares choice.now.count)) }
+    ensures refused { IfErr result (λ fault. (fault ≡ Memory) ⊎ ((error : SharingError) × (fault ≡ Sharing error)
+        × RefusesSplit choice.now.needed choice.now.count (length secret.now) (length drawn.now.coefficients.items)
+        (choice.now.count * length secret.now) error)) }
 {
     let mut shares = rows_of_zeros(alloc, choice.count as usize, secret.len())?;
     let done = split(
@@ -93,9 +100,11 @@ pub(crate) struct Restored {
     pub(crate) wrong: Vec<u8>,
 }
 
-/// The secret of the shares that the lines of a text say. Empty lines are passed over.
+/// The secret of the shares that the lines of a text say. Empty lines are passed over. It fails where memory is refused, and else only
+/// where the text has no secret.
 pub(crate) fn combine_text(alloc: Global, text: &[u8]) -> Result<Restored, Fault>
-    ensures { IfOk result (λ answer. IsSecretOfText text.now answer.secret.items answer.wrong.items) }
+    ensures restored { IfOk result (λ answer. IsSecretOfText text.now answer.secret.items answer.wrong.items) }
+    ensures refused { IfErr result (λ fault. fault ≢ Memory → (secret wrong : List ℕ) → IsSecretOfText text.now secret wrong → ⊥) }
 {
     let mut shares = Gathered {
         first: Vec::new(alloc),
@@ -124,8 +133,11 @@ fn gather(alloc: Global, text: &[u8], shares: &mut Gathered) -> Result<(), Fault
     requires first { shares.old.first.items ≡ [] }
     requires indexes { shares.old.indexes.items ≡ [] }
     requires bytes { shares.old.bytes.items ≡ [] }
-    ensures { OnOk result ((entries : List (List ℕ)) × TextSays text.now entries
-        × AreGathered entries shares.new.first.items shares.new.indexes.items shares.new.bytes.items) }
+    ensures gathered { OnOk result ((entries : List (List ℕ)) × TextSays text.now entries
+        × AreGathered entries shares.new.first.items shares.new.indexes.items shares.new.bytes.items
+        × ((others : List (List ℕ)) → TextSays text.now others → others ≡ entries)) }
+    ensures refused { IfErr result (λ fault. fault ≢ Memory
+        → (entries : List (List ℕ)) → TextSays text.now entries → AreOneSet entries → ⊥) }
 {
     let mut rest = text;
     let mut number = 0;
@@ -158,7 +170,11 @@ fn cut_line(text: &[u8]) -> (&[u8], &[u8])
 }
 
 // What is wrong with a line.
-fn fault_in(fault: LineFault, number: usize) -> Fault {
+fn fault_in(fault: LineFault, number: usize) -> Fault
+    ensures memory { fault ≡ line_fault.Memory → result ≡ Memory }
+    ensures mistyped { fault ≡ line_fault.Mistyped → result ≡ Mistyped number }
+    ensures no_share { fault ≡ line_fault.NoShare → result ≡ NoShare number }
+{
     match fault {
         LineFault::NoShare => Fault::NoShare(number),
         LineFault::Mistyped => Fault::Mistyped(number),
@@ -168,11 +184,14 @@ fn fault_in(fault: LineFault, number: usize) -> Fault {
 
 // Puts the share of a record to the others, if it is of their set.
 fn put_record(entry: &[u8], number: usize, shares: &mut Gathered) -> Result<(), Fault>
-    ensures { OnOk result ((entries : List (List ℕ))
+    ensures put { OnOk result ((entries : List (List ℕ))
         → AreGathered entries shares.old.first.items shares.old.indexes.items shares.old.bytes.items
         → AreGathered (entries ++ entry.now ∷ []) shares.new.first.items shares.new.indexes.items shares.new.bytes.items) }
+    ensures refused { IfErr result (λ fault. fault ≢ Memory → (entries more : List (List ℕ))
+        → AreGathered entries shares.old.first.items shares.old.indexes.items shares.old.bytes.items
+        → AreOneSet (entries ++ entry.now ∷ more) → ⊥) }
 {
-    if entry.len() <= HEAD || field_of(entry[0]).is_none() {
+    if !is_of_field(entry) {
         return Err(Fault::NoShare(number));
     }
     if shares.first.is_empty() {
@@ -186,9 +205,16 @@ fn put_record(entry: &[u8], number: usize, shares: &mut Gathered) -> Result<(), 
     Ok(())
 }
 
+// Whether bytes are a record with a share, of a field that there is.
+fn is_of_field(entry: &[u8]) -> bool
+    ensures { IsTrue result ↔ ((11 < length entry.now) × HasField entry.now) }
+{
+    HEAD < entry.len() && field_of(entry[0]).is_some()
+}
+
 // Whether two records are of one set: all but the index and the share is the same, and the shares are of one length.
 fn is_of_set(first: &[u8], entry: &[u8]) -> bool
-    ensures { IsTrue result → AreOfSet first.now entry.now }
+    ensures { IsTrue result ↔ AreOfSet first.now entry.now }
 {
     first.len() == entry.len()
         && HEAD < entry.len()
@@ -209,8 +235,10 @@ fn field_of(number: u8) -> Option<ShareField>
 
 // The secret of shares, and those that are wrong.
 fn combined(alloc: Global, shares: &Gathered) -> Result<Restored, Fault>
-    ensures { IfOk result (λ answer. IsSecretOf shares.now.first.items shares.now.indexes.items shares.now.bytes.items
+    ensures restored { IfOk result (λ answer. IsSecretOf shares.now.first.items shares.now.indexes.items shares.now.bytes.items
         answer.secret.items answer.wrong.items) }
+    ensures refused { IfErr result (λ fault. fault ≢ Memory → (secret wrong : List ℕ) → length shares.now.first.items ≡ 11 + length secret
+        → IsSecretOf shares.now.first.items shares.now.indexes.items shares.now.bytes.items secret wrong → ⊥) }
 {
     let first = shares.first.as_slice();
     if first.len() <= HEAD {
@@ -245,6 +273,8 @@ fn combine_into(
     ensures few { IfOk result (λ marks. length indexes.now ≤ 255) }
     ensures written { IfOk result (λ marks. IsSecretOf first.now indexes.now bytes.now secret.new
         (entries_at (is_marked marks) indexes.now (length indexes.now))) }
+    ensures refused { IfErr result (λ fault. (other wrong : List ℕ) → length other ≡ length secret.old
+        → IsSecretOf first.now indexes.now bytes.now other wrong → ⊥) }
 {
     let Some(field) = field_of(first[0]) else {
         return Err(Fault::Nothing);

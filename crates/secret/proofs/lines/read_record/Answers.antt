@@ -6,7 +6,7 @@ use Rattle.secret.proofs.lines.read_record.Goals as goal
 
 pub returns-in-Err-clause-refused : goal.returns-in-Err-clause-refused
 returns-in-Err-clause-refused c =
-    undecoded c.args.line.now c.split_at-parts.result.1.now c.in-Err.error c.fault_of.result c.split_at-parts.ensures.back c.fault_of.ensures
+    undecoded c.args.line.now c.split_at-parts.result.1.now c.in-Err.error c.fault_of.result c.split_at-parts.ensures.back c.fault_of.ensures.1
     c.in-Err.ensures.err
 
 pub returns-in_err-end-clause-refused : goal.returns-in_err-end-clause-refused
