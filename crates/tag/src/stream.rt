@@ -20,7 +20,8 @@ const PIECE: usize = 32768;
 pub fn hash<R: Read>(choice: Choice, key: &[u8; 16], input: &mut Input<R>) -> Result<[u8; 16]>
     ensures ok { IfOk result
         (HashesAll (hash_named choice key.now) (R.remaining (input_reader input.old)) (R.remaining (input_reader input.new))) }
-    ensures err { OnErr result ((read : List ℕ) × Consumes (R.remaining (input_reader input.old)) (R.remaining (input_reader input.new)) read) }
+    ensures err { OnErr result ((read : List ℕ)
+        × Consumes (R.remaining (input_reader input.old)) (R.remaining (input_reader input.new)) read) }
     ensures failed { OnErr result (input_failed input.new ≡ true) }
     ensures retried { IfErr result (λ error. error_kind error ≢ ErrorKind.Interrupted) }
 {
@@ -37,7 +38,8 @@ fn hash_all<H: UniversalHash + Drop, R: Read>(
 ) -> Result<[u8; 16]>
     ensures ok { IfOk result (HashesAll (λ message. H.hash key.now (blocks_of message))
         (R.remaining (input_reader input.old)) (R.remaining (input_reader input.new))) }
-    ensures err { OnErr result ((read : List ℕ) × Consumes (R.remaining (input_reader input.old)) (R.remaining (input_reader input.new)) read) }
+    ensures err { OnErr result ((read : List ℕ)
+        × Consumes (R.remaining (input_reader input.old)) (R.remaining (input_reader input.new)) read) }
     ensures failed { OnErr result (input_failed input.new ≡ true) }
     ensures retried { IfErr result (λ error. error_kind error ≢ ErrorKind.Interrupted) }
 {
