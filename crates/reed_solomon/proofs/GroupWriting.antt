@@ -93,20 +93,25 @@ apart_places size a b different =
     below : b ≤ a → b < a
     below up = omega (arith, up, different)
 
+-- nor do the columns of shards
+pub columns_apart : (size column width a b : ℕ) → column + width ≤ size → AreApart size (a * size) (b * size)
+    → AreApart width (a * size + column) (b * size + column)
+columns_apart size column width a b fits apart =
+    elim apart [ inl low ↦ inl (omega (arith, low, fits)) | inr high ↦ inr (omega (arith, high, fits)) ]
+
 -- ---- groups of shards
 
 -- rows behind the rows that are written
-pub rows_joined : (value : ℕ → ℕ → ℕ) (spot : ℕ → ℕ) (size all : ℕ) → ((s t : ℕ) → s < t → t < all → spot t ≢ spot s)
+pub rows_behind : (value : ℕ → ℕ → ℕ) (place : ℕ → ℕ) (width all : ℕ) → ((s t : ℕ) → s < t → t < all → AreApart width (place t) (place s))
     → (reached done n next : ℕ) (old mid now : List ℕ) → reached ≡ done → next ≡ done + n → done + n ≤ all
-    → AreWritten value (λ t. spot t * size) reached size old mid
-    → AreWritten (λ row column. value (done + row) column) (λ row. spot (done + row) * size) n size mid now
-    → AreWritten value (λ t. spot t * size) next size old now
-rows_joined value spot size all distinct reached done n next old mid now reached_is next_is fits before more =
+    → AreWritten value place reached width old mid → AreWritten (λ row column. value (done + row) column) (λ row. place (done + row)) n width mid now
+    → AreWritten value place next width old now
+rows_behind value place width all apart reached done n next old mid now reached_is next_is fits before more =
     record {
       long = more.long ∙ before.long;
       written = λ t column below inside.
           elim (cases_lt t done) [
-            | inl early ↦ more.others (spot t * size + column) (λ r within. beside t column r inside early within)
+            | inl early ↦ more.others (place t + column) (λ r within. beside t column r inside early within)
                 ∙ before.written t column (omega (arith, early, reached_is)) inside
             | inr late ↦ last t column below inside late
           ];
@@ -115,17 +120,38 @@ rows_joined value spot size all distinct reached done n next old mid now reached
           ∙ before.others i (λ t below. outside t (omega (arith, below, next_is, reached_is)));
     }
   where
-    beside : (t column r : ℕ) → column < size → t < done → r < n
-        → (spot t * size + column < spot (done + r) * size) ⊎ (spot (done + r) * size + size ≤ spot t * size + column)
+    beside : (t column r : ℕ) → column < width → t < done → r < n
+        → (place t + column < place (done + r)) ⊎ (place (done + r) + width ≤ place t + column)
     beside t column r inside early within =
-        apart_from size (spot (done + r)) (spot t) column size inside (omega arith)
-        (λ e. distinct t (done + r) (omega (arith, early)) (omega (arith, within, fits)) (sym e))
+        elim (apart t (done + r) (omega (arith, early)) (omega (arith, within, fits))) [
+          | inl low ↦ inr (omega (arith, low))
+          | inr high ↦ inl (omega (arith, high, inside))
+        ]
 
-    last : (t column : ℕ) → t < next → column < size → done ≤ t → get_or now (spot t * size + column) 0 ≡ value t column
+    last : (t column : ℕ) → t < next → column < width → done ≤ t → get_or now (place t + column) 0 ≡ value t column
     last t column below inside late =
         let back : done + (t - done) ≡ t = omega (arith, late) in
-        subst (λ (m : ℕ). get_or now (spot m * size + column) 0 ≡ value m column) back
+        subst (λ (m : ℕ). get_or now (place m + column) 0 ≡ value m column) back
         (more.written (t - done) column (omega (arith, late, below, next_is)) inside)
+
+-- whole shards behind those that are written
+pub rows_joined : (value : ℕ → ℕ → ℕ) (spot : ℕ → ℕ) (size all : ℕ) → ((s t : ℕ) → s < t → t < all → spot t ≢ spot s)
+    → (reached done n next : ℕ) (old mid now : List ℕ) → reached ≡ done → next ≡ done + n → done + n ≤ all
+    → AreWritten value (λ t. spot t * size) reached size old mid
+    → AreWritten (λ row column. value (done + row) column) (λ row. spot (done + row) * size) n size mid now
+    → AreWritten value (λ t. spot t * size) next size old now
+rows_joined value spot size all distinct =
+    rows_behind value (λ t. spot t * size) size all (λ s t less below. apart_places size (spot t) (spot s) (distinct s t less below))
+
+-- columns of shards behind those of the shards before them
+pub columns_behind : (value : ℕ → ℕ → ℕ) (size column width all : ℕ) → column + width ≤ size
+    → (reached done n next : ℕ) (old mid now : List ℕ) → reached ≡ done → next ≡ done + n → done + n ≤ all
+    → AreWritten value (λ t. t * size + column) reached width old mid
+    → AreWritten (λ row c. value (done + row) c) (λ row. (done + row) * size + column) n width mid now
+    → AreWritten value (λ t. t * size + column) next width old now
+columns_behind value size column width all fits =
+    rows_behind value (λ t. t * size + column) width all
+    (λ s t less below. columns_apart size column width t s fits (apart_places size t s (λ e. absurd (omega (arith, less, e)))))
 
 module _ (count size : ℕ) (place target : ℕ → ℕ) (all : ℕ)
     (apart : (j t : ℕ) → j < count → t < all → place j ≢ target t) (distinct : (s t : ℕ) → s < t → t < all → target t ≢ target s) where

@@ -1,11 +1,11 @@
 -- Tables of parity that are kept: four rows after four rows.
-use Rattle.std.proofs.Common.{◌≡◌, ◌≢◌, inl, inr, ℕ, ◌+◌, ◌-◌, ◌*◌, ◌/◌, ◌%◌, ◌^◌, ◌<◌, ◌≤◌, ◌++◌, List, length, get_or, take, drop, min, sym, ◌∙◌, ap, subst, arith}
+use Rattle.std.proofs.Common.{◌≡◌, inl, inr, ℕ, ◌+◌, ◌-◌, ◌*◌, ◌/◌, ◌%◌, ◌^◌, ◌<◌, ◌≤◌, ◌++◌, List, length, get_or, take, drop, min, sym, ◌∙◌, ap, subst, arith}
 use Rattle.std.proofs.Math.Nat.{mul-le-mul_left}
 use Rattle.std.proofs.lemmas.Bool.{cases_lt}
 use Rattle.std.proofs.lemmas.List.{get_or-append-add, get_or-drop, get_or-take, get_or_append_left, length-append, length-take-le}
 use Rattle.reed_solomon.specs.Parity.{HaveParityTables, parity_factor, parity_symbol, tables_length}
 use Rattle.reed_solomon.specs.Tables.{AreWritten, HasRow, IsEntry}
-use Rattle.reed_solomon.proofs.GroupWriting.{rows_joined}
+use Rattle.reed_solomon.proofs.GroupWriting.{columns_behind}
 
 -- how many of m rows come before group `group` of four
 abbrev pub rows_before : ℕ → ℕ → ℕ
@@ -129,15 +129,12 @@ module _ (k m : ℕ) (tables : List ℕ) (all : HaveParityTables k m tables) whe
       (subst (λ (r : ℕ). HasRow (parity_factor k (4 * group + row)) (drop (128 * k * ((4 * group + row) / 4)) tables) r k) row_is
       (all.rows (4 * group + row) inside))
 
--- a group of rows more
-pub groups_joined : (k m size group count : ℕ) (shards old mid now : List ℕ) → group < (m + 3) / 4
+-- columns of a group of rows more
+pub groups_joined : (k m size column width group count : ℕ) (shards old mid now : List ℕ) → column + width ≤ size → group < (m + 3) / 4
     → count ≡ min (m - 4 * group) 4
-    → AreWritten (parity_symbol k size shards) (λ t. t * size) (rows_before m group) size old mid
-    → AreWritten (λ row column. parity_symbol k size shards (4 * group + row) column) (λ row. (4 * group + row) * size) count size mid now
-    → AreWritten (parity_symbol k size shards) (λ t. t * size) (rows_before m (group + 1)) size old now
-groups_joined k m size group count shards old mid now within count_is before more =
-    rows_joined (parity_symbol k size shards) (λ t. t) size m different (rows_before m group) (4 * group) count (rows_before m (group + 1)) old mid now
-    (omega (arith, within)) (omega (arith, within, count_is)) (omega (arith, within, count_is)) before more
-  where
-    different : (s t : ℕ) → s < t → t < m → t ≢ s
-    different s t less below e = absurd (omega (arith, less, e))
+    → AreWritten (λ t c. parity_symbol k size shards t (column + c)) (λ t. t * size + column) (rows_before m group) width old mid
+    → AreWritten (λ row c. parity_symbol k size shards (4 * group + row) (column + c)) (λ row. (4 * group + row) * size + column) count width mid now
+    → AreWritten (λ t c. parity_symbol k size shards t (column + c)) (λ t. t * size + column) (rows_before m (group + 1)) width old now
+groups_joined k m size column width group count shards old mid now fits within count_is before more =
+    columns_behind (λ t c. parity_symbol k size shards t (column + c)) size column width m fits (rows_before m group) (4 * group) count
+    (rows_before m (group + 1)) old mid now (omega (arith, within)) (omega (arith, within, count_is)) (omega (arith, within, count_is)) before more

@@ -2,9 +2,12 @@
 use Rattle.std.proofs.Common.{◌≡◌, ◌≢◌, ◌⊎◌, inl, inr, ℕ, ◌+◌, ◌-◌, ◌*◌, ◌<◌, ◌≤◌, ◌++◌, List, length, get_or, take, drop, refl, sym, ◌∙◌, ap, subst, arith}
 use Rattle.std.proofs.lemmas.Bool.{cases_lt}
 use Rattle.std.proofs.lemmas.List.{ext_get_or, get_or-append-add, get_or_append_left, get_or-drop, get_or-take, length-append, length-drop, length-take-le}
-use Rattle.reed_solomon.specs.Tables.{AreApart, AreRows, AreWritten, nibble_sum, row_sum}
-use Rattle.reed_solomon.proofs.GroupWriting.{apart_places}
-use Rattle.reed_solomon.proofs.RowWriting.{columns_written, row_written, still_read, written_by}
+use Rattle.reed_solomon.specs.Tables.{AreApart, AreRows, AreWritten, HasRow, nibble_sum, row_sum}
+use Rattle.reed_solomon.specs.Samples.{symbol_at}
+use Rattle.reed_solomon.specs.ErasureField.{erasure_product}
+use Rattle.field_base.specs.Interpolation.{lagrange}
+use Rattle.reed_solomon.proofs.GroupWriting.{apart_places, columns_apart, row_symbol}
+use Rattle.reed_solomon.proofs.RowWriting.{columns_written, row_written, still_read, written_at, written_by}
 use Rattle.field_base.proofs.BasisSums.{sum_below-same}
 use Rattle.reed_solomon.proofs.Samples.{below_next}
 
@@ -78,7 +81,7 @@ strip_row size column width row target strip part old now rows start gap from cu
     (λ c inside.
     ap (λ (n : ℕ). get_or (put_part start width now part) (n + c) 0) (sym is) ∙ put_part-at start width now part room long c inside ∙ value c inside)
     (λ i outside. put_part-others start width now part room long i (subst (λ (p : ℕ). (i < p) ⊎ (p + width ≤ i)) (sym is) outside))
-    (λ other less. inner (target row) (target other) (apart_places size (target row) (target other) (distinct row other less within))))
+    (λ other less. columns_apart size column width (target row) (target other) fits (apart_places size (target row) (target other) (distinct row other less within))))
   where
     long : length part ≡ width
     long = ap (λ (l : List ℕ). length l) part_is ∙ part_length from cut width strip cut_is inside_strip
@@ -87,9 +90,6 @@ strip_row size column width row target strip part old now rows start gap from cu
     value c inside =
         ap (λ (l : List ℕ). get_or l c 0) part_is ∙ part_at from cut width c strip cut_is inside
         ∙ ap (λ (n : ℕ). get_or strip (n + c) 0) from_is
-
-    inner : (a b : ℕ) → AreApart size (a * size) (b * size) → AreApart width (a * size + column) (b * size + column)
-    inner a b apart = elim apart [ inl low ↦ inl (omega (arith, low, fits)) | inr high ↦ inr (omega (arith, high, fits)) ]
 
 -- a sum of a row past the first columns
 row_sum-drop : (entries shards starts : List ℕ) (row columns c : ℕ)
@@ -102,6 +102,23 @@ row_sum-drop entries shards starts row columns c =
   where
     place : (start : ℕ) → columns + (start + c) ≡ start + (columns + c)
     place start = omega arith
+
+-- so rows of a strip that the tables give are the symbols of their shards in its columns
+pub column_symbols : (count size : ℕ) (place target : ℕ → ℕ) (entries shards part starts : List ℕ) (given spot : ℕ → ℕ)
+    (rows n column width : ℕ) (old now : List ℕ) → part ≡ drop column shards → rows ≡ n → length starts ≡ count
+    → ((j : ℕ) → j < count → get_or starts j 0 ≡ place j * size) → ((row : ℕ) → row < n → given row ≡ spot row)
+    → ((row : ℕ) → row < n → HasRow (λ j. lagrange 8 erasure_product place count j (target row)) entries row count)
+    → ((i : ℕ) → get_or shards i 0 < 256) → AreWritten (row_sum entries part starts) given rows width old now
+    → AreWritten (λ row c. symbol_at count size place shards (column + c) (target row)) spot n width old now
+column_symbols count size place target entries shards part starts given spot rows n column width old now part_is rows_are counted begun spots set bytes
+    all =
+    written_at (λ row c. symbol_at count size place shards (column + c) (target row)) given spot n width old now
+    (written_by (row_sum entries part starts) (λ row c. symbol_at count size place shards (column + c) (target row)) given n width old now
+    (subst (λ (r : ℕ). AreWritten (row_sum entries part starts) given r width old now) rows_are all)
+    (λ row c within inside.
+    ap (λ (l : List ℕ). row_sum entries l starts row c) part_is ∙ row_sum-drop entries shards starts row column c
+    ∙ row_symbol count size place entries shards starts row (column + c) (target row) counted begun (set row within) bytes))
+    spots
 
 -- a strip more: its rows are what the tables give in the shards, of which those that are read are as they were
 pub strip_written : (entries starts strip spots : List ℕ) (target : ℕ → ℕ) (rows columns width size : ℕ) (old mid now : List ℕ)

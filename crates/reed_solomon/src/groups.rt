@@ -7,7 +7,7 @@ ghost use Rattle.reed_solomon.specs.Tables.{AreApart, AreRows, AreWritten, HasRo
 
 use crate::blocks::{Sources, write_group};
 use crate::sample::Sample;
-use crate::tables::{RowTables, set_row};
+use crate::tables::{FewTables, RowTables, set_row};
 
 // Where the bytes of `count` shards begin, by their places.
 pub(crate) fn starts_of(places: &[u8; 256], count: usize, size: usize) -> [usize; 256]
@@ -33,6 +33,28 @@ pub(crate) fn starts_from(first: usize, count: usize, size: usize) -> [usize; 25
     let mut starts = [0; 256];
     for i in 0..count {
         starts[i] = (first + i) * size;
+    }
+    starts
+}
+
+// Some columns of shards.
+#[derive(Clone, Copy)]
+pub(crate) struct Columns {
+    pub(crate) first: usize,
+    pub(crate) width: usize,
+}
+
+// Where column `column` of up to four shards begins, from shard `first` on.
+pub(crate) fn places_in(first: usize, count: usize, size: usize, column: usize) -> [usize; 4]
+    requires rows { count ≤ 4 }
+    requires listed { first + count ≤ 256 }
+    requires fit { (i : ℕ) → i < count → (first + i) * size + column < 2 ^ 64 }
+    ensures long { length result ≡ 4 }
+    ensures starts { (i : ℕ) → i < count → slice_index result i ≡ (first + i) * size + column }
+{
+    let mut starts = [0; 4];
+    for i in 0..count {
+        starts[i] = (first + i) * size + column;
     }
     starts
 }
@@ -188,7 +210,8 @@ fn strip_width(columns: usize) -> usize
     if columns < 1024 { columns } else { 1024 }
 }
 
-// Writes the shards at the first `count` places, none of which is of the sample.
+// Writes the shards at the first `count` places, none of which is of the sample. Tables for few shards are made in less memory, which takes
+// less time to clear.
 pub(crate) fn restore_shards(
     shards: &mut [u8],
     size: usize,
@@ -205,18 +228,45 @@ pub(crate) fn restore_shards(
         (λ t column. symbol_at sample.now.count size (slice_index sample.now.places) shards.old column (slice_index targets.now t))
         (λ t. slice_index targets.now t * size) count size shards.old shards.new }
 {
+    if sample.count <= 32 {
+        let mut tables = FewTables::empty();
+        restore_by_tables(shards, size, sample, &mut tables.entries, targets, count);
+    } else {
+        let mut tables = RowTables::empty();
+        restore_by_tables(shards, size, sample, &mut tables.entries, targets, count);
+    }
+}
+
+// Writes them, in memory for their tables.
+fn restore_by_tables(
+    shards: &mut [u8],
+    size: usize,
+    sample: &Sample,
+    entries: &mut [u8],
+    targets: &[u8; 256],
+    count: usize,
+)
+    requires few { count ≤ 256 }
+    requires tables { 128 * sample.now.count ≤ length entries.old }
+    requires inside { (j : ℕ) → j < sample.now.count → slice_index sample.now.places j * size + size ≤ length shards.old }
+    requires room { (t : ℕ) → t < count → slice_index targets.now t * size + size ≤ length shards.old }
+    requires apart { (j t : ℕ) → j < sample.now.count → t < count → slice_index sample.now.places j ≢ slice_index targets.now t }
+    requires distinct { (s t : ℕ) → s < t → t < count → slice_index targets.now t ≢ slice_index targets.now s }
+    ensures { AreWritten
+        (λ t column. symbol_at sample.now.count size (slice_index sample.now.places) shards.old column (slice_index targets.now t))
+        (λ t. slice_index targets.now t * size) count size shards.old shards.new }
+{
     let starts = starts_of(&sample.places, sample.count, size);
-    let mut tables = RowTables::empty();
     let mut done = 0;
     while done < count {
         let next = done + group_size(count - done);
-        set_rows(&mut tables.entries, sample, &targets[done..next]);
+        set_rows(entries, sample, &targets[done..next]);
         bytes_fit(shards);
         restore_group(
             shards,
             size,
             &starts[..sample.count],
-            &tables.entries,
+            entries,
             &targets[done..next],
         );
         done = next;

@@ -1,14 +1,15 @@
 // Codes whose tables are made once, in memory of the caller or of an allocator.
-ghost use Rattle.std.specs.Prelude.{◌≡◌, ◌+◌, ◌*◌, ◌/◌, ◌<◌, ◌≤◌, ◌↔◌, ◌++◌, length, take, IsOk, IsTrue, IfOk, IfErr, OnErr};
-ghost use Rattle.reed_solomon.specs.Parity.{HaveParityTables, tables_length};
+ghost use Rattle.std.specs.Prelude.{◌≡◌, ℕ, ◌+◌, ◌*◌, ◌/◌, ◌<◌, ◌≤◌, ◌↔◌, ◌++◌, length, slice_index, take, IsOk, IsTrue, IfOk, IfErr, OnErr};
+ghost use Rattle.reed_solomon.specs.Parity.{HaveParityTables, parity_symbol, tables_length};
 ghost use Rattle.reed_solomon.specs.Shards.{AreCodewords, IsEncoded};
 ghost use Rattle.reed_solomon.specs.Sizes.{HasShardSize, ShardSizeError};
+ghost use Rattle.reed_solomon.specs.Tables.{AreWritten};
 
 use crate::ReedSolomon;
 use crate::codec::shard_size;
 use crate::error::ReedSolomonError;
-use crate::groups::{bytes_fit, group_size, matches_group, starts_from};
-use crate::parity::{set_parity_rows, write_parity_group};
+use crate::groups::{Columns, bytes_fit, group_size, matches_group, starts_from};
+use crate::parity::{set_parity_rows, strip_of, write_parity_group};
 use crate::sample::Sample;
 use crate::tables::RowTables;
 use std::alloc::{AllocError, Allocator};
@@ -133,10 +134,11 @@ fn write_tables(tables: &mut [u8], k: usize, m: usize)
     }
 }
 
-// Writes m shards of parity behind one another, from k shards of data, by their tables.
-#[tactic(auto, using(crate::proofs::PreparedTables::tables_room))]
+// Writes m shards of parity behind one another, from k shards of data, by their tables. The data are read once for each four shards of
+// parity: where there are more, strip by strip, so that a strip stays in the cache.
 fn write_prepared(shards: &[u8], size: usize, k: usize, tables: &[u8], parity: &mut [u8], m: usize)
     requires points { k + m ≤ 256 }
+    requires some { 0 < k }
     requires listed { length tables.now ≡ tables_length k m }
     requires whole { length shards.now ≡ k * size }
     requires room { length parity.old ≡ m * size }
@@ -145,17 +147,51 @@ fn write_prepared(shards: &[u8], size: usize, k: usize, tables: &[u8], parity: &
 {
     bytes_fit(shards);
     let starts = starts_from(0, k, size);
+    let mut first = 0;
+    while first < size {
+        let width = strip_of(size - first, m, 8192);
+        let columns = Columns { first, width };
+        write_columns(shards, size, &starts[..k], tables, parity, m, columns);
+        first += width;
+    }
+}
+
+// Writes columns of m shards of parity behind one another, by their tables.
+#[tactic(auto, using(crate::proofs::PreparedTables::tables_room))]
+fn write_columns(
+    shards: &[u8],
+    size: usize,
+    starts: &[usize],
+    tables: &[u8],
+    parity: &mut [u8],
+    m: usize,
+    columns: Columns,
+)
+    requires points { length starts.now + m ≤ 256 }
+    requires listed { length tables.now ≡ tables_length (length starts.now) m }
+    requires begun { (j : ℕ) → j < length starts.now → slice_index starts.now j ≡ j * size }
+    requires some { 0 < length starts.now }
+    requires whole { length shards.now ≡ length starts.now * size }
+    requires room { length parity.old ≡ m * size }
+    requires within { columns.first + columns.width ≤ size }
+    ensures long { length parity.new ≡ length parity.old }
+    ensures written { HaveParityTables (length starts.now) m tables.now
+        → AreWritten (λ t column. parity_symbol (length starts.now) size shards.now t (columns.first + column)) (λ t. t * size + columns.first) m
+        columns.width parity.old parity.new }
+{
+    let k = starts.len();
     for group in 0..(m + 3) / 4 {
         let done = 4 * group;
         let count = group_size(m - done);
         write_parity_group(
             shards,
             size,
-            &starts[..k],
+            starts,
             &tables[128 * k * group..],
             parity,
             done,
             count,
+            columns,
         );
     }
 }

@@ -1,10 +1,12 @@
-use Rattle.std.proofs.Common.{◌*◌}
+use Rattle.std.proofs.Common.{◌≤◌, ◌*◌, ◌-◌}
 use Rattle.reed_solomon.specs.Parity.{HaveParityTables, parity_symbol}
 use Rattle.reed_solomon.specs.Tables.{AreWritten}
-use Rattle.reed_solomon.proofs.PreparedTables.{rows_before}
 use Rattle.reed_solomon.proofs.prepared.write_prepared.Given as goal
 
-abbrev pub invariant-loop-group : goal.invariant-loop-group
-invariant-loop-group l =
-    HaveParityTables l.k l.m l.tables
-    → AreWritten (parity_symbol l.k l.size l.shards) (λ t. t * l.size) (rows_before l.m l.group) l.size l.fn.parity l.parity
+abbrev pub invariant-loop-first : goal.invariant-loop-first
+invariant-loop-first l =
+    (l.first ≤ l.size)
+    × (HaveParityTables l.k l.m l.tables → AreWritten (parity_symbol l.k l.size l.shards) (λ t. t * l.size) l.m l.first l.fn.parity l.parity)
+
+abbrev pub decreases-loop-first : goal.decreases-loop-first
+decreases-loop-first l = l.size - l.first

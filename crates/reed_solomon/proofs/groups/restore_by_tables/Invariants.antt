@@ -1,7 +1,7 @@
 use Rattle.std.proofs.Common.{◌≤◌, ◌*◌, ◌-◌, slice_index}
 use Rattle.reed_solomon.specs.Samples.{symbol_at}
 use Rattle.reed_solomon.specs.Tables.{AreWritten}
-use Rattle.reed_solomon.proofs.groups.restore_shards.Given as goal
+use Rattle.reed_solomon.proofs.groups.restore_by_tables.Given as goal
 
 abbrev pub invariant-loop-done : goal.invariant-loop-done
 invariant-loop-done l =

@@ -5,7 +5,7 @@ use Rattle.reed_solomon.specs.ErasureField.{erasure_product}
 use Rattle.reed_solomon.specs.Tables.{AreApart, HasRow}
 use Rattle.reed_solomon.proofs.GroupWriting.{apart_places, group_symbols, group_written}
 use Rattle.reed_solomon.proofs.Strips.{part_at, part_length}
-use Rattle.reed_solomon.proofs.groups.restore_shards.Goals as goal
+use Rattle.reed_solomon.proofs.groups.restore_by_tables.Goals as goal
 
 pub restore_group-requires-clause-fits : goal.restore_group-requires-clause-fits
 restore_group-requires-clause-fits c =
