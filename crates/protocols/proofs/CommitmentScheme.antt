@@ -17,8 +17,9 @@ use Rattle.proximity.specs.Blocks.{cheats_in_blocks}
 use Rattle.proximity.specs.Codes.{HaveSymbols, IsWordOf}
 use Rattle.proximity.specs.Openings.{IsOpened}
 use Rattle.protocols.specs.CodeDistances.{FewQuarterRateCheats, point_generator}
-use Rattle.protocols.specs.CommitmentScheme.{AcceptedValue, FewOpeningsCheat, HasBits, OpensValue, ShowsValue, ValuesAreBound, matrix_rows}
+use Rattle.protocols.specs.CommitmentScheme.{AcceptedValue, FewOpeningsCheat, OpensValue, ShowsValue, ValuesAreBound, matrix_rows}
 use Rattle.protocols.specs.CommitmentScheme.{place_bits, row_levels, value_columns, word_levels}
+use Rattle.protocols.specs.JointOpenings.{FewPairsCheat}
 use Rattle.protocols.specs.OpenedTables.{AreColumnsOf, OpenedValuesNeedLuck, ShowsTable}
 use Rattle.protocols.specs.RootColumns.{AreAccepted, HasSent, HaveOtherColumns, RootsHoldColumns, SentColumns}
 use Rattle.protocols.specs.Tables.{AgreesAt, AreExtendedColumns, column_values}
@@ -187,10 +188,7 @@ share two f q accepted lucky points wrong right scale blocks some many few bound
     product-some : (a b : ℕ) → 0 < a → 0 < b → 0 < a * b
     product-some a b one other = let both = mul-le-mul_left a other in omega (arith, both, one)
 
-module _ (m n : ℕ) (least : 6 ≤ m) (most : m ≤ 8) (many : 6 ≤ n) (little : n ≤ 39) where
-  abbrev h : ℕ
-  h = matrix_rows m n
-
+module _ (h m n : ℕ) (least : 6 ≤ m) (most : m ≤ 8) (many : 6 ≤ n) (little : n ≤ 39) where
   abbrev k : ℕ
   k = row_levels m n
 
@@ -232,7 +230,7 @@ module _ (m n : ℕ) (least : 6 ≤ m) (most : m ≤ 8) (many : 6 ≤ n) (little
 
   pub openings-cheat : FewQuarterRateCheats → (times : ℕ → ℕ → ℕ) (vector : ℕ → ℕ) → IsField 128 times → AreCantorVectors 128 times vector
       → ((b : ℕ) → b < 128 → vector b < 2 ^ 128)
-      → (bits : ℕ) → HasBits m n bits
+      → (bits : ℕ) → 2 ^ bits * (h * (34 * 2 ^ word_levels m n) * 256 ^ 2 ^ m + 2 ^ 128 * 163 ^ 2 ^ m) ≤ 2 ^ 128 * 256 ^ 2 ^ m
       → (word : ℕ → ℕ → ℕ) (prover : List ℕ → ℕ → ℕ) (cheats : List ℕ → Bool)
       → HaveSymbols 128 (2 ^ m * block) (2 ^ h) word
       → ((point : List ℕ) → length point ≡ h → IsWordOf times (2 ^ k) (2 ^ m * block) (point_generator 128 times vector k) (prover point))
@@ -252,4 +250,10 @@ module _ (m n : ℕ) (least : 6 ≤ m) (most : m ≤ 8) (many : 6 ≤ n) (little
 
 pub few_openings_cheat : FewQuarterRateCheats → FewOpeningsCheat
 few_openings_cheat few times vector field vectors fit m n bits least most many little bound word prover cheats fits sends false_is =
-    openings-cheat m n least most many little few times vector field vectors fit bits bound word prover cheats fits sends false_is
+    openings-cheat (matrix_rows m n) m n least most many little few times vector field vectors fit bits bound word prover cheats fits sends false_is
+
+-- of two tables together, the challenge is one coordinate more
+pub few_pairs_cheat : FewQuarterRateCheats → FewPairsCheat
+few_pairs_cheat few times vector field vectors fit m n bits least most many little bound word prover cheats fits sends false_is =
+    openings-cheat (suc (matrix_rows m n)) m n least most many little few times vector field vectors fit bits bound word prover cheats fits sends
+    false_is

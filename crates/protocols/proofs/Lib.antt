@@ -1,10 +1,13 @@
 pub mod BlockPlaces
 mod CodeColumns
 pub mod CodeDistances
+pub mod CombinedLists
 pub mod CommitmentScheme
 pub mod HonestColumns
+pub mod JointOpenings
 pub mod OpenedColumns
 pub mod OpenedTables
+mod PairsBound
 pub mod ProofBytes
 mod RootColumns
 mod SchemeBits

@@ -15,14 +15,14 @@ use Rattle.protocols.proofs.ProofBytes.{proof-cons}
 use Rattle.protocols.proofs.TableOpenings.{opens-same, row-room}
 
 -- the bytes of elements are those of their numbers
-number-bytes : {F : Type 0} (size : ℕ) (repr : F → ℕ) (xs : List F) → joined_bytes size repr xs ≡ joined_bytes size (λ (n : ℕ). n) (map repr xs)
+pub number-bytes : {F : Type 0} (size : ℕ) (repr : F → ℕ) (xs : List F) → joined_bytes size repr xs ≡ joined_bytes size (λ (n : ℕ). n) (map repr xs)
 number-bytes size repr [] = refl
 number-bytes size repr (x ∷ xs) =
     proof-cons size repr x xs ∙ ap (λ (l : List ℕ). low_bytes size (repr x) ++ l) (number-bytes size repr xs)
     ∙ sym (proof-cons size (λ (n : ℕ). n) (repr x) (map repr xs))
 
 -- a column among columns of one length has that length
-column-long : {F : Type 0} (count height : ℕ) (columns : List F) (k : ℕ) → length columns ≡ count * height → k < count
+pub column-long : {F : Type 0} (count height : ℕ) (columns : List F) (k : ℕ) → length columns ≡ count * height → k < count
     → length (row_at height columns k) ≡ height
 column-long count height columns k long below =
     let room = row-room count height (length columns) k long below in

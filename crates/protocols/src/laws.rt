@@ -3,6 +3,7 @@
 ghost use Rattle.std.specs.Prelude.{◌*◌, ◌^◌, ◌<◌};
 ghost use Rattle.protocols.specs.CommitmentScheme.{FewOpeningsCheat, ValuesAreBound, VerdictsAgree};
 ghost use Rattle.protocols.specs.CodeDistances.{CodeWordsHaveDistance, FewQuarterRateCheats, QuarterRateGap};
+ghost use Rattle.protocols.specs.JointOpenings.{FewPairsCheat, OpenedPairsNeedLuck, PairsAreBound};
 ghost use Rattle.protocols.specs.OpenedTables.{OpenedRowsNeedLuck, OpenedValuesNeedLuck, TableIsOne};
 ghost use Rattle.protocols.specs.RootColumns.{RootsHoldColumns};
 ghost use Rattle.protocols.specs.SoundnessErrors.{FewRunsSave};
@@ -51,6 +52,15 @@ pub fn opened_values_need_luck()
     ensures { OpenedValuesNeedLuck }
 {}
 
+/// States the same of two tables that a challenge combines: values whose combination such a row has at the other coordinates are those of
+/// the two tables to which the columns commit, or the challenge is the root of a line that is not 0, or one of few that stand before it
+/// is drawn; or a coordinate of the point is one of few, or the places are.
+pub fn opened_pairs_need_luck()
+    ensures { OpenedPairsNeedLuck }
+{
+    opened_values_need_luck();
+}
+
 /// States what a root holds, whatever is opened under it: the columns of all openings that are accepted are those of one function, or two
 /// of them have two inputs of the hash function that differ and have one digest.
 pub fn roots_hold_columns()
@@ -89,10 +99,31 @@ pub fn verdicts_agree<
         (λ i. F.basis (F.cantor i)) }
 {}
 
+/// States the same of two tables that are opened together: openings of two roots that are accepted, any number of them, each show their
+/// values of the one table to which the columns of each root commit, or a challenge or a coordinate of the point is one of few, or the
+/// places are; or two of them have two inputs of the hash function that differ and have one digest, under one of the roots.
+pub fn pairs_are_bound<
+    F: ShortElement,
+    C: CanObserve<F> + CanSample<F> + GrindingChallenger<Witness = F> + CanSampleUniformBits<F>,
+>()
+    ensures { PairsAreBound C.observes C.gives C.passing C.checks C.gives_bits F.repr F.NUM_BYTES F.width F.product
+        (λ i. F.basis (F.cantor i)) }
+{
+    opened_pairs_need_luck();
+    roots_hold_columns();
+}
+
 /// States the soundness error of an opening as a number of bits over every field of 2^128 elements: of all coordinates that combine rows
 /// and of all numbers of places, at most one of 2^bits accepts a row that is not that of the table to which the columns commit.
 pub fn few_openings_cheat()
     ensures { FewOpeningsCheat }
+{
+    few_quarter_rate_cheats();
+}
+
+/// States the same of two tables that are opened together, where the challenge is one coordinate more.
+pub fn few_pairs_cheat()
+    ensures { FewPairsCheat }
 {
     few_quarter_rate_cheats();
 }
