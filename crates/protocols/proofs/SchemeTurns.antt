@@ -1,11 +1,12 @@
 -- Runs, draws of places, and two verdicts on one opening, in transcripts of the same state.
-use Rattle.std.proofs.Common.{◌≡◌, ℕ, Bool, true, false, List, [], ◌∷◌, length, map, drop, refl, sym, ◌∙◌, ap, ap₂, subst, arith}
+use Rattle.std.proofs.Common.{◌≡◌, ℕ, Bool, true, false, List, [], ◌∷◌, ◌++◌, length, map, drop, refl, sym, ◌∙◌, ap, ap₂, subst, arith}
 use Rattle.std.specs.Prelude.{IsTrue, slice_index}
 use Rattle.std.proofs.lemmas.Bool.{true≢false}
 use Rattle.transcripts.specs.Lists.{InTurn}
 use Rattle.transcripts.specs.States.{GivesByState, LeadsByState}
-use Rattle.sum_checks.specs.Sumcheck.{AreTurns, IsRunOf, Statement}
+use Rattle.sum_checks.specs.Sumcheck.{AreTurns, IsRunOf, IsTurn, Statement}
 use Rattle.protocols.specs.CommitmentScheme.{ArePlacesDrawn, OpensValue, VerdictsAgree, block_places, opening_work, place_bits}
+use Rattle.protocols.specs.JointOpenings.{OpensPair, PairVerdictsAgree}
 
 -- elements with the same numbers are the same
 elements-same : {F : Type 0} (repr : F → ℕ) → ((x y : F) → repr x ≡ repr y → x ≡ y) → (xs ys : List F) → map repr xs ≡ map repr ys → xs ≡ ys
@@ -37,6 +38,15 @@ module _ {C S F : Type 0} (state : C → S) (observes gives : C → F → C → 
   led [] old new other_old other_new same one other = ap state one ∙ same ∙ sym (ap state other)
   led (value ∷ values) old new other_old other_new same one other =
       led values one.0 new other.0 other_new (observes_law value old one.0 other_old other.0 same one.1 other.1) one.2 other.2
+
+  -- a turn with the same message has the same challenge
+  turn-same : (message : List F) (challenge other_challenge : F) (old new other_old other_new : C) → state old ≡ state other_old
+      → IsTurn observes gives old message challenge new → IsTurn observes gives other_old message other_challenge other_new
+      → (challenge ≡ other_challenge) × (state new ≡ state other_new)
+  turn-same message challenge other_challenge old new other_old other_new same one other =
+      let observed = led message old one.0 other_old other.0 same one.1 other.1 in
+      let drawn = gives_law one.0 new other.0 other_new challenge other_challenge observed one.2 other.2 in
+      (drawn.0, drawn.1)
 
   -- turns with the same messages have the same challenges
   turns-led : (messages : List (List F)) (point other_point : List F) (old new other_old other_new : C) → state old ≡ state other_old
@@ -119,4 +129,28 @@ module _ {C S F : Type 0} (state : C → S) (observes gives : C → F → C → 
       turned a b ps qs is are held = (
         subst (λ (t : Bool). IsTrue t) is held.0,
         subst (λ (l : List ℕ). OpensValue hash repr size width times vector m n root point value row l columns nodes) are held.1,
+      )
+
+  pub pair_verdicts_agree : (repr : F → ℕ) (size width : ℕ) (times : ℕ → ℕ → ℕ) (vector : ℕ → ℕ)
+      → PairVerdictsAgree state observes gives passing checks gives_bits repr size width times vector
+  pair_verdicts_agree repr size width times vector hash m n one other point row witness prover verifier first second same a b =
+      same-tests first second
+      (λ holds. b.decided.1 (turned a.works b.works a.challenge b.challenge a.places b.places drawn.0 turn.0 drawn.1 (a.decided.0 holds)))
+      (λ holds.
+      a.decided.1 (turned b.works a.works b.challenge a.challenge b.places a.places (sym drawn.0) (sym turn.0) (sym drawn.1) (b.decided.0 holds)))
+    where
+      turn : (a.challenge ≡ b.challenge) × (state a.between ≡ state b.between)
+      turn =
+          turn-same (point ++ one.value ∷ other.value ∷ []) a.challenge b.challenge prover a.between verifier b.between same a.turn b.turn
+
+      drawn : (a.works ≡ b.works) × (a.places ≡ b.places)
+      drawn = places-same turn.1 a.drawn b.drawn
+
+      turned : (u v : Bool) (x y : F) (ps qs : List ℕ) → u ≡ v → x ≡ y → ps ≡ qs
+          → IsTrue u × OpensPair hash repr size width times vector m n one other x point row ps
+          → IsTrue v × OpensPair hash repr size width times vector m n one other y point row qs
+      turned u v x y ps qs is chosen are held = (
+        subst (λ (t : Bool). IsTrue t) is held.0,
+        subst (λ (z : F). OpensPair hash repr size width times vector m n one other z point row qs) chosen
+            (subst (λ (l : List ℕ). OpensPair hash repr size width times vector m n one other x point row l) are held.1),
       )

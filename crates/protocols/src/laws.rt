@@ -3,7 +3,7 @@
 ghost use Rattle.std.specs.Prelude.{◌*◌, ◌^◌, ◌<◌};
 ghost use Rattle.protocols.specs.CommitmentScheme.{FewOpeningsCheat, ValuesAreBound, VerdictsAgree};
 ghost use Rattle.protocols.specs.CodeDistances.{CodeWordsHaveDistance, FewQuarterRateCheats, QuarterRateGap};
-ghost use Rattle.protocols.specs.JointOpenings.{FewPairsCheat, OpenedPairsNeedLuck, PairsAreBound};
+ghost use Rattle.protocols.specs.JointOpenings.{FewPairsCheat, OpenedPairsNeedLuck, PairVerdictsAgree, PairsAreBound};
 ghost use Rattle.protocols.specs.OpenedTables.{OpenedRowsNeedLuck, OpenedValuesNeedLuck, TableIsOne};
 ghost use Rattle.protocols.specs.RootColumns.{RootsHoldColumns};
 ghost use Rattle.protocols.specs.SoundnessErrors.{FewRunsSave};
@@ -99,9 +99,9 @@ pub fn verdicts_agree<
         (λ i. F.basis (F.cantor i)) }
 {}
 
-/// States the same of two tables that are opened together: openings of two roots that are accepted, any number of them, each show their
-/// values of the one table to which the columns of each root commit, or a challenge or a coordinate of the point is one of few, or the
-/// places are; or two of them have two inputs of the hash function that differ and have one digest, under one of the roots.
+/// States the same of `joint_openings::verify_pair`: openings of two roots that it accepts, any number of them, each show their values of
+/// the one table to which the columns of each root commit, or a challenge or a coordinate of the point is one of few, or the places are;
+/// or two of them have two inputs of the hash function that differ and have one digest, under one of the roots.
 pub fn pairs_are_bound<
     F: ShortElement,
     C: CanObserve<F> + CanSample<F> + GrindingChallenger<Witness = F> + CanSampleUniformBits<F>,
@@ -112,6 +112,15 @@ pub fn pairs_are_bound<
     opened_pairs_need_luck();
     roots_hold_columns();
 }
+
+/// States that the verdict on one opening of two tables is the same in transcripts of the same state.
+pub fn pair_verdicts_agree<
+    F: ShortElement,
+    C: CanObserve<F> + CanSample<F> + GrindingChallenger<Witness = F> + CanSampleUniformBits<F>,
+>()
+    ensures { PairVerdictsAgree C.state C.observes C.gives C.passing C.checks C.gives_bits F.repr F.NUM_BYTES F.width F.product
+        (λ i. F.basis (F.cantor i)) }
+{}
 
 /// States the soundness error of an opening as a number of bits over every field of 2^128 elements: of all coordinates that combine rows
 /// and of all numbers of places, at most one of 2^bits accepts a row that is not that of the table to which the columns commit.

@@ -225,7 +225,7 @@ pub fn verify_columns<F: ShortElement, H: ByteHasher32, A: Allocator + Copy>(
 }
 
 // Whether a word has, at each place, the value at the point of the column that is opened there.
-fn agree_at<F: Field>(
+pub(crate) fn agree_at<F: Field>(
     word: &[F],
     point: &[F],
     height: usize,
