@@ -1,5 +1,5 @@
 -- What the steps of the decoder have found of a word that is meant, as they have it in lists.
-use Rattle.std.proofs.Common.{◌≡◌, ℕ, ◌+◌, ◌*◌, ◌^◌, ◌<◌, ◌≤◌, List, Bool, false, sym, ◌∙◌, ap, arith, lit<}
+use Rattle.std.proofs.Common.{◌≡◌, ℕ, ◌+◌, ◌*◌, ◌^◌, ◌<◌, ◌≤◌, List, Bool, false, sym, ◌∙◌, ap, arith}
 use Rattle.std.specs.Prelude.{nat_eq, not, ◌||◌, ◌&&◌}
 use Rattle.field_base.specs.Field.{IsField}
 use Rattle.proximity.specs.Marks.{marked_below}
@@ -17,18 +17,18 @@ pub all-marked : (marks : List Bool) (n : ℕ)
     → marked_below (is_other marks n) n ≡ marked_below (is_marked marks) n
 all-marked marks n = marks-same (is_other marks n) (is_marked marks) n (other-all marks n)
 
-module _ (times : ℕ → ℕ → ℕ) (field : IsField 8 times) (n checks most : ℕ) (point scale : ℕ → ℕ)
-    (scaled : AreScaled 8 n point scale) (word : ℕ → ℕ) (fits : (i : ℕ) → i < n → word i < 2 ^ 8)
+module _ (width : ℕ) (times : ℕ → ℕ → ℕ) (wide : 0 < width) (field : IsField width times) (n checks most : ℕ) (point scale : ℕ → ℕ)
+    (scaled : AreScaled width n point scale) (word : ℕ → ℕ) (fits : (i : ℕ) → i < n → word i < 2 ^ width)
     (marks : List Bool) (few : 2 * most + marked_below (is_marked marks) n ≤ checks) (checks_below : checks < n)
     (sums : ℕ → ℕ) (left : ℕ) (left_is : left + marked_below (is_other marks n) n ≡ checks)
     (sums_are : (m : ℕ) → m < left → sums m
     ≡ weighted_sum times n point (λ i. times (scale i) (word i)) (marked_product times point (is_other marks n) n) m)
     (size : ℕ) (c : ℕ → ℕ) (shortest : IsShortest times sums size left c) (sent : ℕ → ℕ)
-    (is_sent : IsSent 8 times checks n most point scale word (is_marked marks) sent) where
+    (is_sent : IsSent width times checks n most point scale word (is_marked marks) sent) where
   few-other : 2 * most + marked_below (is_other marks n) n ≤ checks
   few-other = let same = all-marked marks n in omega (arith, same, few)
 
-  sent-other : IsSent 8 times checks n most point scale word (is_other marks n) sent
+  sent-other : IsSent width times checks n most point scale word (is_other marks n) sent
   sent-other = record {
     checked = is_sent.checked;
     few_wrong =
@@ -42,7 +42,7 @@ module _ (times : ℕ → ℕ → ℕ) (field : IsField 8 times) (n checks most 
   -- the register is short
   pub register-fits : size ≤ most
   register-fits =
-      register-short 8 times (lit< tt) field checks n most point scale word (is_other marks n) scaled fits few-other
+      register-short width times wide field checks n most point scale word (is_other marks n) scaled fits few-other
       checks_below sent sent-other sums left left_is sums_are size c shortest
 
   module _ (suspected : List Bool)
@@ -57,11 +57,11 @@ module _ (times : ℕ → ℕ → ℕ) (field : IsField 8 times) (n checks most 
     -- few places are suspected
     pub suspected-fit : marked_below (is_marked suspected) n ≤ checks
     suspected-fit =
-        suspects-few 8 times (lit< tt) field checks n most point scale word (is_other marks n) scaled fits few-other
+        suspects-few width times wide field checks n most point scale word (is_other marks n) scaled fits few-other
         checks_below sent sent-other sums left left_is sums_are size c shortest (is_marked suspected) as-other
 
     -- and all others are right
     pub trusted-right : (i : ℕ) → i < n → is_marked suspected i ≡ false → word i ≡ sent i
     trusted-right =
-        others-right 8 times (lit< tt) field checks n most point scale word (is_other marks n) scaled fits few-other
+        others-right width times wide field checks n most point scale word (is_other marks n) scaled fits few-other
         checks_below sent sent-other sums left left_is sums_are size c shortest (is_marked suspected) as-other

@@ -52,8 +52,8 @@ module _ (times : ℕ → ℕ → ℕ) (field : IsField 8 times) (root first n c
       sent_is_unique 8 times (lit< tt) field checks n erased most (falling_point times root n) (falling_scale times root first n)
       (slice_index received) (is_listed erasures) (falling-scaled 8 times (lit< tt) field n root first scaled) (omega arith)
       (omega (arith, few)) (slice_index received) (slice_index sent)
-      (meant-sent times field root first n checks received erasures (is_listed erasures) (λ j inside. refl) most refl received itself)
-      (meant-sent times field root first n checks received erasures (is_listed erasures) (λ j inside. refl) most refl sent meant)
+      (meant-sent 8 times (lit< tt) field root first n checks received erasures (is_listed erasures) (λ j inside. refl) most refl received itself)
+      (meant-sent 8 times (lit< tt) field root first n checks received erasures (is_listed erasures) (λ j inside. refl) most refl sent meant)
       i (omega (arith, below, count)))
     where
       erased : ℕ

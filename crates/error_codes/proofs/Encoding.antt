@@ -131,13 +131,13 @@ module _ (width : ℕ) (times : ℕ → ℕ → ℕ) (wide : 0 < width) (field :
       ∙ xor_self (times r (code_value times (count + 1) before r))
 
   -- a root more
-  pub generator-more : (m : ℕ) (roots before after : ℕ → ℕ) → m < 254 → after 0 ≡ before 0
-      → ((j : ℕ) → j + 1 < 256 → after (j + 1) ≡ bit_xor (before (j + 1)) (times (roots m) (before j)))
-      → (before 0 ≡ 1) × ((j : ℕ) → m < j → j < 256 → before j ≡ 0)
+  pub generator-more : (room m : ℕ) (roots before after : ℕ → ℕ) → m + 1 < room → after 0 ≡ before 0
+      → ((j : ℕ) → j + 1 < room → after (j + 1) ≡ bit_xor (before (j + 1)) (times (roots m) (before j)))
+      → (before 0 ≡ 1) × ((j : ℕ) → m < j → j < room → before j ≡ 0)
       × ((n : ℕ) → n < m → code_value times (m + 1) before (roots n) ≡ 0)
-      → (after 0 ≡ 1) × ((j : ℕ) → m + 1 < j → j < 256 → after j ≡ 0)
+      → (after 0 ≡ 1) × ((j : ℕ) → m + 1 < j → j < room → after j ≡ 0)
       × ((n : ℕ) → n < m + 1 → code_value times (m + 1 + 1) after (roots n) ≡ 0)
-  generator-more m roots before after few first next holds = (
+  generator-more room m roots before after few first next holds = (
     first ∙ holds.0,
     λ j above below. higher j above below,
     below_more (λ n. code_value times (m + 1 + 1) after (roots n) ≡ 0) m
@@ -154,7 +154,7 @@ module _ (width : ℕ) (times : ℕ → ℕ → ℕ) (wide : 0 < width) (field :
       more : (j : ℕ) → suc j ≡ j + 1
       more j = omega arith
 
-      higher : (j : ℕ) → m + 1 < j → j < 256 → after j ≡ 0
+      higher : (j : ℕ) → m + 1 < j → j < room → after j ≡ 0
       higher zero above below = absurd (omega (arith, above))
       higher (suc j) above below =
           ap after (more j) ∙ next j (omega (arith, below))

@@ -34,3 +34,9 @@ pub mod CleanWords
 pub mod NibbleFields
 pub mod NibbleWords
 pub mod NibbleCalls
+pub mod FieldSymbols
+pub mod FieldRows
+pub mod FieldMeanings
+pub mod FieldRegisters
+pub mod FieldEncoding
+pub mod FieldPowers

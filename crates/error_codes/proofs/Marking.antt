@@ -12,15 +12,15 @@ use Rattle.error_codes.specs.Filling.{is_marked, is_other}
 
 -- ---- a row of marks that is written from its first place on
 
-abbrev pub IsWritten : (ℕ → Bool) → (ℕ → Bool) → ℕ → List Bool → Type 0
-IsWritten value before i marks =
-    (length marks ≡ 256) × ((j : ℕ) → j < i → is_marked marks j ≡ value j)
+abbrev pub IsWritten : ℕ → (ℕ → Bool) → (ℕ → Bool) → ℕ → List Bool → Type 0
+IsWritten room value before i marks =
+    (length marks ≡ room) × ((j : ℕ) → j < i → is_marked marks j ≡ value j)
     × ((j : ℕ) → i ≤ j → is_marked marks j ≡ before j)
 
 -- a mark is set or taken away
-pub mark-set : (value before : ℕ → Bool) (i : ℕ) (b : Bool) (marks : List Bool) → IsWritten value before i marks
-    → i < 256 → b ≡ value i → IsWritten value before (i + 1) (set marks i b)
-mark-set value before i b marks written inside is =
+pub mark-set : (room : ℕ) (value before : ℕ → Bool) (i : ℕ) (b : Bool) (marks : List Bool) → IsWritten room value before i marks
+    → i < room → b ≡ value i → IsWritten room value before (i + 1) (set marks i b)
+mark-set room value before i b marks written inside is =
     let long = written.0 in (
       length-set marks i b ∙ long,
       below_more (λ j. is_marked (set marks i b) j ≡ value j) i
@@ -32,9 +32,9 @@ mark-set value before i b marks written inside is =
     )
 
 -- a mark is left
-pub mark-left : (value before : ℕ → Bool) (i : ℕ) (marks : List Bool) → IsWritten value before i marks
-    → value i ≡ before i → IsWritten value before (i + 1) marks
-mark-left value before i marks written is = (
+pub mark-left : (room : ℕ) (value before : ℕ → Bool) (i : ℕ) (marks : List Bool) → IsWritten room value before i marks
+    → value i ≡ before i → IsWritten room value before (i + 1) marks
+mark-left room value before i marks written is = (
   written.0,
   below_more (λ j. is_marked marks j ≡ value j) i written.1 (written.2 i (omega arith) ∙ sym is),
   λ j above. written.2 j (omega (arith, above)),
@@ -42,9 +42,9 @@ mark-left value before i marks written is = (
 
 -- ---- places of a list
 
-module _ (places : List ℕ) (k : ℕ) (marks : List Bool) (inside : k < length places) (place : ℕ)
+module _ (room : ℕ) (places : List ℕ) (k : ℕ) (marks : List Bool) (inside : k < length places) (place : ℕ)
     (place_is : place ≡ slice_index places k)
-    (before : (i : ℕ) → i < 256 → (is_marked marks i || is_listed (drop k places) i) ≡ is_listed places i) where
+    (before : (i : ℕ) → i < room → (is_marked marks i || is_listed (drop k places) i) ≡ is_listed places i) where
   next : (i : ℕ) → is_listed (drop k places) i ≡ (nat_eq place i || is_listed (drop (k + 1) places) i)
   next i =
       at_drop_more (λ (ps : List ℕ). is_listed ps i) places k 0 inside
@@ -61,8 +61,8 @@ module _ (places : List ℕ) (k : ℕ) (marks : List Bool) (inside : k < length 
   set-same false false c d is one = absurd (cc)
 
   -- a place beyond the marks
-  pub place-beyond : 256 ≤ place
-      → (i : ℕ) → i < 256 → (is_marked marks i || is_listed (drop (k + 1) places) i) ≡ is_listed places i
+  pub place-beyond : room ≤ place
+      → (i : ℕ) → i < room → (is_marked marks i || is_listed (drop (k + 1) places) i) ≡ is_listed places i
   place-beyond beyond i below =
       same (is_marked marks i) (nat_eq place i) (is_listed (drop (k + 1) places) i) (is_listed places i)
       (ap (λ (b : Bool). is_marked marks i || b) (sym (next i)) ∙ before i below)
@@ -72,8 +72,8 @@ module _ (places : List ℕ) (k : ℕ) (marks : List Bool) (inside : k < length 
       ])
 
   -- a place that is marked
-  pub place-marked : length marks ≡ 256 → place < 256
-      → (i : ℕ) → i < 256
+  pub place-marked : length marks ≡ room → place < room
+      → (i : ℕ) → i < room
       → (is_marked (set marks place true) i || is_listed (drop (k + 1) places) i) ≡ is_listed places i
   place-marked long within i below =
       elim (eqb_tells place i) [
@@ -161,12 +161,12 @@ other-all marks n i below = kept (is_marked marks i) (nat_eq i n) (elim (eqb_tel
     kept false b is = refl
 
 -- a row without marks
-pub none-marked : (j : ℕ) → is_marked (replicate {A = Bool} 256 false) j ≡ false
-none-marked j =
-    elim (cases_lt j 256) [
-      | inl below ↦ get_or-replicate 256 j false false below
-      | inr past ↦ get_or_past (replicate {A = Bool} 256 false) j false
-          (let long = length-replicate {A = Bool} 256 false in omega (arith, long, past))
+pub none-marked : (room j : ℕ) → is_marked (replicate {A = Bool} room false) j ≡ false
+none-marked room j =
+    elim (cases_lt j room) [
+      | inl below ↦ get_or-replicate room j false false below
+      | inr past ↦ get_or_past (replicate {A = Bool} room false) j false
+          (let long = length-replicate {A = Bool} room false in omega (arith, long, past))
     ]
 
 pub count-none : (marked : ℕ → Bool) → marked_below marked 0 ≡ 0

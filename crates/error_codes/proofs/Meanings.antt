@@ -1,6 +1,6 @@
 -- The words that are meant are those of a code by checks within so many errors.
-use Rattle.std.proofs.Common.{◌≡◌, ℕ, ◌+◌, ◌-◌, ◌/◌, ◌<◌, ◌≤◌, List, length, take, Bool, cond, sym, ◌∙◌, ap, subst}
-use Rattle.std.proofs.Common.{arith, lit<, refl, suc, zero, true, false}
+use Rattle.std.proofs.Common.{◌≡◌, ℕ, ◌+◌, ◌-◌, ◌/◌, ◌^◌, ◌<◌, ◌≤◌, List, length, take, Bool, cond, sym, ◌∙◌, ap, subst}
+use Rattle.std.proofs.Common.{arith, refl, suc, zero, true, false}
 use Rattle.std.specs.Prelude.{nat_eq, not, slice_index, ◌&&◌, IsOk, OnOk, Result, Ok, Err}
 use Rattle.std.proofs.lemmas.List.{ext_get_or, get_or-take}
 use Rattle.field_base.specs.Field.{IsField}
@@ -8,7 +8,7 @@ use Rattle.field_base.specs.Powers.{power}
 use Rattle.proximity.specs.Marks.{marked_below}
 use Rattle.proximity.proofs.Counting.{total-same}
 use Rattle.error_codes.specs.Checks.{IsSent}
-use Rattle.error_codes.specs.Correcting.{HasRoots, IsMeant, code_value, is_listed}
+use Rattle.error_codes.specs.Correcting.{HasRoots, IsMeantIn, code_value, is_listed}
 use Rattle.error_codes.specs.Filling.{falling_point, falling_scale}
 use Rattle.error_codes.specs.Words.{is_wrong}
 use Rattle.error_codes.proofs.CodeValues.{syndrome-value}
@@ -19,7 +19,7 @@ marks-same a b n same =
     total-same (λ p. cond (a p) (suc zero) zero) (λ p. cond (b p) (suc zero) zero) n
     (λ p below. ap (λ (m : Bool). cond m (suc zero) zero) (same p below))
 
-module _ (times : ℕ → ℕ → ℕ) (field : IsField 8 times) (root first n checks : ℕ) (received erasures : List ℕ)
+module _ (width : ℕ) (times : ℕ → ℕ → ℕ) (wide : 0 < width) (field : IsField width times) (root first n checks : ℕ) (received erasures : List ℕ)
     (erased : ℕ → Bool) (erased_are : (i : ℕ) → i < n → erased i ≡ is_listed erasures i)
     (most : ℕ) (most_is : most ≡ (checks - marked_below erased n) / 2) where
   erased-same : marked_below erased n ≡ marked_below (is_listed erasures) n
@@ -33,14 +33,14 @@ module _ (times : ℕ → ℕ → ℕ) (field : IsField 8 times) (root first n c
       (is_wrong (λ i. i) (slice_index received) (is_listed erasures) word) n
       (λ i below. ap (λ (b : Bool). not b && not (nat_eq (slice_index received i) (word i))) (erased_are i below))
 
-  pub meant-sent : (sent : List ℕ) → IsMeant times root first n checks received erasures sent
-      → IsSent 8 times checks n most (falling_point times root n) (falling_scale times root first n)
+  pub meant-sent : (sent : List ℕ) → IsMeantIn width times root first n checks received erasures sent
+      → IsSent width times checks n most (falling_point times root n) (falling_scale times root first n)
       (slice_index received) erased (slice_index sent)
   meant-sent sent meant = record {
     checked = record {
       symbols = meant.symbols;
       sums = λ m below.
-          syndrome-value 8 times (lit< tt) field n root first m (slice_index sent)
+          syndrome-value width times wide field n root first m (slice_index sent)
           ∙ ap (λ (k : ℕ). code_value times k (slice_index sent) (power 1 times root (first + m))) (sym meant.count)
           ∙ meant.roots m below;
     };
@@ -50,7 +50,7 @@ module _ (times : ℕ → ℕ → ℕ) (field : IsField 8 times) (root first n c
   }
 
   -- few are erased where a word is meant
-  pub meant-few : (sent : List ℕ) → IsMeant times root first n checks received erasures sent
+  pub meant-few : (sent : List ℕ) → IsMeantIn width times root first n checks received erasures sent
       → marked_below erased n ≤ checks
   meant-few sent meant = let near = meant.near in omega (arith, near, erased-same)
 
@@ -67,19 +67,19 @@ module _ (times : ℕ → ℕ → ℕ) (field : IsField 8 times) (root first n c
         ∙ sym (wrong-same (slice_index fixed))
 
     -- a code word within so many errors is meant
-    pub accepted-meant : ((i : ℕ) → slice_index fixed i < 256) → marked_below erased n ≤ checks
+    pub accepted-meant : ((i : ℕ) → i < n → slice_index fixed i < 2 ^ width) → marked_below erased n ≤ checks
         → HasRoots times root first checks (take n fixed)
         → marked_below (is_wrong (λ i. i) (slice_index received) erased (slice_index fixed)) n ≤ most
-        → IsMeant times root first n checks received erasures (take n fixed)
+        → IsMeantIn width times root first n checks received erasures (take n fixed)
     accepted-meant fits few roots near = record {
       count = whole;
-      symbols = λ i below. subst (λ (v : ℕ). v < 256) (sym (get_or-take n fixed i 0 below)) (fits i);
+      symbols = λ i below. subst (λ (v : ℕ). v < 2 ^ width) (sym (get_or-take n fixed i 0 below)) (fits i below);
       roots = roots;
       near = omega (arith, near, few, most_is, erased-same, wrong-taken);
     }
 
     -- the word that is meant is what was found
-    pub meant-taken : (sent : List ℕ) → IsMeant times root first n checks received erasures sent
+    pub meant-taken : (sent : List ℕ) → IsMeantIn width times root first n checks received erasures sent
         → ((i : ℕ) → i < n → slice_index fixed i ≡ slice_index sent i) → take n fixed ≡ sent
     meant-taken sent meant same =
         let count = meant.count in
@@ -88,7 +88,7 @@ module _ (times : ℕ → ℕ → ℕ) (field : IsField 8 times) (root first n c
         get_or-take n fixed i 0 (omega (arith, below, whole)) ∙ same i (omega (arith, below, whole)))
 
     -- and is accepted
-    pub meant-accepted : (sent : List ℕ) → IsMeant times root first n checks received erasures sent
+    pub meant-accepted : (sent : List ℕ) → IsMeantIn width times root first n checks received erasures sent
         → ((i : ℕ) → i < n → slice_index fixed i ≡ slice_index sent i)
         → HasRoots times root first checks (take n fixed)
         × (marked_below (is_wrong (λ i. i) (slice_index received) erased (slice_index fixed)) n ≤ most)

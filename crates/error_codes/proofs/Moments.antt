@@ -42,6 +42,10 @@ sum-add f g (suc n) =
     ap (λ (z : ℕ). bit_xor z (bit_xor (f n) (g n))) (sum-add f g n)
     ∙ swap_middle (sum_below f n) (sum_below g n) (f n) (g n)
 
+pub sum-next : (f : ℕ → ℕ) (n : ℕ) → bit_xor (sum_below f n) (f n) ≡ sum_below f (n + 1)
+unfolding sum_below
+sum-next f n = let next : suc n ≡ n + 1 = omega arith in ap (sum_below f) next
+
 pub sum-first : (f : ℕ → ℕ) (n : ℕ) → sum_below f (suc n) ≡ bit_xor (f 0) (sum_below (λ i. f (suc i)) n)
 unfolding sum_below
 sum-first f zero = xor_zero_l (f 0) ∙ sym (xor_zero_r (f 0))

@@ -11,3 +11,4 @@ pub mod Filling
 pub mod Interleaved
 pub mod Nibbles
 pub mod DualBasis
+pub mod FieldCodes

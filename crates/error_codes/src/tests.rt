@@ -5,6 +5,8 @@ use crate::dual_basis::{from_dual_basis, to_dual_basis};
 use crate::nibble_code::NibbleCode;
 use std::test::Fail;
 
+mod field_codes;
+
 // ISO/IEC 18004, annex I: the code words of 01234567 in a symbol of version 1-M.
 const SYMBOL: [u8; 26] = [
     0x10, 0x20, 0x0c, 0x56, 0x61, 0x80, 0xec, 0x11, 0xec, 0x11, 0xec, 0x11, 0xec, 0x11, 0xec, 0x11,

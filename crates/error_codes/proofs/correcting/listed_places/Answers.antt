@@ -8,7 +8,7 @@ use Rattle.error_codes.proofs.correcting.listed_places.Goals as goal
 use Rattle.error_codes.proofs.correcting.listed_places.Goals.{then-place-lt256, else-place-lt256}
 
 pub loop-place-init : goal.loop-place-init
-loop-place-init c = (refl, λ i below. ap (λ (b : Bool). b || is_listed c.args.places.now i) (none-marked i))
+loop-place-init c = (refl, λ i below. ap (λ (b : Bool). b || is_listed c.args.places.now i) (none-marked 256 i))
 
 pub loop-place-preserved : goal.loop-place-preserved
 loop-place-preserved c =
@@ -20,14 +20,14 @@ loop-place-preserved c =
         ap length w.marks-is ∙ length-set c.loop-place.marks _ _ ∙ long,
         λ i below.
             ap (λ (marks : List Bool). is_marked marks i || is_listed (drop (k + 1) places) i) w.marks-is
-            ∙ place-marked places k c.loop-place.marks (omega arith) (slice_index places k) refl
+            ∙ place-marked 256 places k c.loop-place.marks (omega arith) (slice_index places k) refl
             c.loop-place.invariant.1 long w.if-place-lt256.true i below,
       )
       | else-place-lt256 w ↦ (
         ap length w.marks-is ∙ long,
         λ i below.
             ap (λ (marks : List Bool). is_marked marks i || is_listed (drop (k + 1) places) i) w.marks-is
-            ∙ place-beyond places k c.loop-place.marks (omega arith) (slice_index places k) refl
+            ∙ place-beyond 256 places k c.loop-place.marks (omega arith) (slice_index places k) refl
             c.loop-place.invariant.1 w.if-place-lt256.false i below,
       )
     ]

@@ -16,7 +16,7 @@ loop-m-init c = (
 
 pub loop-m-preserved : goal.loop-m-preserved
 loop-m-preserved c =
-    generator-more 8 (byte_times c.args.field) (lit< tt) (bytes_are_fields c.args.field) c.loop-m.m
+    generator-more 8 (byte_times c.args.field) (lit< tt) (bytes_are_fields c.args.field) 256 c.loop-m.m
     (slice_index c.args.roots.now)
     (slice_index c.loop-m.product) (slice_index c.multiply_by_root-product.result) (omega arith)
     c.multiply_by_root-product.ensures.first c.multiply_by_root-product.ensures.next c.loop-m.invariant

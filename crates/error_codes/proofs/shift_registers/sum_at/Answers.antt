@@ -1,12 +1,9 @@
-use Rattle.std.proofs.Common.{◌≡◌, ◌+◌, ◌-◌, suc, ℕ, slice_index, refl, ◌∙◌, ap, ap₂, arith}
+use Rattle.std.proofs.Common.{◌≡◌, ◌+◌, ◌-◌, suc, slice_index, refl, ◌∙◌, ap, ap₂, arith}
 use Rattle.std.specs.Prelude.{bit_xor}
 use Rattle.field_base.specs.Basis.{sum_below}
 use Rattle.error_codes.specs.ByteFields.{byte_times}
+use Rattle.error_codes.proofs.Moments.{sum-next}
 use Rattle.error_codes.proofs.shift_registers.sum_at.Goals as goal
-
-sum-next : (f : ℕ → ℕ) (n : ℕ) → bit_xor (sum_below f n) (f n) ≡ sum_below f (n + 1)
-unfolding sum_below
-sum-next f n = let next : suc n ≡ n + 1 = omega arith in ap (sum_below f) next
 
 pub loop-i-init : goal.loop-i-init
 unfolding sum_below

@@ -14,13 +14,13 @@ pub loop-i-preserved : goal.loop-i-preserved
 loop-i-preserved c =
     elim c.if-value-eq0.branch [
       | then-value-eq0 w ↦
-          subst (IsWritten value before (c.loop-i.i + 1)) (sym w.marks-is)
-          (mark-set value before c.loop-i.i _ c.loop-i.marks c.loop-i.invariant (omega arith)
+          subst (IsWritten 256 value before (c.loop-i.i + 1)) (sym w.marks-is)
+          (mark-set 256 value before c.loop-i.i _ c.loop-i.marks c.loop-i.invariant (omega arith)
           (root-marked (before c.loop-i.i) c.reverse_value-value.result (root_value c.loop-i.i) c.reverse_value-value.ensures
           w.if-value-eq0.true))
       | else-value-eq0 w ↦
-          subst (IsWritten value before (c.loop-i.i + 1)) (sym w.marks-is)
-          (mark-left value before c.loop-i.i c.loop-i.marks c.loop-i.invariant
+          subst (IsWritten 256 value before (c.loop-i.i + 1)) (sym w.marks-is)
+          (mark-left 256 value before c.loop-i.i c.loop-i.marks c.loop-i.invariant
           (root-left (before c.loop-i.i) c.reverse_value-value.result (root_value c.loop-i.i) c.reverse_value-value.ensures
           w.if-value-eq0.false))
     ]

@@ -2,4 +2,4 @@ use Rattle.error_codes.proofs.Marking.{none-marked}
 use Rattle.secret_sharing.proofs.unmarked.no_marks.Goals as goal
 
 pub returns : goal.returns
-returns c = none-marked
+returns c = none-marked 256

@@ -19,7 +19,7 @@ returns-then-size-most c = λ sent is_sent.
     let point = falling_point times code.root n in
     let scale = falling_scale times code.root code.first_root n in
     let word = slice_index c.args.word.now in
-    let fits = register-fits times field n (n - code.dimension) c.args.most point scale
+    let fits = register-fits 8 times (lit< tt) field n (n - code.dimension) c.args.most point scale
     (falling-scaled 8 times (lit< tt) field n code.root code.first_root code.scaled) word (λ i below. (c.type_inv.word i).fits)
     c.args.erased.now c.requires.few (omega (arith, code.some_data, code.some_checks))
     (slice_index c.sift-left.new.sums) c.sift-left.result c.sift-left.ensures.left
@@ -40,7 +40,7 @@ returns-then-count-checks c = λ sent is_sent.
     let point = falling_point times code.root n in
     let scale = falling_scale times code.root code.first_root n in
     let word = slice_index c.args.word.now in
-    let few = suspected-fit times field n (n - code.dimension) c.args.most point scale
+    let few = suspected-fit 8 times (lit< tt) field n (n - code.dimension) c.args.most point scale
     (falling-scaled 8 times (lit< tt) field n code.root code.first_root code.scaled) word (λ i below. (c.type_inv.word i).fits)
     c.args.erased.now c.requires.few (omega (arith, code.some_data, code.some_checks))
     (slice_index c.sift-left.new.sums) c.sift-left.result c.sift-left.ensures.left
@@ -63,7 +63,7 @@ returns c = λ sent is_sent.
     let scale = falling_scale times code.root code.first_root n in
     let word = slice_index c.args.word.now in
     c.filled.ensures sent is_sent.checked
-    (trusted-right times field n (n - code.dimension) c.args.most point scale
+    (trusted-right 8 times (lit< tt) field n (n - code.dimension) c.args.most point scale
     (falling-scaled 8 times (lit< tt) field n code.root code.first_root code.scaled) word (λ i below. (c.type_inv.word i).fits)
     c.args.erased.now c.requires.few (omega (arith, code.some_data, code.some_checks))
     (slice_index c.sift-left.new.sums) c.sift-left.result c.sift-left.ensures.left

@@ -1,5 +1,5 @@
 use Rattle.std.proofs.Common.{◌≡◌, ◌-◌, ◌/◌, ◌<◌, ℕ, take, slice_index, refl, sym, ◌∙◌, ap}
-use Rattle.std.proofs.Common.{subst, arith}
+use Rattle.std.proofs.Common.{subst, arith, lit<}
 use Rattle.proximity.specs.Marks.{marked_below}
 use Rattle.error_codes.specs.ByteFields.{byte_times}
 use Rattle.error_codes.specs.Correcting.{IsMeant}
@@ -16,7 +16,7 @@ returns-then-count-checks-clause-found c = λ sent meant.
     let code = c.args.self.now in
     let n = code.word_length in
     let checks = n - code.dimension in
-    let few = meant-few (byte_times code.field) (bytes_are_fields code.field) code.root code.first_root n checks
+    let few = meant-few 8 (byte_times code.field) (lit< tt) (bytes_are_fields code.field) code.root code.first_root n checks
     c.args.word.now c.args.erasures.now (is_marked c.listed_places-erased.result)
     (λ i below. c.listed_places-erased.ensures i (omega (arith, below, code.short)))
     ((checks - marked_below (is_marked c.listed_places-erased.result) n) / 2) refl sent meant in
@@ -28,7 +28,7 @@ returns-in-None-clause-found c = λ sent meant.
     let n = code.word_length in
     let checks = n - code.dimension in
     absurd (c.in-None.ensures (slice_index sent)
-    (meant-sent (byte_times code.field) (bytes_are_fields code.field) code.root code.first_root n checks
+    (meant-sent 8 (byte_times code.field) (lit< tt) (bytes_are_fields code.field) code.root code.first_root n checks
     c.args.word.now c.args.erasures.now (is_marked c.listed_places-erased.result)
     (λ i below. c.listed_places-erased.ensures i (omega (arith, below, code.short)))
     _ (ap (λ (k : ℕ). (checks - k) / 2) c.count_marks-count.ensures) sent meant))
@@ -47,13 +47,13 @@ returns-in-Some-clause-found c = λ sent meant.
     let fixed = c.in-Some.fixed in
     let whole = c.accept.ensures.whole in
     let same = c.in-Some.ensures (slice_index sent)
-    (meant-sent times field code.root code.first_root n checks c.args.word.now c.args.erasures.now erased erased_are most
+    (meant-sent 8 times (lit< tt) field code.root code.first_root n checks c.args.word.now c.args.erasures.now erased erased_are most
     most_is sent meant) in
-    let ok = c.accept.ensures.accepted.1 (meant-accepted times field code.root code.first_root n checks c.args.word.now
+    let ok = c.accept.ensures.accepted.1 (meant-accepted 8 times (lit< tt) field code.root code.first_root n checks c.args.word.now
     c.args.erasures.now erased erased_are most most_is fixed whole sent meant same) in (
       ok,
       on-ok (c.accept.new.word ≡ take n fixed) c.accept.result ok c.accept.ensures.taken
-          ∙ meant-taken times field code.root code.first_root n checks c.args.word.now c.args.erasures.now erased
+          ∙ meant-taken 8 times (lit< tt) field code.root code.first_root n checks c.args.word.now c.args.erasures.now erased
           erased_are most most_is fixed whole sent meant same,
     )
 
@@ -76,7 +76,7 @@ returns-in-Some-clause-right c =
     (λ ok is.
     let holds = c.accept.ensures.accepted.0 ok in
     subst (IsMeant times code.root code.first_root n checks c.args.word.now c.args.erasures.now) (sym is)
-    (accepted-meant times field code.root code.first_root n checks c.args.word.now c.args.erasures.now erased erased_are
-    most most_is fixed whole c.accept.ensures.bytes
+    (accepted-meant 8 times (lit< tt) field code.root code.first_root n checks c.args.word.now c.args.erasures.now erased erased_are
+    most most_is fixed whole (λ i below. c.accept.ensures.bytes i)
     (omega (arith, c.count_marks-count.ensures, c.if-count-checks.false)) holds.0 holds.1))
     c.accept.ensures.taken

@@ -1,0 +1,18 @@
+-- Elements of fields of at most 2 ^ 16 elements as words of 16 bits.
+use Rattle.std.proofs.Common.{◌≡◌, ◌≢◌, ℕ, ◌%◌, ◌^◌, ◌<◌, ◌≤◌, sym, ◌∙◌, ap, arith, lit<}
+use Rattle.std.proofs.Math.Nat.{pow-le-pow_right}
+use native.Mathlib.Nat.{mod-eq_of_lt}
+use Rattle.field_base.specs.Field.{IsInverseOrZero}
+
+-- an element fits in a word
+pub element-fits : (width x : ℕ) → width ≤ 16 → x < 2 ^ width → x < 65536
+element-fits width x narrow below =
+    let most : 2 ^ width ≤ 2 ^ 16 = pow-le-pow_right (lit< tt) narrow in
+    omega (arith, most, below)
+
+-- the inverse of an element other than 0
+pub inverse-found : (times : ℕ → ℕ → ℕ) (width x y : ℕ) → x < 2 ^ width → x ≢ 0 → IsInverseOrZero times (x % 2 ^ width) y
+    → times x y ≡ 1
+inverse-found times width x y fits nonzero inverse =
+    let same : x % 2 ^ width ≡ x = mod-eq_of_lt fits in
+    ap (λ (z : ℕ). times z y) (sym same) ∙ inverse.1 (λ e. nonzero (sym same ∙ e))

@@ -1,0 +1,92 @@
+use Rattle.std.proofs.Common.{◌≡◌, ◌-◌, ◌/◌, ◌<◌, ℕ, List, true, false, take, length, slice_index, refl, sym, ◌∙◌, ap, subst, arith}
+use Rattle.proximity.specs.Marks.{marked_below}
+use Rattle.error_codes.specs.Correcting.{HasRoots, IsMeantIn}
+use Rattle.error_codes.specs.Filling.{is_marked}
+use Rattle.error_codes.proofs.FieldMeanings.{meant-accepts, accepts-meant}
+use Rattle.error_codes.proofs.Meanings.{meant-few, meant-sent, on-ok, on-ok-then}
+use Rattle.error_codes.proofs.field_code.FieldCode.correct_in.Goals as goal
+
+pub find-requires-clause-few : goal.find-requires-clause-few
+find-requires-clause-few g c = omega (arith, c.count_marks-count.ensures, c.if-count-checks.false)
+
+pub returns-then-count-checks-clause-found : goal.returns-then-count-checks-clause-found
+returns-then-count-checks-clause-found g c = λ sent meant.
+    let code = c.args.self.now in
+    let width = g.F.SymbolField.width code.field in
+    let times = g.F.SymbolField.product code.field in
+    let wide = g.met.F.SymbolField.wide_law code.field in
+    let field = g.met.F.SymbolField.field_law code.field in
+    let n = code.word_length in
+    let checks = n - code.dimension in
+    let erased = is_marked c.mark_listed.new.marks in
+    let few = meant-few width times wide field code.root code.first_root n checks
+    c.args.word.now c.args.erasures.now erased
+    (λ i below. c.mark_listed.ensures.listed i (omega (arith, below, c.requires.erased)))
+    ((checks - marked_below erased n) / 2) refl sent meant in
+    absurd (omega (arith, few, c.count_marks-count.ensures, c.if-count-checks.true))
+
+pub returns-then-not-find-clause-found : goal.returns-then-not-find-clause-found
+returns-then-not-find-clause-found g c = λ sent meant.
+    let code = c.args.self.now in
+    let width = g.F.SymbolField.width code.field in
+    let times = g.F.SymbolField.product code.field in
+    let wide = g.met.F.SymbolField.wide_law code.field in
+    let field = g.met.F.SymbolField.field_law code.field in
+    let n = code.word_length in
+    let checks = n - code.dimension in
+    let yes = (c.find.ensures.found (slice_index sent)
+    (meant-sent width times wide field code.root code.first_root n checks c.args.word.now c.args.erasures.now
+    (is_marked c.mark_listed.new.marks) (λ i below. c.mark_listed.ensures.listed i (omega (arith, below, c.requires.erased)))
+    _ (ap (λ (k : ℕ). (checks - k) / 2) c.count_marks-count.ensures) sent meant)).0 in
+    let no = c.if-not-find.true in
+    absurd (cc)
+
+pub returns-clause-found : goal.returns-clause-found
+returns-clause-found g c = λ sent meant.
+    let code = c.args.self.now in
+    let width = g.F.SymbolField.width code.field in
+    let times = g.F.SymbolField.product code.field in
+    let wide = g.met.F.SymbolField.wide_law code.field in
+    let field = g.met.F.SymbolField.field_law code.field in
+    let n = code.word_length in
+    let checks = n - code.dimension in
+    let erased = is_marked c.mark_listed.new.marks in
+    let most = (checks - c.count_marks-count.result) / 2 in
+    let erased_are = λ (i : ℕ) (below : i < n). c.mark_listed.ensures.listed i (omega (arith, below, c.requires.erased)) in
+    let most_is = ap (λ (k : ℕ). (checks - k) / 2) c.count_marks-count.ensures in
+    let fixed = c.find.new.symbols in
+    let whole = c.find.ensures.room ∙ c.requires.symbols in
+    let same = (c.find.ensures.found (slice_index sent)
+    (meant-sent width times wide field code.root code.first_root n checks c.args.word.now c.args.erasures.now erased erased_are most
+    most_is sent meant)).1 in
+    let accepts = meant-accepts width times wide field code.root code.first_root n checks c.args.word.now c.args.erasures.now erased
+    erased_are most most_is fixed whole sent meant same in
+    let ok = c.accept.ensures.accepted.1 accepts.0 in (
+      ok,
+      on-ok (c.accept.new.word ≡ fixed) c.accept.result ok c.accept.ensures.taken ∙ accepts.1,
+    )
+
+pub returns-clause-right : goal.returns-clause-right
+returns-clause-right g c =
+    let code = c.args.self.now in
+    let width = g.F.SymbolField.width code.field in
+    let times = g.F.SymbolField.product code.field in
+    let wide = g.met.F.SymbolField.wide_law code.field in
+    let field = g.met.F.SymbolField.field_law code.field in
+    let n = code.word_length in
+    let checks = n - code.dimension in
+    let erased = is_marked c.mark_listed.new.marks in
+    let most = (checks - c.count_marks-count.result) / 2 in
+    let erased_are = λ (i : ℕ) (below : i < n). c.mark_listed.ensures.listed i (omega (arith, below, c.requires.erased)) in
+    let most_is = ap (λ (k : ℕ). (checks - k) / 2) c.count_marks-count.ensures in
+    let fixed = c.find.new.symbols in
+    let whole = c.find.ensures.room ∙ c.requires.symbols in
+    on-ok-then (c.accept.new.word ≡ fixed)
+    (IsMeantIn width times code.root code.first_root n checks c.args.word.now c.args.erasures.now c.accept.new.word)
+    c.accept.result
+    (λ ok is.
+    let holds = c.accept.ensures.accepted.0 ok in
+    subst (IsMeantIn width times code.root code.first_root n checks c.args.word.now c.args.erasures.now) (sym is)
+    (accepts-meant width times wide field code.root code.first_root n checks c.args.word.now c.args.erasures.now erased erased_are
+    most most_is fixed whole holds.0 (omega (arith, c.count_marks-count.ensures, c.if-count-checks.false)) holds.1 holds.2))
+    c.accept.ensures.taken

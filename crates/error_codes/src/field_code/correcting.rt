@@ -1,0 +1,305 @@
+// Correction of words over any field, by the steps of the module `correcting` in memory that is made once.
+ghost use Rattle.std.specs.Prelude.{◌≡◌, ◌↔◌, ◌+◌, ◌-◌, ◌*◌, ◌<◌, ◌≤◌, ◌||◌, ◌&&◌, ℕ, List, length, slice_index};
+ghost use Rattle.std.specs.Prelude.{false, not, nat_eq, IsOk, IsTrue, IfOk, OnOk, OnErr};
+ghost use Rattle.proximity.specs.Marks.{marked_below};
+ghost use Rattle.error_codes.specs.Checks.{IsSent};
+ghost use Rattle.error_codes.specs.Correcting.{HasRoots, IsMeantIn, code_value, is_listed};
+ghost use Rattle.error_codes.specs.FieldCodes.{AreSymbols, AreFallingPoints};
+ghost use Rattle.error_codes.specs.Filling.{falling_point, falling_scale, is_marked};
+ghost use Rattle.error_codes.specs.Words.{is_wrong};
+
+use crate::error::TooManyErrors;
+use crate::field_code::registers::write_register;
+use crate::field_code::{FieldCode, value_at};
+use crate::symbols::SymbolField;
+
+// Marks the places that are listed, and no others. Those behind the marks are left out.
+fn mark_listed(places: &[usize], marks: &mut [bool])
+    ensures long { length marks.new ≡ length marks.old }
+    ensures listed { (i : ℕ) → i < length marks.old → is_marked marks.new i ≡ is_listed places.now i }
+{
+    marks.fill(false);
+    for place in places {
+        if *place < marks.len() {
+            marks[*place] = true;
+        }
+    }
+}
+
+// How many of the first places are marked.
+fn count_marks(marks: &[bool], count: usize) -> usize
+    requires { count ≤ length marks.now }
+    ensures { result ≡ marked_below (is_marked marks.now) count }
+{
+    let mut marked = 0;
+    for i in 0..count {
+        if marks[i] {
+            marked += 1;
+        }
+    }
+    marked
+}
+
+// How many of the first places have a first mark and no second.
+fn count_others(marks: &[bool], left_out: &[bool], count: usize) -> usize
+    requires marks { count ≤ length marks.now }
+    requires left_out { count ≤ length left_out.now }
+    ensures { result ≡ marked_below (λ i. not (is_marked left_out.now i) && is_marked marks.now i) count }
+{
+    let mut marked = 0;
+    for i in 0..count {
+        if !left_out[i] && marks[i] {
+            marked += 1;
+        }
+    }
+    marked
+}
+
+// Marks where two words differ.
+fn mark_differing(word: &[u16], other: &[u16], marks: &mut [bool])
+    requires same { length other.now ≡ length word.now }
+    requires room { length marks.old ≡ length word.now }
+    ensures long { length marks.new ≡ length marks.old }
+    ensures within { (i : ℕ) → i < length word.now
+        → is_marked marks.new i ≡ not (nat_eq (slice_index word.now i) (slice_index other.now i)) }
+{
+    for i in 0..word.len() {
+        marks[i] = word[i] != other[i];
+    }
+}
+
+impl<F: SymbolField> FieldCode<F> {
+    // Marks besides the places that are marked those whose points are roots of the reverse of a register, which is given by its coefficients.
+    fn suspect(&self, points: &[u16], register: &[u16], marks: &mut [bool])
+        requires points { AreFallingPoints (F.product self.now.field) self.now.root self.now.word_length points.now }
+        requires whole { length points.now ≡ self.now.word_length }
+        requires room { length marks.old ≡ self.now.word_length }
+        ensures long { length marks.new ≡ length marks.old }
+        ensures marks { let times = F.product self.now.field in let n = self.now.word_length in (i : ℕ) → i < n
+            → is_marked marks.new i ≡ (is_marked marks.old i || nat_eq (code_value times (length register.now)
+            (slice_index register.now) (falling_point times self.now.root n i)) 0) }
+    {
+        for i in 0..self.word_length {
+            let value = value_at(self.field, register, points[i]);
+            if value == 0 {
+                marks[i] = true;
+            }
+        }
+    }
+
+    // Writes the only word that can be meant, where at most `most` symbols are wrong besides the erased, and tells whether there can be one.
+    fn find(
+        &self,
+        word: &[u16],
+        erased: &[bool],
+        most: usize,
+        points: &[u16],
+        syndromes: &mut [u16],
+        sums: &mut [u16],
+        coefficients: &mut [u16],
+        older: &mut [u16],
+        spare: &mut [u16],
+        suspected: &mut [bool],
+        symbols: &mut [u16],
+    ) -> bool
+        requires points { AreFallingPoints (F.product self.now.field) self.now.root self.now.word_length points.now }
+        requires whole { length points.now ≡ self.now.word_length }
+        requires long { length word.now ≡ self.now.word_length }
+        requires elements { AreSymbols (F.width self.now.field) self.now.word_length word.now }
+        requires erased { length erased.now ≡ self.now.word_length }
+        requires given { length syndromes.old ≡ self.now.word_length - self.now.dimension }
+        requires sums { length sums.old ≡ self.now.word_length - self.now.dimension }
+        requires coefficients { length coefficients.old ≡ self.now.word_length - self.now.dimension + 1 }
+        requires older { length older.old ≡ self.now.word_length - self.now.dimension + 1 }
+        requires spare { length spare.old ≡ self.now.word_length - self.now.dimension + 1 }
+        requires suspected { length suspected.old ≡ self.now.word_length }
+        requires symbols { length symbols.old ≡ self.now.word_length }
+        requires few { 2 * most + marked_below (is_marked erased.now) self.now.word_length
+            ≤ self.now.word_length - self.now.dimension }
+        ensures marks { length suspected.new ≡ length suspected.old }
+        ensures room { length symbols.new ≡ length symbols.old }
+        ensures found { let times = F.product self.now.field in let n = self.now.word_length in (sent : ℕ → ℕ)
+            → IsSent (F.width self.now.field) times (n - self.now.dimension) n most (falling_point times self.now.root n)
+            (falling_scale times self.now.root self.now.first_root n) (slice_index word.now) (is_marked erased.now) sent
+            → IsTrue result × ((i : ℕ) → i < n → slice_index symbols.new i ≡ sent i) }
+    {
+        self.syndromes(word, syndromes);
+        sums.copy_from_slice(syndromes);
+        let left = self.sift(points, sums, erased, self.word_length);
+        let size = write_register(self.field, sums, left, coefficients, older, spare);
+        if size > most {
+            return false;
+        }
+        suspected.copy_from_slice(erased);
+        self.suspect(points, &coefficients[..size + 1], suspected);
+        let count = count_marks(suspected, self.word_length);
+        if count > self.word_length - self.dimension {
+            return false;
+        }
+        self.fill(points, syndromes, sums, word, suspected, symbols);
+        true
+    }
+
+    // Takes another word in place of the received one, if it is a code word and differs at no more than `most` places besides the erased. The
+    // places where they differ are marked, and it is returned how many they are.
+    fn accept(
+        &self,
+        word: &mut [u16],
+        erased: &[bool],
+        most: usize,
+        fixed: &[u16],
+        changed: &mut [bool],
+    ) -> Result<usize, TooManyErrors>
+        requires long { length word.old ≡ self.now.word_length }
+        requires whole { length fixed.now ≡ self.now.word_length }
+        requires erased { length erased.now ≡ self.now.word_length }
+        requires room { length changed.old ≡ self.now.word_length }
+        ensures long { length word.new ≡ length word.old }
+        ensures room { length changed.new ≡ length changed.old }
+        ensures accepted { IsOk result ↔ (AreSymbols (F.width self.now.field) self.now.word_length fixed.now
+            × HasRoots (F.product self.now.field) self.now.root self.now.first_root
+            (self.now.word_length - self.now.dimension) fixed.now
+            × (marked_below (is_wrong (λ i. i) (slice_index word.old) (is_marked erased.now) (slice_index fixed.now))
+            self.now.word_length ≤ most)) }
+        ensures taken { OnOk result (word.new ≡ fixed.now) }
+        ensures kept { OnErr result (word.new ≡ word.old) }
+        ensures within { IfOk result (λ count. (i : ℕ) → i < self.now.word_length
+            → is_marked changed.new i ≡ not (nat_eq (slice_index word.old i) (slice_index word.new i))) }
+        ensures count { IfOk result (λ count. count ≡ marked_below (is_marked changed.new) self.now.word_length) }
+    {
+        mark_differing(word, fixed, changed);
+        let errors = count_others(changed, erased, self.word_length);
+        if errors > most {
+            return Err(TooManyErrors);
+        }
+        if !self.is_code_word(fixed) {
+            return Err(TooManyErrors);
+        }
+        word.copy_from_slice(fixed);
+        Ok(count_marks(changed, self.word_length))
+    }
+
+    // Corrects a word as `correct` does, in these parts of the room.
+    fn correct_in(
+        &self,
+        word: &mut [u16],
+        erasures: &[usize],
+        erased: &mut [bool],
+        changed: &mut [bool],
+        points: &mut [u16],
+        symbols: &mut [u16],
+        syndromes: &mut [u16],
+        sums: &mut [u16],
+        coefficients: &mut [u16],
+        older: &mut [u16],
+        spare: &mut [u16],
+    ) -> Result<usize, TooManyErrors>
+        requires long { length word.old ≡ self.now.word_length }
+        requires elements { AreSymbols (F.width self.now.field) self.now.word_length word.old }
+        requires erased { length erased.old ≡ self.now.word_length }
+        requires changed { length changed.old ≡ self.now.word_length }
+        requires points { length points.old ≡ self.now.word_length }
+        requires symbols { length symbols.old ≡ self.now.word_length }
+        requires given { length syndromes.old ≡ self.now.word_length - self.now.dimension }
+        requires sums { length sums.old ≡ self.now.word_length - self.now.dimension }
+        requires coefficients { length coefficients.old ≡ self.now.word_length - self.now.dimension + 1 }
+        requires older { length older.old ≡ self.now.word_length - self.now.dimension + 1 }
+        requires spare { length spare.old ≡ self.now.word_length - self.now.dimension + 1 }
+        ensures long { length word.new ≡ length word.old }
+        ensures room { length changed.new ≡ length changed.old }
+        ensures found { (sent : List ℕ) → IsMeantIn (F.width self.now.field) (F.product self.now.field) self.now.root self.now.first_root
+            self.now.word_length (self.now.word_length - self.now.dimension) word.old erasures.now sent
+            → IsOk result × (word.new ≡ sent) }
+        ensures right { OnOk result (IsMeantIn (F.width self.now.field) (F.product self.now.field) self.now.root self.now.first_root
+            self.now.word_length (self.now.word_length - self.now.dimension) word.old erasures.now word.new) }
+        ensures kept { OnErr result (word.new ≡ word.old) }
+        ensures within { IfOk result (λ count. (i : ℕ) → i < self.now.word_length
+            → is_marked changed.new i ≡ not (nat_eq (slice_index word.old i) (slice_index word.new i))) }
+        ensures count { IfOk result (λ count. count ≡ marked_below (is_marked changed.new) self.now.word_length) }
+    {
+        mark_listed(erasures, erased);
+        let count = count_marks(erased, self.word_length);
+        let checks = self.word_length - self.dimension;
+        if count > checks {
+            return Err(TooManyErrors);
+        }
+        let most = (checks - count) / 2;
+        self.write_points(points);
+        if !self.find(
+            word,
+            erased,
+            most,
+            points,
+            syndromes,
+            sums,
+            coefficients,
+            older,
+            spare,
+            changed,
+            symbols,
+        ) {
+            return Err(TooManyErrors);
+        }
+        self.accept(word, erased, most, symbols, changed)
+    }
+
+    /// How many numbers `correct` needs room for: two for each symbol of a word, five for each root, and three.
+    pub fn room(&self) -> usize
+        ensures { result ≡ 2 * self.now.word_length + 5 * (self.now.word_length - self.now.dimension) + 3 }
+    {
+        2 * self.word_length + 5 * (self.word_length - self.dimension) + 3
+    }
+
+    /// Corrects a word in place as `CorrectingCode::correct` does: its symbols have to be elements, some of which may be wrong at places that
+    /// are not known, and those at the `erasures` may be wrong too. Where a code word differs from it at t places that are not listed, and 2 t
+    /// and the number of listed places of the word are together at most the number of symbols that are not data, the word becomes that code
+    /// word; there is no other. Elsewhere the answer is the error, and the word stays as it was. A place that is listed more than once counts
+    /// once, and one behind the word is ignored. It is returned how many symbols changed, and `changed` becomes which did; where the answer is
+    /// the error, it is not specified. There have to be `room` numbers of room, and a flag for each symbol in `erased` and `changed`. What
+    /// stood there is not read, and `room` and `erased` hold nothing of use afterwards.
+    pub fn correct(
+        &self,
+        word: &mut [u16],
+        erasures: &[usize],
+        room: &mut [u16],
+        erased: &mut [bool],
+        changed: &mut [bool],
+    ) -> Result<usize, TooManyErrors>
+        requires long { length word.old ≡ self.now.word_length }
+        requires elements { AreSymbols (F.width self.now.field) self.now.word_length word.old }
+        requires room { length room.old ≡ 2 * self.now.word_length + 5 * (self.now.word_length - self.now.dimension) + 3 }
+        requires erased { length erased.old ≡ self.now.word_length }
+        requires changed { length changed.old ≡ self.now.word_length }
+        ensures long { length word.new ≡ length word.old }
+        ensures found { (sent : List ℕ) → IsMeantIn (F.width self.now.field) (F.product self.now.field) self.now.root self.now.first_root
+            self.now.word_length (self.now.word_length - self.now.dimension) word.old erasures.now sent
+            → IsOk result × (word.new ≡ sent) }
+        ensures right { OnOk result (IsMeantIn (F.width self.now.field) (F.product self.now.field) self.now.root self.now.first_root
+            self.now.word_length (self.now.word_length - self.now.dimension) word.old erasures.now word.new) }
+        ensures kept { OnErr result (word.new ≡ word.old) }
+        ensures within { IfOk result (λ count. (i : ℕ) → i < self.now.word_length
+            → is_marked changed.new i ≡ not (nat_eq (slice_index word.old i) (slice_index word.new i))) }
+        ensures count { IfOk result (λ count. count ≡ marked_below (is_marked changed.new) self.now.word_length) }
+    {
+        let checks = self.word_length - self.dimension;
+        let (points, behind_points) = room.split_at_mut(self.word_length);
+        let (symbols, behind_symbols) = behind_points.split_at_mut(self.word_length);
+        let (syndromes, behind_syndromes) = behind_symbols.split_at_mut(checks);
+        let (sums, rows) = behind_syndromes.split_at_mut(checks);
+        let (coefficients, behind_coefficients) = rows.split_at_mut(checks + 1);
+        let (older, spare) = behind_coefficients.split_at_mut(checks + 1);
+        self.correct_in(
+            word,
+            erasures,
+            erased,
+            changed,
+            points,
+            symbols,
+            syndromes,
+            sums,
+            coefficients,
+            older,
+            spare,
+        )
+    }
+}
