@@ -31,11 +31,11 @@ told() {
 time_files() {
     yes "the table on the left" | head -c "$((16 * $1))" > "$work/left"
     yes "another, on the right side" | head -c "$((16 * $1))" > "$work/right"
-    told "commit_$1" "$program" commit "$work/left"
+    told "commit_$1" "$program" commit --bits 80 "$work/left"
     left=$(cat "$work/said")
-    right=$("$program" commit "$work/right")
-    told "prove_$1" "$program" prove "$work/left" "$work/right" "$work/proof"
-    told "verify_$1" "$program" verify "$work/proof" "$left" "$right"
+    right=$("$program" commit --bits 80 "$work/right")
+    told "prove_$1" "$program" prove --bits 80 "$work/left" "$work/right" "$work/proof"
+    told "verify_$1" "$program" verify --bits 80 "$work/proof" "$left" "$right"
 }
 
 print_machine ""

@@ -18,15 +18,15 @@ use Rattle.merkle_trees.specs.declared.merkle_tree.MerkleTree.{MerkleTree}
 use Rattle.sum_checks.specs.Sumcheck.{IsRunOf, messages_of}
 use Rattle.sum_checks.specs.SumcheckClaims.{AreHonestMessages, HonestReduces, IsClaimShape, reduced_claim}
 use Rattle.sum_checks.specs.Terms.{cube_sum}
-use Rattle.protocols.specs.CommitmentScheme.{ArePlacesDrawn, HoldsColumns, block_places, place_bits, place_count, word_levels}
+use Rattle.protocols.specs.CommitmentScheme.{ArePlacesDrawn, HoldsColumns, block_places, matrix_rows, place_bits, place_count, row_levels, word_levels}
 use Rattle.protocols.specs.Tables.{AreColumnsAt, OpensColumns, OpensPlaces}
 use Rattle.protocols.proofs.BlockPlaces.{ascending, blocks-whole}
 use Rattle.protocols.proofs.CommitmentScheme.{value-opened}
 use Rattle.protocols.proofs.HonestColumns.{honest-opening}
 use Rattle.protocols.proofs.SchemeTurns.{places-same, runs-same}
 use Rattle.prove_sums.specs.Completeness.{HonestSumsAreAccepted}
-use Rattle.prove_sums.specs.Shapes.{block_count, columns_in, columns_size, depth_of, levels_of, messages_in, nodes_in, part, row_in, row_size, rows_in}
-use Rattle.prove_sums.specs.Shapes.{rows_of, sum_in, witness_in}
+use Rattle.prove_sums.specs.Shapes.{columns_in, columns_size, messages_in, nodes_in, part, row_in, row_size, rows_in}
+use Rattle.prove_sums.specs.Shapes.{sum_in, witness_in}
 use Rattle.prove_sums.specs.Soundness.{HasPoints}
 use Rattle.prove_sums.specs.Verdicts.{IsHonestProof, IsProductAt, OpensTable, SentParts, VerifiesSum, interleaved, product_terms, sent_elements}
 use Rattle.prove_sums.specs.Verdicts.{sum_statement, values_at}
@@ -53,9 +53,9 @@ halves one other {nodes} is same =
       part-at one other [] (is ∙ ap (λ (l : List (List ℕ)). one ++ l) (sym (append-nil other))) (omega (arith, half)) (half ∙ same),
     )
 
-module _ {F : Type 0} (n : ℕ) (parts : SentParts F) (elements : List F) (written : elements ≡ sent_elements parts)
-    (message_count : length parts.messages ≡ 2 * n) (row_count : length parts.rows ≡ 2 * row_size n)
-    (left_count : length parts.left ≡ columns_size n) (right_count : length parts.right ≡ columns_size n) where
+module _ {F : Type 0} (m n : ℕ) (parts : SentParts F) (elements : List F) (written : elements ≡ sent_elements parts)
+    (message_count : length parts.messages ≡ 2 * n) (row_count : length parts.rows ≡ 2 * row_size m n)
+    (left_count : length parts.left ≡ columns_size m n) (right_count : length parts.right ≡ columns_size m n) where
   -- the sum, the messages and the witness
   abbrev front : List F
   front = (parts.sum ∷ parts.messages) ++ (parts.witness ∷ [])
@@ -86,55 +86,55 @@ module _ {F : Type 0} (n : ℕ) (parts : SentParts F) (elements : List F) (writt
       ∙ ap (slice_index (map number (parts.witness ∷ parts.rows ++ (parts.left ++ parts.right))))
       (let none : 2 * n + 1 - (2 * n + 1) ≡ 0 = omega arith in none)
 
-  sent-rows : rows_in n elements ≡ parts.rows
+  sent-rows : rows_in m n elements ≡ parts.rows
   sent-rows = part-at front parts.rows (parts.left ++ parts.right) behind-front (sym front-long) (sym row_count)
 
   -- both rows, as numbers
-  module _ (repr : F → ℕ) (one other : List ℕ) (rows_are : map repr parts.rows ≡ one ++ other) (one_long : length one ≡ row_size n)
-      (other_long : length other ≡ row_size n) where
+  module _ (repr : F → ℕ) (one other : List ℕ) (rows_are : map repr parts.rows ≡ one ++ other) (one_long : length one ≡ row_size m n)
+      (other_long : length other ≡ row_size m n) where
     abbrev upper : List F
-    upper = take (row_size n) parts.rows
+    upper = take (row_size m n) parts.rows
 
     abbrev lower : List F
-    lower = drop (row_size n) parts.rows
+    lower = drop (row_size m n) parts.rows
 
-    upper-long : length upper ≡ row_size n
-    upper-long = length-take-le (row_size n) parts.rows (omega (arith, row_count))
+    upper-long : length upper ≡ row_size m n
+    upper-long = length-take-le (row_size m n) parts.rows (omega (arith, row_count))
 
-    lower-long : length lower ≡ row_size n
-    lower-long = let behind = length-drop (row_size n) parts.rows in omega (arith, behind, row_count)
+    lower-long : length lower ≡ row_size m n
+    lower-long = let behind = length-drop (row_size m n) parts.rows in omega (arith, behind, row_count)
 
     split : elements ≡ front ++ (upper ++ (lower ++ (parts.left ++ parts.right)))
     split =
         behind-front
         ∙ ap (λ (l : List F). front ++ l)
-        (ap (λ (l : List F). l ++ (parts.left ++ parts.right)) (sym (take-append-drop (row_size n) parts.rows))
+        (ap (λ (l : List F). l ++ (parts.left ++ parts.right)) (sym (take-append-drop (row_size m n) parts.rows))
         ∙ append_assoc upper lower (parts.left ++ parts.right))
 
-    sent-one : map repr (row_in n 0 elements) ≡ one
+    sent-one : map repr (row_in m n 0 elements) ≡ one
     sent-one =
         ap (map repr) (part-at front upper (lower ++ (parts.left ++ parts.right)) split (omega (arith, front-long)) (sym upper-long))
-        ∙ sym (take-map repr (row_size n) parts.rows) ∙ ap (take (row_size n)) rows_are
-        ∙ ap (λ (m : ℕ). take m (one ++ other)) (sym one_long) ∙ take-append_seam one other
+        ∙ sym (take-map repr (row_size m n) parts.rows) ∙ ap (take (row_size m n)) rows_are
+        ∙ ap (λ (v : ℕ). take v (one ++ other)) (sym one_long) ∙ take-append_seam one other
 
-    sent-other : map repr (row_in n 1 elements) ≡ other
+    sent-other : map repr (row_in m n 1 elements) ≡ other
     sent-other =
         let long = length-append front upper in
         ap (map repr)
         (part-at (front ++ upper) lower (parts.left ++ parts.right)
         (split ∙ sym (append_assoc front upper (lower ++ (parts.left ++ parts.right))))
         (omega (arith, long, front-long, upper-long)) (sym lower-long))
-        ∙ sym (drop-map repr (row_size n) parts.rows) ∙ ap (drop (row_size n)) rows_are
-        ∙ ap (λ (m : ℕ). drop m (one ++ other)) (sym one_long) ∙ drop-append_seam one other
+        ∙ sym (drop-map repr (row_size m n) parts.rows) ∙ ap (drop (row_size m n)) rows_are
+        ∙ ap (λ (v : ℕ). drop v (one ++ other)) (sym one_long) ∙ drop-append_seam one other
 
   -- the columns of both
-  sent-left : columns_in n 0 elements ≡ parts.left
+  sent-left : columns_in m n 0 elements ≡ parts.left
   sent-left =
       let long = length-append front parts.rows in
       part-at (front ++ parts.rows) parts.left parts.right
       (behind-front ∙ sym (append_assoc front parts.rows (parts.left ++ parts.right))) (omega (arith, long, front-long, row_count)) (sym left_count)
 
-  sent-right : columns_in n 1 elements ≡ parts.right
+  sent-right : columns_in m n 1 elements ≡ parts.right
   sent-right =
       let long = length-append front parts.rows in
       let longer = length-append (front ++ parts.rows) parts.left in
@@ -154,87 +154,87 @@ module _ {C S F : Type 0} (state : C → S) (observes gives : C → F → C → 
     (bits_law : (bits : ℕ) → GivesByState state (λ (old : C) (number : ℕ) (new : C). gives_bits old bits number new)) (number repr : F → ℕ)
     (size width : ℕ) (times : ℕ → ℕ → ℕ) (vector : ℕ → ℕ) (points : HasPoints repr size width times vector)
     (same_law : (x y : F) → repr x ≡ repr y → x ≡ y) where
-  module _ (reduces : HonestReduces) (counts : OpeningsHaveOneCount) (hash : List ℕ → List ℕ) (n : ℕ)
+  module _ (reduces : HonestReduces) (counts : OpeningsHaveOneCount) (hash : List ℕ → List ℕ) (m n : ℕ)
       (left right left_columns right_columns : List F) (left_tree right_tree : MerkleTree Global) (elements : List F) (nodes : List (List ℕ))
       (prover verifier : C) (accepted : Bool) (wide : 2 ≤ width)
-      (left_held : HoldsColumns hash repr size width times vector 7 n left left_columns left_tree)
-      (right_held : HoldsColumns hash repr size width times vector 7 n right right_columns right_tree)
-      (honest : IsHonestProof observes gives passing checks gives_bits number repr width times n left right left_columns right_columns left_tree
+      (left_held : HoldsColumns hash repr size width times vector m n left left_columns left_tree)
+      (right_held : HoldsColumns hash repr size width times vector m n right right_columns right_tree)
+      (honest : IsHonestProof observes gives passing checks gives_bits number repr width times m n left right left_columns right_columns left_tree
       right_tree elements nodes prover) (same : state prover ≡ state verifier)
-      (verdict : VerifiesSum observes gives passing checks gives_bits number repr hash size width times vector n (root_of left_tree)
+      (verdict : VerifiesSum observes gives passing checks gives_bits number repr hash size width times vector m n (root_of left_tree)
       (root_of right_tree) elements nodes verifier accepted) where
     abbrev first : List F
-    first = take (rows_of n) honest.point
+    first = take (matrix_rows m n) honest.point
 
     abbrev others : List F
-    others = drop (rows_of n) honest.point
+    others = drop (matrix_rows m n) honest.point
 
     challenges : length honest.point ≡ n
     challenges = honest.summed.challenge_count
 
-    first-long : length first ≡ rows_of n
-    first-long = length-take-le (rows_of n) honest.point (omega (arith, challenges))
+    first-long : length first ≡ matrix_rows m n
+    first-long = length-take-le (matrix_rows m n) honest.point (omega (arith, challenges))
 
-    others-long : length others ≡ levels_of n
-    others-long = let behind = length-drop (rows_of n) honest.point in omega (arith, behind, challenges)
+    others-long : length others ≡ row_levels m n
+    others-long = let behind = length-drop (matrix_rows m n) honest.point in omega (arith, behind, challenges)
 
     -- the values of columns, by the number of rows
     abbrev values : List F → List ℕ
     values columns =
-        map (λ p. multilinear_value times (map repr (row_at (2 ^ rows_of n) columns p)) (map repr first)) (range_with_len 0 (2 ^ levels_of n))
+        map (λ p. multilinear_value times (map repr (row_at (2 ^ matrix_rows m n) columns p)) (map repr first)) (range_with_len 0 (2 ^ row_levels m n))
 
-    values-are : (columns : List F) → values_at repr times n columns first ≡ values columns
+    values-are : (columns : List F) → values_at repr times m n columns first ≡ values columns
     values-are columns =
         ap (λ (h : ℕ). map (λ p. multilinear_value times (map repr (row_at (2 ^ h) columns p)) (map repr first))
-        (range_with_len 0 (2 ^ levels_of n))) first-long
+        (range_with_len 0 (2 ^ row_levels m n))) first-long
 
-    values-long : (columns : List F) → length (values columns) ≡ row_size n
+    values-long : (columns : List F) → length (values columns) ≡ row_size m n
     values-long columns =
-        length-map-range_with_len (λ p. multilinear_value times (map repr (row_at (2 ^ rows_of n) columns p)) (map repr first)) 0 (2 ^ levels_of n)
+        length-map-range_with_len (λ p. multilinear_value times (map repr (row_at (2 ^ matrix_rows m n) columns p)) (map repr first)) 0 (2 ^ row_levels m n)
 
     rows-are : map repr honest.parts.rows ≡ values left_columns ++ values right_columns
     rows-are = honest.rows_are ∙ ap₂ (λ (a b : List ℕ). a ++ b) (values-are left_columns) (values-are right_columns)
 
-    rows-count : length honest.parts.rows ≡ 2 * row_size n
+    rows-count : length honest.parts.rows ≡ 2 * row_size m n
     rows-count =
         let all = sym (length-map honest.parts.rows repr) ∙ ap length rows-are ∙ length-append (values left_columns) (values right_columns) in
         omega (arith, all, values-long left_columns, values-long right_columns)
 
-    places-count : length honest.places ≡ block_count n
+    places-count : length honest.places ≡ place_count m n
     places-count =
         ap length honest.drawn.chosen
-        ∙ length-map-range_with_len (λ i. i * 2 ^ place_bits 7 n + slice_index honest.drawn.numbers i % 2 ^ place_bits 7 n) 0
+        ∙ length-map-range_with_len (λ i. i * 2 ^ place_bits m n + slice_index honest.drawn.numbers i % 2 ^ place_bits m n) 0
         (length honest.drawn.numbers)
         ∙ honest.drawn.count
 
-    left-count : length honest.parts.left ≡ columns_size n
-    left-count = honest.left_opened.0 ∙ ap (λ (m : ℕ). m * 2 ^ rows_of n) places-count
+    left-count : length honest.parts.left ≡ columns_size m n
+    left-count = honest.left_opened.0 ∙ ap (λ (v : ℕ). v * 2 ^ matrix_rows m n) places-count
 
-    right-count : length honest.parts.right ≡ columns_size n
-    right-count = honest.right_opened.0 ∙ ap (λ (m : ℕ). m * 2 ^ rows_of n) places-count
+    right-count : length honest.parts.right ≡ columns_size m n
+    right-count = honest.right_opened.0 ∙ ap (λ (v : ℕ). v * 2 ^ matrix_rows m n) places-count
 
     -- what the verifier reads
     sum-read : sum_in repr elements ≡ repr honest.parts.sum
-    sum-read = sent-sum n honest.parts elements honest.written honest.summed.message_count rows-count left-count right-count repr
+    sum-read = sent-sum m n honest.parts elements honest.written honest.summed.message_count rows-count left-count right-count repr
 
     messages-read : messages_in n elements ≡ honest.parts.messages
-    messages-read = sent-messages n honest.parts elements honest.written honest.summed.message_count rows-count left-count right-count
+    messages-read = sent-messages m n honest.parts elements honest.written honest.summed.message_count rows-count left-count right-count
 
     witness-read : witness_in number n elements ≡ number honest.parts.witness
     witness-read =
-        sent-witness n honest.parts elements honest.written honest.summed.message_count rows-count left-count right-count number
+        sent-witness m n honest.parts elements honest.written honest.summed.message_count rows-count left-count right-count number
 
-    rows-read : rows_in n elements ≡ honest.parts.rows
-    rows-read = sent-rows n honest.parts elements honest.written honest.summed.message_count rows-count left-count right-count
+    rows-read : rows_in m n elements ≡ honest.parts.rows
+    rows-read = sent-rows m n honest.parts elements honest.written honest.summed.message_count rows-count left-count right-count
 
-    left-row : map repr (row_in n 0 elements) ≡ values left_columns
+    left-row : map repr (row_in m n 0 elements) ≡ values left_columns
     left-row =
-        sent-one n honest.parts elements honest.written honest.summed.message_count rows-count left-count right-count repr (values left_columns)
+        sent-one m n honest.parts elements honest.written honest.summed.message_count rows-count left-count right-count repr (values left_columns)
         (values right_columns) rows-are (values-long left_columns) (values-long right_columns)
 
-    right-row : map repr (row_in n 1 elements) ≡ values right_columns
+    right-row : map repr (row_in m n 1 elements) ≡ values right_columns
     right-row =
-        sent-other n honest.parts elements honest.written honest.summed.message_count rows-count left-count right-count repr (values left_columns)
+        sent-other m n honest.parts elements honest.written honest.summed.message_count rows-count left-count right-count repr (values left_columns)
         (values right_columns) rows-are (values-long left_columns) (values-long right_columns)
 
     -- the challenges and the places are the prover's
@@ -250,9 +250,9 @@ module _ {C S F : Type 0} (state : C → S) (observes gives : C → F → C → 
     draws : (true ≡ verdict.works) × (honest.places ≡ verdict.places)
     draws =
         places-same state observes gives passing checks gives_bits observes_law gives_law passing_law checks_law bits_law run.1 honest.drawn
-        (subst (λ (w : ℕ). ArePlacesDrawn observes gives passing checks gives_bits 7 n honest.parts.rows w verdict.between verdict.works
+        (subst (λ (w : ℕ). ArePlacesDrawn observes gives passing checks gives_bits m n honest.parts.rows w verdict.between verdict.works
         verdict.places verdict.new) witness-read
-        (subst (λ (l : List F). ArePlacesDrawn observes gives passing checks gives_bits 7 n l (witness_in number n elements) verdict.between
+        (subst (λ (l : List F). ArePlacesDrawn observes gives passing checks gives_bits m n l (witness_in number n elements) verdict.between
         verdict.works verdict.places verdict.new) rows-read verdict.drawn))
 
     -- the claim that is left is the product of both tables' values
@@ -270,7 +270,7 @@ module _ {C S F : Type 0} (state : C → S) (observes gives : C → F → C → 
 
     shape : IsClaimShape width times product_terms 2 2 (length (map repr honest.point)) rows
     shape =
-        subst (λ (m : ℕ). IsClaimShape width times product_terms 2 2 m rows) (sym point-long)
+        subst (λ (v : ℕ). IsClaimShape width times product_terms 2 2 v rows) (sym point-long)
         (tables-shape width times wide points.field n (map repr left) (map repr right) left-long right-long
         (numbers-lt repr width points.range left) (numbers-lt repr width points.range right))
 
@@ -281,26 +281,26 @@ module _ {C S F : Type 0} (state : C → S) (observes gives : C → F → C → 
         reduces width times product_terms 2 2 (repr honest.parts.sum) rows (map repr honest.point)
         (map (map repr) (messages_of 2 n honest.parts.messages)) shape
         (honest.summed.total ∙ ap (λ (l : List ℕ). cube_sum times product_terms 2 n l) (map-interleaved repr left right)
-        ∙ ap (λ (m : ℕ). cube_sum times product_terms 2 m rows) (sym point-long))
+        ∙ ap (λ (v : ℕ). cube_sum times product_terms 2 v rows) (sym point-long))
         (subst (λ (l : List ℕ). AreHonestMessages times product_terms 2 2 l (map (map repr) (messages_of 2 n honest.parts.messages))
         (map repr honest.point)) (map-interleaved repr left right) honest.summed.honest)
         ∙ values-product width times points.field.ring (map repr left) (map repr right) (map repr honest.point)
-        (left-long ∙ ap (λ (m : ℕ). 2 ^ m) (sym point-long)) right-long
+        (left-long ∙ ap (λ (v : ℕ). 2 ^ v) (sym point-long)) right-long
 
     some-width : 0 < width
     some-width = omega (arith, wide)
 
-    valued : (table columns : List F) (tree : MerkleTree Global) → HoldsColumns hash repr size width times vector 7 n table columns tree
+    valued : (table columns : List F) (tree : MerkleTree Global) → HoldsColumns hash repr size width times vector m n table columns tree
         → (row : List F) → map repr row ≡ values columns
         → multilinear_value times (map repr row) (map repr others) ≡ multilinear_value times (map repr table) (map repr honest.point)
     valued table columns tree held row is =
-        value-opened repr width times vector some-width points.field.ring points.range (levels_of n) 2 (rows_of n) columns table honest.point row
-        first others first-long others-long (sym (take-append-drop (rows_of n) honest.point))
-        (held.count ∙ ap (λ (m : ℕ). 2 ^ m) (sym challenges)) held.extended is
+        value-opened repr width times vector some-width points.field.ring points.range (row_levels m n) 2 (matrix_rows m n) columns table honest.point row
+        first others first-long others-long (sym (take-append-drop (matrix_rows m n) honest.point))
+        (held.count ∙ ap (λ (v : ℕ). 2 ^ v) (sym challenges)) held.extended is
 
-    product : IsProductAt repr times n elements (drop (rows_of n) verdict.point) verdict.claim
+    product : IsProductAt repr times m n elements (drop (matrix_rows m n) verdict.point) verdict.claim
     product =
-        subst (λ (p : List F). IsProductAt repr times n elements (drop (rows_of n) p) verdict.claim) run.0
+        subst (λ (p : List F). IsProductAt repr times m n elements (drop (matrix_rows m n) p) verdict.claim) run.0
         (verdict.reduced.left
         ∙ ap (λ (s : ℕ). reduced_claim width times s (map (map repr) (messages_of 2 n (messages_in n elements))) (map repr verdict.point)) sum-read
         ∙ ap (λ (l : List F). reduced_claim width times (repr honest.parts.sum) (map (map repr) (messages_of 2 n l)) (map repr verdict.point))
@@ -309,30 +309,30 @@ module _ {C S F : Type 0} (state : C → S) (observes gives : C → F → C → 
         (map repr p)) (sym run.0)
         ∙ reduced
         ∙ sym
-        (ap₂ times (valued left left_columns left_tree left_held (row_in n 0 elements) left-row)
-        (valued right right_columns right_tree right_held (row_in n 1 elements) right-row)))
+        (ap₂ times (valued left left_columns left_tree left_held (row_in m n 0 elements) left-row)
+        (valued right right_columns right_tree right_held (row_in m n 1 elements) right-row)))
 
     -- the columns of both are opened
-    ascends : AreAscending (2 ^ word_levels 7 n) honest.places
+    ascends : AreAscending (2 ^ word_levels m n) honest.places
     ascends =
-        subst (λ (l : List ℕ). AreAscending (2 ^ word_levels 7 n) l) (sym honest.drawn.chosen)
-        (ascending (place_bits 7 n) (place_count 7 n) (word_levels 7 n) (blocks-whole 7 n) honest.drawn.numbers honest.drawn.count)
+        subst (λ (l : List ℕ). AreAscending (2 ^ word_levels m n) l) (sym honest.drawn.chosen)
+        (ascending (place_bits m n) (place_count m n) (word_levels m n) (blocks-whole m n) honest.drawn.numbers honest.drawn.count)
 
-    opened : (table columns : List F) (tree : MerkleTree Global) → HoldsColumns hash repr size width times vector 7 n table columns tree
-        → (row sent : List F) (ns : List (List ℕ)) → map repr row ≡ values columns → AreColumnsAt (2 ^ rows_of n) columns honest.places sent
+    opened : (table columns : List F) (tree : MerkleTree Global) → HoldsColumns hash repr size width times vector m n table columns tree
+        → (row sent : List F) (ns : List (List ℕ)) → map repr row ≡ values columns → AreColumnsAt (2 ^ matrix_rows m n) columns honest.places sent
         → OpensPlaces tree honest.places ns
-        → OpensColumns hash repr size width times vector (levels_of n) 2 (root_of tree) first row honest.places sent ns
+        → OpensColumns hash repr size width times vector (row_levels m n) 2 (root_of tree) first row honest.places sent ns
     opened table columns tree held row sent ns is at opens =
-        honest-opening repr width times vector some-width points.field.ring columns size (rows_of n) tree honest.places sent ns
-        (subst (λ (d : ℕ). AreAscending (2 ^ d) honest.places) (sym held.depth) ascends) at.0 at.1 opens hash (levels_of n) 2 (map repr table)
+        honest-opening repr width times vector some-width points.field.ring columns size (matrix_rows m n) tree honest.places sent ns
+        (subst (λ (d : ℕ). AreAscending (2 ^ d) honest.places) (sym held.depth) ascends) at.0 at.1 opens hash (row_levels m n) 2 (map repr table)
         first row (sym held.depth) first-long held.extended held.over is
 
     abbrev row-bytes : List F → ℕ → List ℕ
-    row-bytes columns p = joined_bytes size repr (row_at (2 ^ rows_of n) columns p)
+    row-bytes columns p = joined_bytes size repr (row_at (2 ^ matrix_rows m n) columns p)
 
     nodes-count : length honest.left_nodes ≡ length honest.right_nodes
     nodes-count =
-        counts hash hash (word_levels 7 n) (root_of left_tree) (root_of right_tree) honest.places
+        counts hash hash (word_levels m n) (root_of left_tree) (root_of right_tree) honest.places
         (λ i. row-bytes left_columns (slice_index honest.places i)) (λ i. row-bytes right_columns (slice_index honest.places i))
         honest.left_nodes honest.right_nodes
         (subst (λ (d : ℕ). OpensRows hash d (root_of left_tree) honest.places (λ i. row-bytes left_columns (slice_index honest.places i))
@@ -345,28 +345,28 @@ module _ {C S F : Type 0} (state : C → S) (observes gives : C → F → C → 
 
     -- what is said by the prover's point and places, and of parts that it sends, is said by the verifier's and of what it reads
     moved : (says : List F → List ℕ → List F → List (List ℕ) → Type 0) {sent read : List F} {ns half : List (List ℕ)} → read ≡ sent → half ≡ ns
-        → says first honest.places sent ns → says (take (rows_of n) verdict.point) verdict.places read half
+        → says first honest.places sent ns → says (take (matrix_rows m n) verdict.point) verdict.places read half
     moved says {sent} {read} {ns} {half} one two holds =
-        subst (λ (p : List F). says (take (rows_of n) p) verdict.places read half) run.0
+        subst (λ (p : List F). says (take (matrix_rows m n) p) verdict.places read half) run.0
         (subst (λ (ps : List ℕ). says first ps read half) draws.1
         (subst (λ (l : List F). says first honest.places l half) (sym one)
         (subst (λ (l : List (List ℕ)). says first honest.places sent l) (sym two) holds)))
 
-    opens-left : OpensTable hash repr size width times vector n 0 (root_of left_tree) (take (rows_of n) verdict.point) elements verdict.places nodes
+    opens-left : OpensTable hash repr size width times vector m n 0 (root_of left_tree) (take (matrix_rows m n) verdict.point) elements verdict.places nodes
     opens-left =
-        moved (λ (p : List F) (ps : List ℕ) (l : List F) (ns : List (List ℕ)). OpensColumns hash repr size width times vector (levels_of n) 2
-        (root_of left_tree) p (row_in n 0 elements) ps l ns)
-        (sent-left n honest.parts elements honest.written honest.summed.message_count rows-count left-count right-count) nodes-read.0
-        (opened left left_columns left_tree left_held (row_in n 0 elements) honest.parts.left honest.left_nodes left-row honest.left_opened
+        moved (λ (p : List F) (ps : List ℕ) (l : List F) (ns : List (List ℕ)). OpensColumns hash repr size width times vector (row_levels m n) 2
+        (root_of left_tree) p (row_in m n 0 elements) ps l ns)
+        (sent-left m n honest.parts elements honest.written honest.summed.message_count rows-count left-count right-count) nodes-read.0
+        (opened left left_columns left_tree left_held (row_in m n 0 elements) honest.parts.left honest.left_nodes left-row honest.left_opened
         honest.left_nodes_open)
 
-    opens-right : OpensTable hash repr size width times vector n 1 (root_of right_tree) (take (rows_of n) verdict.point) elements verdict.places
+    opens-right : OpensTable hash repr size width times vector m n 1 (root_of right_tree) (take (matrix_rows m n) verdict.point) elements verdict.places
         nodes
     opens-right =
-        moved (λ (p : List F) (ps : List ℕ) (l : List F) (ns : List (List ℕ)). OpensColumns hash repr size width times vector (levels_of n) 2
-        (root_of right_tree) p (row_in n 1 elements) ps l ns)
-        (sent-right n honest.parts elements honest.written honest.summed.message_count rows-count left-count right-count) nodes-read.1
-        (opened right right_columns right_tree right_held (row_in n 1 elements) honest.parts.right honest.right_nodes right-row
+        moved (λ (p : List F) (ps : List ℕ) (l : List F) (ns : List (List ℕ)). OpensColumns hash repr size width times vector (row_levels m n) 2
+        (root_of right_tree) p (row_in m n 1 elements) ps l ns)
+        (sent-right m n honest.parts elements honest.written honest.summed.message_count rows-count left-count right-count) nodes-read.1
+        (opened right right_columns right_tree right_held (row_in m n 1 elements) honest.parts.right honest.right_nodes right-row
         honest.right_opened honest.right_nodes_open)
 
     pub is-accepted : accepted ≡ true
@@ -374,7 +374,7 @@ module _ {C S F : Type 0} (state : C → S) (observes gives : C → F → C → 
 
   pub honest_sums_are_accepted : HonestReduces → OpeningsHaveOneCount
       → HonestSumsAreAccepted state observes gives passing checks gives_bits number repr size width times vector
-  honest_sums_are_accepted reduces counts hash n left right left_columns right_columns left_tree right_tree elements nodes prover verifier
+  honest_sums_are_accepted reduces counts hash m n left right left_columns right_columns left_tree right_tree elements nodes prover verifier
       accepted wide left_held right_held honest same verdict =
-      is-accepted reduces counts hash n left right left_columns right_columns left_tree right_tree elements nodes prover verifier accepted wide
+      is-accepted reduces counts hash m n left right left_columns right_columns left_tree right_tree elements nodes prover verifier accepted wide
       left_held right_held honest same verdict

@@ -62,31 +62,31 @@ refused-memory {T} left right result fails only =
     subst (λ (r : Result T NoAnswer). IfErr r (λ e. HasNoAnswer left right e)) (sym error.1)
     (subst (λ (e : NoAnswer). HasNoAnswer left right e) (sym (only error.0 error.2)) tt)
 
-module _ {T H : Type 0} (digest : H → List ℕ → List ℕ) (hasher : H) (left right left_root right_root bytes : List ℕ)
+module _ {T H : Type 0} (digest : H → List ℕ → List ℕ) (hasher : H) (bits : ℕ) (left right left_root right_root bytes : List ℕ)
     (left_named : NamesRoot left left_root) (right_named : NamesRoot right right_root) (answer : Result T Refusal)
-    (told : IsWordAnswer digest hasher left_root right_root bytes (refusal_in answer)) (line : List ℕ) (status : ℕ) where
+    (told : IsWordAnswer digest hasher bits left_root right_root bytes (refusal_in answer)) (line : List ℕ) (status : ℕ) where
   pub refused-report : (refusal : Refusal) → answer ≡ Err refusal → line ≡ refusal_line refusal → status ≡ 1
-      → IsVerifyReport digest hasher left right bytes line status
+      → IsVerifyReport digest hasher bits left right bytes line status
   refused-report refusal is said one = record {
     left_root = left_root;
     right_root = right_root;
     refusal = Some refusal;
     left_named = left_named;
     right_named = right_named;
-    answered = subst (λ (a : Result T Refusal). IsWordAnswer digest hasher left_root right_root bytes (refusal_in a)) is told;
+    answered = subst (λ (a : Result T Refusal). IsWordAnswer digest hasher bits left_root right_root bytes (refusal_in a)) is told;
     said = (one, said);
   }
 
   pub accepted-report : (proof : T) → answer ≡ Ok proof
       → SaysAnswer (number_in (λ (table : Table). table.elements.items) repr_of) left_root right_root bytes None line status
-      → IsVerifyReport digest hasher left right bytes line status
+      → IsVerifyReport digest hasher bits left right bytes line status
   accepted-report proof is said = record {
     left_root = left_root;
     right_root = right_root;
     refusal = None;
     left_named = left_named;
     right_named = right_named;
-    answered = subst (λ (a : Result T Refusal). IsWordAnswer digest hasher left_root right_root bytes (refusal_in a)) is told;
+    answered = subst (λ (a : Result T Refusal). IsWordAnswer digest hasher bits left_root right_root bytes (refusal_in a)) is told;
     said = said;
   }
 

@@ -42,10 +42,10 @@ chunks-flat (n ∷ ns) sized (suc k) same =
     first = sized 0 (omega arith)
 
     front : take 32 (flat (n ∷ ns)) ≡ n
-    front = ap (take 32) (flat_map-cons (λ x. x) n ns) ∙ ap (λ (m : ℕ). take m (n ++ flat ns)) (sym first) ∙ take-append_seam n (flat ns)
+    front = ap (take 32) (flat_map-cons (λ x. x) n ns) ∙ ap (λ (v : ℕ). take v (n ++ flat ns)) (sym first) ∙ take-append_seam n (flat ns)
 
     back : drop 32 (flat (n ∷ ns)) ≡ flat ns
-    back = ap (drop 32) (flat_map-cons (λ x. x) n ns) ∙ ap (λ (m : ℕ). drop m (n ++ flat ns)) (sym first) ∙ drop-append_seam n (flat ns)
+    back = ap (drop 32) (flat_map-cons (λ x. x) n ns) ∙ ap (λ (v : ℕ). drop v (n ++ flat ns)) (sym first) ∙ drop-append_seam n (flat ns)
 
 -- and chunks of bytes, one after the other, are the bytes
 flat-chunks : (k : ℕ) (bytes : List ℕ) → length bytes ≡ k * 32 → flat (first_chunks 32 k bytes) ≡ bytes
@@ -70,13 +70,13 @@ chunk-count (suc k) bytes = ap suc (chunk-count k (drop 32 bytes))
 -- ---- files
 
 -- the parts of a file, one behind the other
-nested : (rounds : ℕ) (left right body : List ℕ) (nodes : List (List ℕ))
-    → file_bytes rounds left right body nodes ≡ head ++ (rounds ∷ (left ++ (right ++ (body ++ flat nodes))))
-nested rounds left right body nodes =
-    append_assoc (head ++ (rounds ∷ []) ++ left ++ right) body (flat nodes)
-    ∙ append_assoc (head ++ (rounds ∷ []) ++ left) right (body ++ flat nodes)
-    ∙ append_assoc (head ++ (rounds ∷ [])) left (right ++ (body ++ flat nodes))
-    ∙ append_assoc head (rounds ∷ []) (left ++ (right ++ (body ++ flat nodes)))
+nested : (queries rounds : ℕ) (left right body : List ℕ) (nodes : List (List ℕ))
+    → file_bytes queries rounds left right body nodes ≡ head ++ (queries ∷ rounds ∷ (left ++ (right ++ (body ++ flat nodes))))
+nested queries rounds left right body nodes =
+    append_assoc (head ++ (queries ∷ rounds ∷ []) ++ left ++ right) body (flat nodes)
+    ∙ append_assoc (head ++ (queries ∷ rounds ∷ []) ++ left) right (body ++ flat nodes)
+    ∙ append_assoc (head ++ (queries ∷ rounds ∷ [])) left (right ++ (body ++ flat nodes))
+    ∙ append_assoc head (queries ∷ rounds ∷ []) (left ++ (right ++ (body ++ flat nodes)))
 
 -- a part, and what stands behind it
 split : (bytes : List ℕ) (from size : ℕ) → take size (drop from bytes) ++ drop (from + size) bytes ≡ drop from bytes
@@ -90,59 +90,66 @@ byte-at (b ∷ bytes) (suc place) inside = byte-at bytes place (omega (arith, in
 
 module _ (bytes : List ℕ) where
   -- the parts of a file
+  abbrev pub queries_of : ℕ
+  queries_of = slice_index bytes 8
+
   abbrev pub rounds_of : ℕ
-  rounds_of = slice_index bytes 8
+  rounds_of = slice_index bytes 9
 
   abbrev pub left_of : List ℕ
-  left_of = take 32 (drop 9 bytes)
+  left_of = take 32 (drop 10 bytes)
 
   abbrev pub right_of : List ℕ
-  right_of = take 32 (drop 41 bytes)
+  right_of = take 32 (drop 42 bytes)
 
   abbrev pub body_of : ℕ → List ℕ
-  body_of size = take size (drop 73 bytes)
+  body_of size = take size (drop 74 bytes)
 
   abbrev pub nodes_of : ℕ → List (List ℕ)
-  nodes_of size = first_chunks 32 (length (drop (73 + size) bytes) / 32) (drop (73 + size) bytes)
+  nodes_of size = first_chunks 32 (length (drop (74 + size) bytes) / 32) (drop (74 + size) bytes)
 
   -- bytes of which enough are there, and which begin so, are the file of their parts
-  pub whole : (size : ℕ) → 73 + size ≤ length bytes → (length bytes - (73 + size)) % 64 ≡ 0 → take 8 bytes ≡ head
-      → bytes ≡ file_bytes rounds_of left_of right_of (body_of size) (nodes_of size)
+  pub whole : (size : ℕ) → 74 + size ≤ length bytes → (length bytes - (74 + size)) % 64 ≡ 0 → take 8 bytes ≡ head
+      → bytes ≡ file_bytes queries_of rounds_of left_of right_of (body_of size) (nodes_of size)
   whole size enough even same =
-      sym (nested rounds_of left_of right_of (body_of size) (nodes_of size)
-      ∙ ap (λ (l : List ℕ). head ++ (rounds_of ∷ (left_of ++ (right_of ++ (body_of size ++ l)))))
-      (flat-chunks (length (drop (73 + size) bytes) / 32) (drop (73 + size) bytes) (let all = length-drop (73 + size) bytes in omega (arith, all, even, enough)))
-      ∙ ap (λ (l : List ℕ). head ++ (rounds_of ∷ (left_of ++ (right_of ++ l)))) (split bytes 73 size)
-      ∙ ap (λ (l : List ℕ). head ++ (rounds_of ∷ (left_of ++ l))) (split bytes 41 32)
-      ∙ ap (λ (l : List ℕ). head ++ (rounds_of ∷ l)) (split bytes 9 32)
+      sym (nested queries_of rounds_of left_of right_of (body_of size) (nodes_of size)
+      ∙ ap (λ (l : List ℕ). head ++ (queries_of ∷ rounds_of ∷ (left_of ++ (right_of ++ (body_of size ++ l)))))
+      (flat-chunks (length (drop (74 + size) bytes) / 32) (drop (74 + size) bytes) (let all = length-drop (74 + size) bytes in omega (arith, all, even, enough)))
+      ∙ ap (λ (l : List ℕ). head ++ (queries_of ∷ rounds_of ∷ (left_of ++ (right_of ++ l)))) (split bytes 74 size)
+      ∙ ap (λ (l : List ℕ). head ++ (queries_of ∷ rounds_of ∷ (left_of ++ l))) (split bytes 42 32)
+      ∙ ap (λ (l : List ℕ). head ++ (queries_of ∷ rounds_of ∷ l)) (split bytes 10 32)
+      ∙ ap (λ (l : List ℕ). head ++ (queries_of ∷ l)) (byte-at bytes 9 (omega (arith, enough)))
       ∙ ap (λ (l : List ℕ). head ++ l) (byte-at bytes 8 (omega (arith, enough)))
       ∙ ap (λ (h : List ℕ). h ++ drop 8 bytes) (sym same) ∙ take-append-drop 8 bytes)
 
-  module _ (rounds : ℕ) (left right body : List ℕ) (nodes : List (List ℕ)) (is : IsFile rounds left right body nodes)
-      (same : bytes ≡ file_bytes rounds left right body nodes) where
-    all : bytes ≡ head ++ (rounds ∷ (left ++ (right ++ (body ++ flat nodes))))
-    all = same ∙ nested rounds left right body nodes
+  module _ (queries rounds : ℕ) (left right body : List ℕ) (nodes : List (List ℕ)) (is : IsFile queries rounds left right body nodes)
+      (same : bytes ≡ file_bytes queries rounds left right body nodes) where
+    all : bytes ≡ head ++ (queries ∷ rounds ∷ (left ++ (right ++ (body ++ flat nodes))))
+    all = same ∙ nested queries rounds left right body nodes
 
-    behind_head : drop 9 bytes ≡ left ++ (right ++ (body ++ flat nodes))
-    behind_head = ap (drop 9) all
+    behind_head : drop 10 bytes ≡ left ++ (right ++ (body ++ flat nodes))
+    behind_head = ap (drop 10) all
 
-    behind_left : drop 41 bytes ≡ right ++ (body ++ flat nodes)
+    behind_left : drop 42 bytes ≡ right ++ (body ++ flat nodes)
     behind_left =
-        sym (drop-drop 32 9 bytes) ∙ ap (drop 32) behind_head
+        sym (drop-drop 32 10 bytes) ∙ ap (drop 32) behind_head
         ∙ ap (λ (n : ℕ). drop n (left ++ (right ++ (body ++ flat nodes)))) (sym is.left_size) ∙ drop-append_seam left (right ++ (body ++ flat nodes))
 
-    behind_right : drop 73 bytes ≡ body ++ flat nodes
+    behind_right : drop 74 bytes ≡ body ++ flat nodes
     behind_right =
-        sym (drop-drop 32 41 bytes) ∙ ap (drop 32) behind_left
+        sym (drop-drop 32 42 bytes) ∙ ap (drop 32) behind_left
         ∙ ap (λ (n : ℕ). drop n (right ++ (body ++ flat nodes))) (sym is.right_size) ∙ drop-append_seam right (body ++ flat nodes)
 
-    behind_body : (size : ℕ) → size ≡ length body → drop (73 + size) bytes ≡ flat nodes
+    behind_body : (size : ℕ) → size ≡ length body → drop (74 + size) bytes ≡ flat nodes
     behind_body size long =
-        sym (drop-drop size 73 bytes) ∙ ap (drop size) behind_right ∙ ap (λ (n : ℕ). drop n (body ++ flat nodes)) long
+        sym (drop-drop size 74 bytes) ∙ ap (drop size) behind_right ∙ ap (λ (n : ℕ). drop n (body ++ flat nodes)) long
         ∙ drop-append_seam body (flat nodes)
 
+    pub file_queries : queries_of ≡ queries
+    file_queries = ap (λ (l : List ℕ). slice_index l 8) all
+
     pub file_rounds : rounds_of ≡ rounds
-    file_rounds = ap (λ (l : List ℕ). slice_index l 8) all
+    file_rounds = ap (λ (l : List ℕ). slice_index l 9) all
 
     pub file_left : left_of ≡ left
     file_left =
@@ -165,7 +172,7 @@ module _ (bytes : List ℕ) where
         (let long = length-flat nodes is.node_size in omega (arith, long))
 
     -- a file has so many bytes
-    pub file_length : length bytes ≡ 73 + length body + length nodes * 32
+    pub file_length : length bytes ≡ 74 + length body + length nodes * 32
     file_length =
         let last = length-flat nodes is.node_size in
         let three = length-append body (flat nodes) in
@@ -184,47 +191,55 @@ length-joined repr (x ∷ xs) =
 
 -- ---- what is read
 
-module _ (bytes : List ℕ) (rounds : ℕ) (left right body : List ℕ) (nodes : List (List ℕ)) (size : ℕ) (rounds_are : rounds ≡ rounds_of bytes)
+module _ (bytes : List ℕ) (queries rounds : ℕ) (left right body : List ℕ) (nodes : List (List ℕ)) (size : ℕ)
+    (queries_are : queries ≡ queries_of bytes) (rounds_are : rounds ≡ rounds_of bytes)
     (left_is : left ≡ left_of bytes) (right_is : right ≡ right_of bytes) (body_is : body ≡ body_of bytes size)
-    (nodes_are : nodes ≡ nodes_of bytes size) (fits : size ≡ element_count rounds * 16) (few : rounds ≤ 39) (enough : 73 + size ≤ length bytes)
-    (even : (length bytes - (73 + size)) % 64 ≡ 0) (begins : take 8 bytes ≡ head) where
+    (nodes_are : nodes ≡ nodes_of bytes size) (fits : size ≡ element_count queries rounds * 16) (some_queries : 7 ≤ queries) (few_queries : queries ≤ 8)
+    (few : rounds ≤ 39) (enough : 74 + size ≤ length bytes)
+    (even : (length bytes - (74 + size)) % 64 ≡ 0) (begins : take 8 bytes ≡ head) where
   -- a file
-  read-file : IsFile rounds left right body nodes
+  read-file : IsFile queries rounds left right body nodes
   read-file = record {
+    some_queries = some_queries;
+    few_queries = few_queries;
     few = few;
-    left_size = ap length left_is ∙ length-take-le 32 (drop 9 bytes) (let all = length-drop 9 bytes in omega (arith, all, enough));
-    right_size = ap length right_is ∙ length-take-le 32 (drop 41 bytes) (let all = length-drop 41 bytes in omega (arith, all, enough));
-    body_size = ap length body_is ∙ length-take-le size (drop 73 bytes) (let all = length-drop 73 bytes in omega (arith, all, enough)) ∙ fits;
+    left_size = ap length left_is ∙ length-take-le 32 (drop 10 bytes) (let all = length-drop 10 bytes in omega (arith, all, enough));
+    right_size = ap length right_is ∙ length-take-le 32 (drop 42 bytes) (let all = length-drop 42 bytes in omega (arith, all, enough));
+    body_size = ap length body_is ∙ length-take-le size (drop 74 bytes) (let all = length-drop 74 bytes in omega (arith, all, enough)) ∙ fits;
     node_size =
         subst (λ (ns : List (List ℕ)). AreNodes ns) (sym nodes_are)
-        (chunk-size (length (drop (73 + size) bytes) / 32) (drop (73 + size) bytes) (omega arith));
+        (chunk-size (length (drop (74 + size) bytes) / 32) (drop (74 + size) bytes) (omega arith));
     even =
-        let all = length-drop (73 + size) bytes in
-        let count = ap length nodes_are ∙ chunk-count (length (drop (73 + size) bytes) / 32) (drop (73 + size) bytes) in
+        let all = length-drop (74 + size) bytes in
+        let count = ap length nodes_are ∙ chunk-count (length (drop (74 + size) bytes) / 32) (drop (74 + size) bytes) in
         omega (arith, all, count, even);
   }
 
-  read-whole : bytes ≡ file_bytes rounds left right body nodes
+  read-whole : bytes ≡ file_bytes queries rounds left right body nodes
   read-whole =
       whole bytes size enough even begins
-      ∙ ap₂ (λ (n : ℕ) (l : List ℕ). file_bytes n l (right_of bytes) (body_of bytes size) (nodes_of bytes size)) (sym rounds_are) (sym left_is)
-      ∙ ap₂ (λ (r b : List ℕ). file_bytes rounds left r b (nodes_of bytes size)) (sym right_is) (sym body_is)
-      ∙ ap (file_bytes rounds left right body) (sym nodes_are)
+      ∙ ap₂ (λ (m n : ℕ). file_bytes m n (left_of bytes) (right_of bytes) (body_of bytes size) (nodes_of bytes size)) (sym queries_are)
+      (sym rounds_are)
+      ∙ ap (λ (l : List ℕ). file_bytes queries rounds l (right_of bytes) (body_of bytes size) (nodes_of bytes size)) (sym left_is)
+      ∙ ap₂ (λ (r b : List ℕ). file_bytes queries rounds left r b (nodes_of bytes size)) (sym right_is) (sym body_is)
+      ∙ ap (file_bytes queries rounds left right body) (sym nodes_are)
 
   -- and the only one
-  read-same : (n : ℕ) (l r b : List ℕ) (ns : List (List ℕ)) → IsFile n l r b ns → bytes ≡ file_bytes n l r b ns
-      → (rounds ≡ n) × (left ≡ l) × (right ≡ r) × (body ≡ b) × (nodes ≡ ns)
-  read-same n l r b ns is same =
-      let number : rounds ≡ n = rounds_are ∙ file_rounds bytes n l r b ns is same in
-      let long : size ≡ length b = fits ∙ ap (λ (m : ℕ). element_count m * 16) number ∙ sym is.body_size in (
+  read-same : (m n : ℕ) (l r b : List ℕ) (ns : List (List ℕ)) → IsFile m n l r b ns → bytes ≡ file_bytes m n l r b ns
+      → (queries ≡ m) × (rounds ≡ n) × (left ≡ l) × (right ≡ r) × (body ≡ b) × (nodes ≡ ns)
+  read-same m n l r b ns is same =
+      let opened : queries ≡ m = queries_are ∙ file_queries bytes m n l r b ns is same in
+      let number : rounds ≡ n = rounds_are ∙ file_rounds bytes m n l r b ns is same in
+      let long : size ≡ length b = fits ∙ ap₂ (λ (u v : ℕ). element_count u v * 16) opened number ∙ sym is.body_size in (
+        opened,
         number,
-        left_is ∙ file_left bytes n l r b ns is same,
-        right_is ∙ file_right bytes n l r b ns is same,
-        body_is ∙ file_body bytes n l r b ns is same size long,
-        nodes_are ∙ file_nodes bytes n l r b ns is same size long,
+        left_is ∙ file_left bytes m n l r b ns is same,
+        right_is ∙ file_right bytes m n l r b ns is same,
+        body_is ∙ file_body bytes m n l r b ns is same size long,
+        nodes_are ∙ file_nodes bytes m n l r b ns is same size long,
       )
 
-  pub reads : IsCutTo bytes rounds left right body nodes
+  pub reads : IsCutTo bytes queries rounds left right body nodes
   reads = record { may_be = read-file; written = read-whole; only = read-same }
 
 -- sixteen of each

@@ -3,6 +3,7 @@ mod Exits
 mod Files
 mod Places
 mod Refusals
+mod SizeBits
 mod Sizes
 mod SoundBits
 mod Soundness

@@ -24,38 +24,38 @@ twice-few zero size below = omega arith
 twice-few (suc zero) size below = omega arith
 twice-few (suc (suc which)) size below = absurd (omega (arith, below))
 
-module _ {F : Type 0} (n which : ℕ) (elements : List F) (below : which < 2) (count : length elements ≡ element_count n) where
+module _ {F : Type 0} (m n which : ℕ) (elements : List F) (below : which < 2) (count : length elements ≡ element_count m n) where
   -- a table's row is within
-  pub row-room : (size : ℕ) → size ≡ row_size n → 2 * n + 2 + which * size + size ≤ length elements
-  row-room size is = subst (λ (r : ℕ). 2 * n + 2 + which * r + r ≤ length elements) (sym is) (enough (row_size n) (columns_size n) count)
+  pub row-room : (size : ℕ) → size ≡ row_size m n → 2 * n + 2 + which * size + size ≤ length elements
+  row-room size is = subst (λ (r : ℕ). 2 * n + 2 + which * r + r ≤ length elements) (sym is) (enough (row_size m n) (columns_size m n) count)
     where
       enough : (r s : ℕ) → length elements ≡ 2 * n + 2 + 2 * r + 2 * s → 2 * n + 2 + which * r + r ≤ length elements
       enough r s is = let few = twice-few which r below in omega (arith, few, is)
 
-  pub row-long : length (row_in n which elements) ≡ row_size n
+  pub row-long : length (row_in m n which elements) ≡ row_size m n
   row-long =
-      let room = row-room (row_size n) refl in
-      let behind = length-drop (2 * n + 2 + which * row_size n) elements in
-      length-take-le (row_size n) (drop (2 * n + 2 + which * row_size n) elements)
-      (enough (2 * n + 2 + which * row_size n) (row_size n) (length elements) (length (drop (2 * n + 2 + which * row_size n) elements)) room behind)
+      let room = row-room (row_size m n) refl in
+      let behind = length-drop (2 * n + 2 + which * row_size m n) elements in
+      length-take-le (row_size m n) (drop (2 * n + 2 + which * row_size m n) elements)
+      (enough (2 * n + 2 + which * row_size m n) (row_size m n) (length elements) (length (drop (2 * n + 2 + which * row_size m n) elements)) room behind)
     where
       enough : (from size all left : ℕ) → from + size ≤ all → left ≡ all - from → size ≤ left
       enough from size all left room is = omega (arith, room, is)
 
   -- and so are its columns
-  pub columns-room : (row size : ℕ) → row ≡ row_size n → size ≡ columns_size n → 2 * n + 2 + 2 * row + which * size + size ≤ length elements
+  pub columns-room : (row size : ℕ) → row ≡ row_size m n → size ≡ columns_size m n → 2 * n + 2 + 2 * row + which * size + size ≤ length elements
   columns-room row size is same =
       subst (λ (r : ℕ). 2 * n + 2 + 2 * r + which * size + size ≤ length elements) (sym is)
-      (subst (λ (s : ℕ). 2 * n + 2 + 2 * row_size n + which * s + s ≤ length elements) (sym same) (enough (row_size n) (columns_size n) count))
+      (subst (λ (s : ℕ). 2 * n + 2 + 2 * row_size m n + which * s + s ≤ length elements) (sym same) (enough (row_size m n) (columns_size m n) count))
     where
       enough : (r s : ℕ) → length elements ≡ 2 * n + 2 + 2 * r + 2 * s → 2 * n + 2 + 2 * r + which * s + s ≤ length elements
       enough r s is = let few = twice-few which s below in omega (arith, few, is)
 
 -- what stands before the columns is within
-pub front-room : {F : Type 0} (n : ℕ) (elements : List F) (row : ℕ) → length elements ≡ element_count n → row ≡ row_size n
+pub front-room : {F : Type 0} (m n : ℕ) (elements : List F) (row : ℕ) → length elements ≡ element_count m n → row ≡ row_size m n
     → 2 * n + 2 + 2 * row ≤ length elements
-front-room n elements row count is =
-    subst (λ (r : ℕ). 2 * n + 2 + 2 * r ≤ length elements) (sym is) (enough (row_size n) (columns_size n) count)
+front-room m n elements row count is =
+    subst (λ (r : ℕ). 2 * n + 2 + 2 * r ≤ length elements) (sym is) (enough (row_size m n) (columns_size m n) count)
   where
     enough : (r s : ℕ) → length elements ≡ 2 * n + 2 + 2 * r + 2 * s → 2 * n + 2 + 2 * r ≤ length elements
     enough r s is = omega (arith, is)

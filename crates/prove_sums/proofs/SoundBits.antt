@@ -17,10 +17,9 @@ use Rattle.proximity.proofs.Lines.{lines_are_near}
 use Rattle.protocols.specs.CodeDistances.{point_generator}
 use Rattle.protocols.proofs.CodeDistances.{quarter_rate_gap}
 use Rattle.protocols.proofs.OpenedTables.{code-distance}
-use Rattle.prove_sums.specs.Shapes.{block_bits, block_count, depth_of, levels_of, rows_of}
-use Rattle.prove_sums.specs.SoundnessErrors.{AreMostBits, AreSoundBits, Cheats, ErrorsAreSmall, Prover, accepted_runs}
-use Rattle.prove_sums.specs.SoundnessErrors.{all_runs, error_parts, lucky_challenges, lucky_places, whole_parts}
-use Rattle.prove_sums.specs.SoundnessErrors.{wrong_columns}
+use Rattle.protocols.specs.CommitmentScheme.{matrix_rows, place_bits, place_count, row_levels, word_levels}
+use Rattle.prove_sums.specs.Bits.{AreMostBits, error_parts, lucky_challenges, lucky_places, whole_parts, wrong_columns}
+use Rattle.prove_sums.specs.SoundnessErrors.{AreSoundBits, Cheats, ErrorsAreSmall, Prover, accepted_runs, all_runs}
 use Rattle.prove_sums.specs.Verdicts.{word_times, word_vector}
 use Rattle.prove_sums.proofs.SoundnessErrors.{few-accepted}
 
@@ -35,8 +34,8 @@ power-less p c =
     joined (p ^ c) (suc p ^ c) (p ^ suc c) (suc p ^ suc c) (pow-le-pow_left (more p) c) (some-power p c) (pow-suc p c)
     (pow-suc (suc p) c)
   where
-    more : (m : ℕ) → m ≤ suc m
-    more m = omega arith
+    more : (v : ℕ) → v ≤ suc v
+    more v = omega arith
 
     joined : (a b left right : ℕ) → a ≤ b → 0 < b → left ≡ a * p → right ≡ b * suc p → left < right
     joined a b left right less some is other =
@@ -49,227 +48,272 @@ none-left q zero some is = refl
 none-left zero (suc s) some is = absurd (omega (arith, some))
 none-left (suc p) (suc s) some is =
     let less = power-less p p in
-    let same : (suc p - 1) ^ suc p ≡ p ^ suc p = ap (λ (m : ℕ). m ^ suc p) (one-less p) in
+    let same : (suc p - 1) ^ suc p ≡ p ^ suc p = ap (λ (v : ℕ). v ^ suc p) (one-less p) in
     absurd (omega (arith, is, less, same))
   where
-    one-less : (m : ℕ) → suc m - 1 ≡ m
-    one-less m = omega arith
+    one-less : (v : ℕ) → suc v - 1 ≡ v
+    one-less v = omega arith
 
 -- ---- lists of numbers that miss all columns that are wrong
 
--- 128 blocks of 2 j places: (163 / 256) ^ 128 of all lists at most
-seldom-many : (j b : ℕ) (marked : ℕ → Bool) → 2 ^ b ≡ 2 * j → 93 * j < marked_below marked (2 ^ 7 * 2 ^ b)
-    → 256 ^ 128 * sum_lists (2 ^ 7) (2 ^ b) (λ numbers. cond (blocks_unmarked (2 ^ b) marked 0 numbers) 1 0)
-    ≤ 163 ^ 128 * (2 ^ b) ^ 2 ^ 7
-seldom-many j b marked is many =
-    joined (sum_lists (2 ^ 7) (2 ^ b) (λ numbers. cond (blocks_unmarked (2 ^ b) marked 0 numbers) 1 0))
-    ((163 * j) ^ 128) ((2 ^ b) ^ 128)
-    (le_trans (few_blocks_miss 7 (2 ^ b) marked) (pow-le-pow_left free 128))
-    (sym (mul-pow 2 (163 * j) 128) ∙ ap (λ (m : ℕ). m ^ 128) turned ∙ mul-pow 163 (2 ^ b) 128)
+-- 2 ^ m blocks of t j places, 256 j in all: (163 / 256) ^ 2 ^ m of all lists at most
+seldom-many : (m t j b : ℕ) (marked : ℕ → Bool) → 2 ^ m * t ≡ 256 → 2 ^ b ≡ t * j → 93 * j < marked_below marked (2 ^ m * 2 ^ b)
+    → 256 ^ 2 ^ m * sum_lists (2 ^ m) (2 ^ b) (λ numbers. cond (blocks_unmarked (2 ^ b) marked 0 numbers) 1 0)
+    ≤ 163 ^ 2 ^ m * (2 ^ b) ^ 2 ^ m
+seldom-many m t j b marked whole is many =
+    joined (sum_lists (2 ^ m) (2 ^ b) (λ numbers. cond (blocks_unmarked (2 ^ b) marked 0 numbers) 1 0)) ((2 ^ m) ^ 2 ^ m) (t ^ 2 ^ m)
+    ((163 * j) ^ 2 ^ m) (256 ^ 2 ^ m) (163 ^ 2 ^ m * (2 ^ b) ^ 2 ^ m)
+    (le_trans (few_blocks_miss m (2 ^ b) marked) (pow-le-pow_left free (2 ^ m)))
+    (sym (mul-pow (2 ^ m) t (2 ^ m)) ∙ ap (λ (v : ℕ). v ^ 2 ^ m) whole)
+    (sym (mul-pow t (163 * j) (2 ^ m)) ∙ ap (λ (v : ℕ). v ^ 2 ^ m) turned ∙ mul-pow 163 (2 ^ b) (2 ^ m))
   where
-    free : 2 ^ 7 * 2 ^ b - marked_below marked (2 ^ 7 * 2 ^ b) ≤ 163 * j
-    free = omega (arith, is, many)
+    grouped : (a b c : ℕ) → a * (b * c) ≡ a * b * c
+    grouped a b c = omega arith
 
-    turned : 2 * (163 * j) ≡ 163 * 2 ^ b
+    all : 2 ^ m * 2 ^ b ≡ 256 * j
+    all = ap (λ (v : ℕ). 2 ^ m * v) is ∙ grouped (2 ^ m) t j ∙ ap (λ (v : ℕ). v * j) whole
+
+    free : 2 ^ m * 2 ^ b - marked_below marked (2 ^ m * 2 ^ b) ≤ 163 * j
+    free = let places = all in omega (arith, places, many)
+
+    turned : t * (163 * j) ≡ 163 * 2 ^ b
     turned = omega (arith, is)
 
-    joined : (lists free all : ℕ) → 128 ^ 128 * lists ≤ free → 2 ^ 128 * free ≡ 163 ^ 128 * all → 256 ^ 128 * lists
-        ≤ 163 ^ 128 * all
-    joined lists free all less same =
-        let scaled = mul-le-mul_left (2 ^ 128) less in
-        let whole : 256 ^ 128 * lists ≡ 2 ^ 128 * (128 ^ 128 * lists) = omega arith in
-        omega (arith, scaled, whole, same)
+    joined : (lists blocks scale free parts most : ℕ) → blocks * lists ≤ free → blocks * scale ≡ parts → scale * free ≡ most
+        → parts * lists ≤ most
+    joined lists blocks scale free parts most less one two =
+        subst (λ (v : ℕ). v * lists ≤ most) one
+        (subst (λ (v : ℕ). blocks * scale * lists ≤ v) two
+        (let scaled = mul-le-mul_left scale less in omega (arith, scaled)))
 
 -- as many blocks as places: none
-seldom-none : (m : ℕ) (marked : ℕ → Bool) → 0 < marked_below marked (2 ^ m * 1)
-    → sum_lists (2 ^ m) 1 (λ numbers. cond (blocks_unmarked 1 marked 0 numbers) 1 0) ≡ 0
-seldom-none m marked some =
-    none-left (2 ^ m) (sum_lists (2 ^ m) 1 (λ numbers. cond (blocks_unmarked 1 marked 0 numbers) 1 0))
+seldom-none : (v : ℕ) (marked : ℕ → Bool) → 0 < marked_below marked (2 ^ v * 1)
+    → sum_lists (2 ^ v) 1 (λ numbers. cond (blocks_unmarked 1 marked 0 numbers) 1 0) ≡ 0
+seldom-none v marked some =
+    none-left (2 ^ v) (sum_lists (2 ^ v) 1 (λ numbers. cond (blocks_unmarked 1 marked 0 numbers) 1 0))
     (subst (λ (k : ℕ). 0 < k) once (positive some))
-    (le_trans (few_blocks_miss m 1 marked) (pow-le-pow_left (omega (arith, some, once)) (2 ^ m)))
+    (le_trans (few_blocks_miss v 1 marked) (pow-le-pow_left (omega (arith, some, once)) (2 ^ v)))
   where
-    once : 2 ^ m * 1 ≡ 2 ^ m
+    once : 2 ^ v * 1 ≡ 2 ^ v
     once = omega arith
 
-    positive : 0 < marked_below marked (2 ^ m * 1) → 0 < 2 ^ m * 1
-    positive marks = let one = some-power 1 m in omega (arith, one)
+    positive : 0 < marked_below marked (2 ^ v * 1) → 0 < 2 ^ v * 1
+    positive marks = let one = some-power 1 v in omega (arith, one)
 
 -- ---- the error
 
 module _ (field : IsField 128 word_times) (vectors : AreCantorVectors 128 word_times word_vector)
-    (fit : (b : ℕ) → b < 128 → word_vector b < 2 ^ 128) (n : ℕ) (few : n ≤ 39) where
+    (fit : (b : ℕ) → b < 128 → word_vector b < 2 ^ 128) (m n : ℕ) (some : 7 ≤ m) (most : m ≤ 8) (few : n ≤ 39) where
   abbrev Seldom : Type 0
   Seldom =
-      (marked : ℕ → Bool) → wrong_columns n < marked_below marked (2 ^ 2 * 2 ^ levels_of n)
-      → 256 ^ 128 * sum_lists (block_count n) (2 ^ block_bits n)
-      (λ numbers. cond (blocks_unmarked (2 ^ block_bits n) marked 0 numbers) 1 0)
-      ≤ lucky_places n * (2 ^ block_bits n) ^ block_count n
+      (marked : ℕ → Bool) → wrong_columns m n < marked_below marked (2 ^ 2 * 2 ^ row_levels m n)
+      → 256 ^ 2 ^ m * sum_lists (place_count m n) (2 ^ place_bits m n)
+      (λ numbers. cond (blocks_unmarked (2 ^ place_bits m n) marked 0 numbers) 1 0)
+      ≤ lucky_places m n * (2 ^ place_bits m n) ^ place_count m n
 
-  deep : depth_of n ≤ 128
+  deep : word_levels m n ≤ 128
   deep = omega (arith, few)
 
-  radius : 2 * wrong_columns n + 2 ^ levels_of n ≤ 2 ^ 2 * 2 ^ levels_of n
+  radius : 2 * wrong_columns m n + 2 ^ row_levels m n ≤ 2 ^ 2 * 2 ^ row_levels m n
   radius = omega arith
 
-  gathered : (f w accepted most lucky p b places : ℕ) → f * (w * accepted)
-      ≤ most * p * (w * b) + f * (p * (places * b)) → most ≤ lucky
+  gathered : (f w accepted bound lucky p b places : ℕ) → f * (w * accepted)
+      ≤ bound * p * (w * b) + f * (p * (places * b)) → bound ≤ lucky
       → f * w * accepted ≤ (lucky * w + f * places) * (p * b)
-  gathered f w accepted most lucky p b places is more =
+  gathered f w accepted bound lucky p b places is more =
       let grown = mul-le-mul_right (p * (w * b)) more in omega (arith, is, grown)
 
   by-parts : (lucky : ℕ)
-      → HasGap 128 word_times (2 ^ levels_of n) (2 ^ 2 * 2 ^ levels_of n)
-      (point_generator 128 word_times word_vector (levels_of n)) (wrong_columns n) lucky
-      → rows_of n * lucky ≤ lucky_challenges n → Seldom
+      → HasGap 128 word_times (2 ^ row_levels m n) (2 ^ 2 * 2 ^ row_levels m n)
+      (point_generator 128 word_times word_vector (row_levels m n)) (wrong_columns m n) lucky
+      → matrix_rows m n * lucky ≤ lucky_challenges m n → Seldom
       → (left right : ℕ → List ℕ) (sum : ℕ) (prover : Prover) (accepted : List ℕ → List ℕ → Bool)
-      → Cheats 128 word_times word_vector n (wrong_columns n) left right sum prover accepted
-      → whole_parts * accepted_runs 128 n accepted ≤ error_parts n * all_runs 128 n
+      → Cheats 128 word_times word_vector m n (wrong_columns m n) left right sum prover accepted
+      → whole_parts m * accepted_runs 128 m n accepted ≤ error_parts m n * all_runs 128 m n
   by-parts lucky gap less seldom left right sum prover accepted cheats =
-      gathered (2 ^ 128) (256 ^ 128) (accepted_runs 128 n accepted) (max (2 * n) (rows_of n * lucky))
-      (lucky_challenges n) ((2 ^ 128) ^ n)
-      ((2 ^ block_bits n) ^ block_count n) (lucky_places n)
-      (few-accepted 128 word_times word_vector (lit≤ tt) field vectors fit n
-      (wrong_columns n) lucky deep radius gap left right sum prover accepted cheats
-      (256 ^ 128) (256 ^ 128 * (2 ^ block_bits n) ^ block_count n)
-      (lucky_places n * (2 ^ block_bits n) ^ block_count n) (omega arith) seldom)
-      (max-le (le-max_left (2 * n) (rows_of n * (34 * 2 ^ depth_of n))) less)
+      gathered (2 ^ 128) (256 ^ 2 ^ m) (accepted_runs 128 m n accepted) (max (2 * n) (matrix_rows m n * lucky))
+      (lucky_challenges m n) ((2 ^ 128) ^ n)
+      ((2 ^ place_bits m n) ^ place_count m n) (lucky_places m n)
+      (few-accepted 128 word_times word_vector (lit≤ tt) field vectors fit m n
+      (wrong_columns m n) lucky deep radius gap left right sum prover accepted cheats
+      (256 ^ 2 ^ m) (256 ^ 2 ^ m * (2 ^ place_bits m n) ^ place_count m n)
+      (lucky_places m n * (2 ^ place_bits m n) ^ place_count m n) (omega arith) seldom)
+      (max-le (le-max_left (2 * n) (matrix_rows m n * (34 * 2 ^ word_levels m n))) less)
+
+  deep-power : 2 ^ word_levels m n ≡ 4 * 2 ^ row_levels m n
+  deep-power = pow-add 2 2 (row_levels m n)
+
+  -- ---- places
+
+  -- all are opened, so that none of the lists misses a column
+  opened-seldom : place_bits m n ≡ 0 → Seldom
+  opened-seldom no_bits marked many =
+      subst (λ (v : ℕ). 256 ^ 2 ^ m * v ≤ lucky_places m n * (2 ^ place_bits m n) ^ place_count m n) (sym none) (omega arith)
+    where
+      blocks : 2 ^ 2 * 2 ^ row_levels m n ≡ 2 ^ (word_levels m n - place_bits m n) * 1
+      blocks =
+          sym (pow-add 2 2 (row_levels m n)) ∙ ap (λ (v : ℕ). 2 ^ v) (less-none (word_levels m n) (place_bits m n) no_bits)
+          ∙ times-one (2 ^ (word_levels m n - place_bits m n))
+        where
+          less-none : (d b : ℕ) → b ≡ 0 → d ≡ d - b
+          less-none d b is = omega (arith, is)
+
+          times-one : (v : ℕ) → v ≡ v * 1
+          times-one v = omega arith
+
+      none : sum_lists (place_count m n) (2 ^ place_bits m n)
+          (λ numbers. cond (blocks_unmarked (2 ^ place_bits m n) marked 0 numbers) 1 0) ≡ 0
+      none =
+          subst (λ (b : ℕ). sum_lists (place_count m n) (2 ^ b)
+          (λ numbers. cond (blocks_unmarked (2 ^ b) marked 0 numbers) 1 0) ≡ 0) (sym no_bits)
+          (seldom-none (word_levels m n - place_bits m n) marked
+          (subst (λ (v : ℕ). 0 < marked_below marked v) blocks (le_trans (omega arith) many)))
 
   -- rows of 64 words or more
-  module _ (long : 6 ≤ levels_of n) where
+  module _ (long : 6 ≤ row_levels m n) where
     abbrev j : ℕ
-    j = 2 ^ levels_of n / 64
+    j = 2 ^ row_levels m n / 64
 
-    whole : 2 ^ levels_of n ≡ 64 * j
-    whole =
-        let split : 2 ^ levels_of n ≡ 2 ^ 6 * 2 ^ (levels_of n - 6) =
-        ap (λ (m : ℕ). 2 ^ m) (joined (levels_of n) long) ∙ pow-add 2 6 (levels_of n - 6) in
-        omega (arith, split)
-      where
-        joined : (l : ℕ) → 6 ≤ l → l ≡ 6 + (l - 6)
-        joined l enough = omega (arith, enough)
+    joined-levels : (l : ℕ) → 6 ≤ l → l ≡ 6 + (l - 6)
+    joined-levels l enough = omega (arith, enough)
 
-    deep-power : 2 ^ depth_of n ≡ 4 * 2 ^ levels_of n
-    deep-power = pow-add 2 2 (levels_of n)
+    split : 2 ^ row_levels m n ≡ 2 ^ 6 * 2 ^ (row_levels m n - 6)
+    split = ap (λ (v : ℕ). 2 ^ v) (joined-levels (row_levels m n) long) ∙ pow-add 2 6 (row_levels m n - 6)
 
-    gap : HasGap 128 word_times (2 ^ levels_of n) (2 ^ 2 * 2 ^ levels_of n)
-        (point_generator 128 word_times word_vector (levels_of n)) (wrong_columns n)
-        (34 * (4 * 2 ^ levels_of n) - 1)
+    whole : 2 ^ row_levels m n ≡ 64 * j
+    whole = let is = split in omega (arith, is)
+
+    gap : HasGap 128 word_times (2 ^ row_levels m n) (2 ^ 2 * 2 ^ row_levels m n)
+        (point_generator 128 word_times word_vector (row_levels m n)) (wrong_columns m n)
+        (34 * (4 * 2 ^ row_levels m n) - 1)
     gap =
-        quarter_rate_gap 128 word_times word_vector (lit< tt) field vectors fit (levels_of n) j whole
-        (subst (λ (m : ℕ). m ≤ 2 ^ 128) deep-power (pow-le-pow_right (lit< tt) deep))
+        quarter_rate_gap 128 word_times word_vector (lit< tt) field vectors fit (row_levels m n) j whole
+        (subst (λ (v : ℕ). v ≤ 2 ^ 128) deep-power (pow-le-pow_right (lit< tt) deep))
 
-    lucky-most : rows_of n * (34 * (4 * 2 ^ levels_of n) - 1) ≤ lucky_challenges n
+    lucky-most : matrix_rows m n * (34 * (4 * 2 ^ row_levels m n) - 1) ≤ lucky_challenges m n
     lucky-most =
-        le_trans (mul-le-mul_left (rows_of n) (subst (λ (m : ℕ). 34 * (4 * 2 ^ levels_of n) - 1 ≤ 34 * m)
+        le_trans (mul-le-mul_left (matrix_rows m n) (subst (λ (v : ℕ). 34 * (4 * 2 ^ row_levels m n) - 1 ≤ 34 * v)
         (sym deep-power) (omega arith)))
-        (le-max_right (2 * n) (rows_of n * (34 * 2 ^ depth_of n)))
+        (le-max_right (2 * n) (matrix_rows m n * (34 * 2 ^ word_levels m n)))
 
-    seven : depth_of n - block_bits n ≡ 7
-    seven = omega (arith, long)
+    -- one place of each block is opened
+    module _ (bits : 0 < place_bits m n) where
+      enough : m ≤ word_levels m n
+      enough = omega (arith, bits)
 
-    seldom : Seldom
-    seldom marked many =
-        subst (λ (c : Bool). 256 ^ 128
-        * sum_lists (block_count n) (2 ^ block_bits n)
-        (λ numbers. cond (blocks_unmarked (2 ^ block_bits n) marked 0 numbers) 1 0)
-        ≤ cond c 0 (163 ^ 128) * (2 ^ block_bits n) ^ block_count n)
-        (sym (ne_eqb (block_bits n) 0 (λ (none : block_bits n ≡ 0). omega (arith, long, none))))
-        (subst (λ (m : ℕ). 256 ^ 128
-        * sum_lists (2 ^ m) (2 ^ block_bits n)
-        (λ numbers. cond (blocks_unmarked (2 ^ block_bits n) marked 0 numbers) 1 0)
-        ≤ 163 ^ 128 * (2 ^ block_bits n) ^ 2 ^ m) (sym seven)
-        (seldom-many j (block_bits n) marked twice
-        (subst (λ (m : ℕ). wrong_columns n < marked_below marked m) places many)))
+      blocks : word_levels m n - place_bits m n ≡ m
+      blocks = within (word_levels m n) m enough
+        where
+          within : (d q : ℕ) → q ≤ d → d - (d - q) ≡ q
+          within d q less = omega (arith, less)
+
+      places : 2 ^ 2 * 2 ^ row_levels m n ≡ 2 ^ m * 2 ^ place_bits m n
+      places =
+          sym deep-power ∙ ap (λ (v : ℕ). 2 ^ v) (within (word_levels m n) m enough) ∙ pow-add 2 m (place_bits m n)
+        where
+          within : (d q : ℕ) → q ≤ d → d ≡ q + (d - q)
+          within d q less = omega (arith, less)
+
+      size : 2 ^ m * 2 ^ (8 - m) ≡ 256
+      size = sym (pow-add 2 m (8 - m)) ∙ ap (λ (v : ℕ). 2 ^ v) (within m most)
+        where
+          within : (q : ℕ) → q ≤ 8 → q + (8 - q) ≡ 8
+          within q less = omega (arith, less)
+
+      turned : 2 ^ place_bits m n ≡ 2 ^ (8 - m) * j
+      turned =
+          ap (λ (v : ℕ). 2 ^ v) (within (row_levels m n) m long some most) ∙ pow-add 2 (8 - m) (row_levels m n - 6)
+          ∙ ap (λ (v : ℕ). 2 ^ (8 - m) * v) (let is = split in omega (arith, is))
+        where
+          within : (l q : ℕ) → 6 ≤ l → 7 ≤ q → q ≤ 8 → 2 + l - q ≡ 8 - q + (l - 6)
+          within l q one two three = omega (arith, one, two, three)
+
+      seldom : Seldom
+      seldom marked many =
+          subst (λ (c : Bool). 256 ^ 2 ^ m
+          * sum_lists (place_count m n) (2 ^ place_bits m n)
+          (λ numbers. cond (blocks_unmarked (2 ^ place_bits m n) marked 0 numbers) 1 0)
+          ≤ cond c 0 (163 ^ 2 ^ m) * (2 ^ place_bits m n) ^ place_count m n)
+          (sym (ne_eqb (place_bits m n) 0 (λ (none : place_bits m n ≡ 0). omega (arith, bits, none))))
+          (subst (λ (v : ℕ). 256 ^ 2 ^ m
+          * sum_lists (2 ^ v) (2 ^ place_bits m n)
+          (λ numbers. cond (blocks_unmarked (2 ^ place_bits m n) marked 0 numbers) 1 0)
+          ≤ 163 ^ 2 ^ m * (2 ^ place_bits m n) ^ 2 ^ v) (sym blocks)
+          (seldom-many m (2 ^ (8 - m)) j (place_bits m n) marked size turned
+          (subst (λ (v : ℕ). wrong_columns m n < marked_below marked v) places many)))
+
+    long-seldom : Seldom
+    long-seldom = elim (cases_lt 0 (place_bits m n)) [
+      | inl bits ↦ seldom bits
+      | inr none ↦ opened-seldom (nothing (place_bits m n) none)
+    ]
       where
-        split : 2 ^ depth_of n ≡ 2 ^ 7 * 2 ^ block_bits n
-        split = ap (λ (m : ℕ). 2 ^ m) (joined (depth_of n) (omega (arith, long))) ∙ pow-add 2 7 (block_bits n)
-          where
-            joined : (d : ℕ) → 7 ≤ d → d ≡ 7 + (d - 7)
-            joined d enough = omega (arith, enough)
-
-        places : 2 ^ 2 * 2 ^ levels_of n ≡ 2 ^ 7 * 2 ^ block_bits n
-        places = sym deep-power ∙ split
-
-        twice : 2 ^ block_bits n ≡ 2 * j
-        twice = let all = places in let is = whole in omega (arith, all, is)
+        nothing : (b : ℕ) → b ≤ 0 → b ≡ 0
+        nothing b less = omega (arith, less)
 
   -- shorter rows, of which all columns are opened
-  module _ (short : levels_of n < 6) where
-    no-rows : rows_of n ≡ 0
-    no-rows = omega (arith, short)
+  module _ (short : row_levels m n < 6) where
+    no-rows : matrix_rows m n ≡ 0
+    no-rows = omega (arith, short, some)
 
-    no-bits : block_bits n ≡ 0
-    no-bits = omega (arith, short)
+    no-bits : place_bits m n ≡ 0
+    no-bits = omega (arith, short, some)
 
-    right-columns : wrong_columns n ≡ 0
+    right-columns : wrong_columns m n ≡ 0
     right-columns = let small = less in omega (arith, small)
       where
-        five : levels_of n ≤ 5
+        five : row_levels m n ≤ 5
         five = omega (arith, short)
 
-        less : 2 ^ levels_of n ≤ 2 ^ 5
+        less : 2 ^ row_levels m n ≤ 2 ^ 5
         less = pow-le-pow_right (lit< tt) five
 
-    short-gap : HasGap 128 word_times (2 ^ levels_of n) (2 ^ 2 * 2 ^ levels_of n)
-        (point_generator 128 word_times word_vector (levels_of n))
-        (wrong_columns n) 1
+    short-gap : HasGap 128 word_times (2 ^ row_levels m n) (2 ^ 2 * 2 ^ row_levels m n)
+        (point_generator 128 word_times word_vector (row_levels m n))
+        (wrong_columns m n) 1
     short-gap =
-        subst (λ (e : ℕ). HasGap 128 word_times (2 ^ levels_of n) (2 ^ 2 * 2 ^ levels_of n)
-        (point_generator 128 word_times word_vector (levels_of n)) e 1)
+        subst (λ (e : ℕ). HasGap 128 word_times (2 ^ row_levels m n) (2 ^ 2 * 2 ^ row_levels m n)
+        (point_generator 128 word_times word_vector (row_levels m n)) e 1)
         (sym right-columns)
-        (lines_are_near 128 word_times (2 ^ levels_of n) (2 ^ 2 * 2 ^ levels_of n)
-        (2 ^ 2 * 2 ^ levels_of n + 1 - 2 ^ levels_of n)
-        (point_generator 128 word_times word_vector (levels_of n)) (lit< tt) field
-        (code-distance 128 word_times word_vector (lit< tt) field vectors fit (levels_of n) 2 deep (omega arith)) 0
+        (lines_are_near 128 word_times (2 ^ row_levels m n) (2 ^ 2 * 2 ^ row_levels m n)
+        (2 ^ 2 * 2 ^ row_levels m n + 1 - 2 ^ row_levels m n)
+        (point_generator 128 word_times word_vector (row_levels m n)) (lit< tt) field
+        (code-distance 128 word_times word_vector (lit< tt) field vectors fit (row_levels m n) 2 deep (omega arith)) 0
         (omega arith))
 
-    short-lucky : rows_of n * 1 ≤ lucky_challenges n
-    short-lucky = subst (λ (h : ℕ). h * 1 ≤ lucky_challenges n) (sym no-rows) (omega arith)
-
-    short-seldom : Seldom
-    short-seldom marked many =
-        subst (λ (m : ℕ). 256 ^ 128 * m ≤ lucky_places n * (2 ^ block_bits n) ^ block_count n) (sym none) (omega arith)
-      where
-        blocks : 2 ^ 2 * 2 ^ levels_of n ≡ 2 ^ (depth_of n - block_bits n) * 1
-        blocks =
-            sym (pow-add 2 2 (levels_of n)) ∙ ap (λ (m : ℕ). 2 ^ m) (let bits = no-bits in omega (arith, bits))
-            ∙ times-one (2 ^ (depth_of n - block_bits n))
-          where
-            times-one : (m : ℕ) → m ≡ m * 1
-            times-one m = omega arith
-
-        none : sum_lists (block_count n) (2 ^ block_bits n)
-            (λ numbers. cond (blocks_unmarked (2 ^ block_bits n) marked 0 numbers) 1 0) ≡ 0
-        none =
-            subst (λ (b : ℕ). sum_lists (block_count n) (2 ^ b)
-            (λ numbers. cond (blocks_unmarked (2 ^ b) marked 0 numbers) 1 0) ≡ 0) (sym no-bits)
-            (seldom-none (depth_of n - block_bits n) marked
-            (subst (λ (m : ℕ). 0 < marked_below marked m) blocks (le_trans (omega arith) many)))
+    short-lucky : matrix_rows m n * 1 ≤ lucky_challenges m n
+    short-lucky = subst (λ (h : ℕ). h * 1 ≤ lucky_challenges m n) (sym no-rows) (omega arith)
 
 pub errors_are_small : IsField 128 word_times → AreCantorVectors 128 word_times word_vector
     → ((b : ℕ) → b < 128 → word_vector b < 2 ^ 128) → ErrorsAreSmall
-errors_are_small field vectors fit n few = pick (cases_lt (levels_of n) 6)
+errors_are_small field vectors fit m n some most few = pick (cases_lt (row_levels m n) 6)
   where
-    pick : (levels_of n < 6) ⊎ (6 ≤ levels_of n)
+    pick : (row_levels m n < 6) ⊎ (6 ≤ row_levels m n)
         → (left right : ℕ → List ℕ) (sum : ℕ) (prover : Prover) (accepted : List ℕ → List ℕ → Bool)
-        → Cheats 128 word_times word_vector n (wrong_columns n) left right sum prover accepted
-        → whole_parts * accepted_runs 128 n accepted ≤ error_parts n * all_runs 128 n
+        → Cheats 128 word_times word_vector m n (wrong_columns m n) left right sum prover accepted
+        → whole_parts m * accepted_runs 128 m n accepted ≤ error_parts m n * all_runs 128 m n
     pick (inl short) =
-        by-parts field vectors fit n few 1 (short-gap field vectors fit n few short)
-        (short-lucky field vectors fit n few short)
-        (short-seldom field vectors fit n few short)
+        by-parts field vectors fit m n some most few 1 (short-gap field vectors fit m n some most few short)
+        (short-lucky field vectors fit m n some most few short)
+        (opened-seldom field vectors fit m n some most few (no-bits field vectors fit m n some most few short))
     pick (inr long) =
-        by-parts field vectors fit n few (34 * (4 * 2 ^ levels_of n) - 1) (gap field vectors fit n few long)
-        (lucky-most field vectors fit n few long)
-        (seldom field vectors fit n few long)
+        by-parts field vectors fit m n some most few (34 * (4 * 2 ^ row_levels m n) - 1) (gap field vectors fit m n some most few long)
+        (lucky-most field vectors fit m n some most few long)
+        (long-seldom field vectors fit m n some most few long)
 
 -- ---- its bits
 
-pub sound-bits : ErrorsAreSmall → (n bits : ℕ) → n ≤ 39 → AreMostBits n bits → AreSoundBits n bits
-sound-bits small n bits few are left right sum prover accepted cheats =
-    joined (2 ^ bits) (accepted_runs 128 n accepted) (all_runs 128 n) (error_parts n) whole_parts (lit< tt) are.bound
-    (small n few left right sum prover accepted cheats)
+pub sound-bits : ErrorsAreSmall → (m n bits : ℕ) → 7 ≤ m → m ≤ 8 → n ≤ 39 → AreMostBits m n bits → AreSoundBits m n bits
+sound-bits small m n bits some most few are left right sum prover accepted cheats =
+    joined (2 ^ bits) (accepted_runs 128 m n accepted) (all_runs 128 m n) (error_parts m n) (whole_parts m) whole are.bound
+    (small m n some most few left right sum prover accepted cheats)
   where
+    whole : 0 < whole_parts m
+    whole = let parts = some-power 255 (2 ^ m) in positive (256 ^ 2 ^ m) parts
+      where
+        positive : (v : ℕ) → 0 < v → 0 < 2 ^ 128 * v
+        positive v is = omega (arith, is)
+
     joined : (b accepted all error whole : ℕ) → 0 < whole → b * error ≤ whole → whole * accepted ≤ error * all
         → b * accepted ≤ all
     joined b accepted all error whole some bound is = elim (cases_lt all (b * accepted)) [
@@ -282,50 +326,50 @@ sound-bits small n bits few are left right sum prover accepted cheats =
     ]
 
 -- from 2 ^ 6 words on, where (163 / 256) ^ 128 is most of the error
-pub many-bits : (n : ℕ) → 6 ≤ n → n ≤ 39 → AreMostBits n 83
+pub many-bits : (n : ℕ) → 6 ≤ n → n ≤ 39 → AreMostBits 7 n 83
 many-bits n enough few = record {
   bound = le_trans (mul-le-mul_left (2 ^ 83) top) (lit≤ tt);
   most = λ some. le_trans least (mul-le-mul_left (2 ^ 84) bottom);
   none = λ none. absurd (omega (arith, none, positive));
 }
   where
-    lucky : lucky_challenges n ≤ 2 ^ 40
+    lucky : lucky_challenges 7 n ≤ 2 ^ 40
     lucky =
         max-le (omega (arith, few))
         (le_trans
         (mul-le-mul (rows-few n few)
         (mul-le-mul_left 34 (pow-le-pow_right (lit< tt) (depth-few n few)))) (lit≤ tt))
       where
-        rows-few : (n : ℕ) → n ≤ 39 → rows_of n ≤ 16
+        rows-few : (n : ℕ) → n ≤ 39 → matrix_rows 7 n ≤ 16
         rows-few n few = omega (arith, few)
 
-        depth-few : (n : ℕ) → n ≤ 39 → depth_of n ≤ 25
+        depth-few : (n : ℕ) → n ≤ 39 → word_levels 7 n ≤ 25
         depth-few n few = omega (arith, few)
 
-    places : lucky_places n ≡ 163 ^ 128
+    places : lucky_places 7 n ≡ 163 ^ 128
     places = ap (λ (c : Bool). cond c 0 (163 ^ 128))
-        (ne_eqb (block_bits n) 0 (λ (none : block_bits n ≡ 0). omega (arith, enough, none)))
+        (ne_eqb (place_bits 7 n) 0 (λ (none : place_bits 7 n ≡ 0). omega (arith, enough, none)))
 
-    top : error_parts n ≤ 2 ^ 40 * 256 ^ 128 + 2 ^ 128 * 163 ^ 128
+    top : error_parts 7 n ≤ 2 ^ 40 * 256 ^ 128 + 2 ^ 128 * 163 ^ 128
     top =
-        subst (λ (p : ℕ). lucky_challenges n * 256 ^ 128 + 2 ^ 128 * p ≤ 2 ^ 40 * 256 ^ 128 + 2 ^ 128 * 163 ^ 128)
+        subst (λ (p : ℕ). lucky_challenges 7 n * 256 ^ 128 + 2 ^ 128 * p ≤ 2 ^ 40 * 256 ^ 128 + 2 ^ 128 * 163 ^ 128)
         (sym places)
-        (roomy (lucky_challenges n * 256 ^ 128) (2 ^ 40 * 256 ^ 128) (2 ^ 128 * 163 ^ 128)
+        (roomy (lucky_challenges 7 n * 256 ^ 128) (2 ^ 40 * 256 ^ 128) (2 ^ 128 * 163 ^ 128)
         (mul-le-mul_right (256 ^ 128) lucky))
       where
         roomy : (a b c : ℕ) → a ≤ b → a + c ≤ b + c
         roomy a b c less = omega (arith, less)
 
-    bottom : 2 ^ 128 * 163 ^ 128 ≤ error_parts n
+    bottom : 2 ^ 128 * 163 ^ 128 ≤ error_parts 7 n
     bottom =
-        subst (λ (p : ℕ). 2 ^ 128 * 163 ^ 128 ≤ lucky_challenges n * 256 ^ 128 + 2 ^ 128 * p) (sym places)
-        (roomy (lucky_challenges n * 256 ^ 128) (2 ^ 128 * 163 ^ 128))
+        subst (λ (p : ℕ). 2 ^ 128 * 163 ^ 128 ≤ lucky_challenges 7 n * 256 ^ 128 + 2 ^ 128 * p) (sym places)
+        (roomy (lucky_challenges 7 n * 256 ^ 128) (2 ^ 128 * 163 ^ 128))
       where
         roomy : (a b : ℕ) → b ≤ a + b
         roomy a b = omega arith
 
-    positive : 0 < error_parts n
+    positive : 0 < error_parts 7 n
     positive = le_trans (lit≤ tt) bottom
 
-    least : whole_parts < 2 ^ 84 * (2 ^ 128 * 163 ^ 128)
+    least : whole_parts 7 < 2 ^ 84 * (2 ^ 128 * 163 ^ 128)
     least = lit< tt

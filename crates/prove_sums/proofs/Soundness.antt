@@ -26,7 +26,8 @@ use Rattle.protocols.specs.SoundnessErrors.{sent_messages}
 use Rattle.protocols.specs.Tables.{AgreesAt}
 use Rattle.protocols.proofs.OpenedColumns.{opened-accepted, opened-agrees}
 use Rattle.protocols.proofs.ProofBytes.{length-proof}
-use Rattle.prove_sums.specs.Shapes.{columns_in, columns_size, depth_of, element_count, levels_of, messages_in, nodes_in, row_in, row_size, rows_of, sum_in}
+use Rattle.protocols.specs.CommitmentScheme.{matrix_rows, row_levels, word_levels}
+use Rattle.prove_sums.specs.Shapes.{columns_in, columns_size, element_count, messages_in, nodes_in, row_in, row_size, sum_in}
 use Rattle.prove_sums.specs.ProofFiles.{file_bytes}
 use Rattle.prove_sums.specs.Soundness.{AcceptedFile, AcceptedProof, ElementsAreRun, ElementsShowSum, FilesShowSums, HasPoints, HaveColumns, RootsShowSums, ShowsSum, SumsAreProved, SumsNeedLuck, sent_columns}
 use Rattle.prove_sums.specs.Verdicts.{OpensTable, checks_number, gives_number, interleaved, observes_number, passes_number, product_terms, samples_bits, word_times, word_vector}
@@ -47,7 +48,7 @@ sums_need_luck false_claims opened width times vector wide field vectors fit k r
 
     whole : (table : List ℕ) → length table ≡ 2 ^ length first * 2 ^ k → length table ≡ 2 ^ length (first ++ others)
     whole table size =
-        size ∙ sym (ap (λ (m : ℕ). 2 ^ m) (length-append first others ∙ ap (λ (m : ℕ). length first + m) long) ∙ pow-add 2 (length first) k)
+        size ∙ sym (ap (λ (v : ℕ). 2 ^ v) (length-append first others ∙ ap (λ (v : ℕ). length first + v) long) ∙ pow-add 2 (length first) k)
 
     shape : (one other : List ℕ) → CommitsTo width times vector k r e (2 ^ length first) left one
         → CommitsTo width times vector k r e (2 ^ length first) right other
@@ -117,24 +118,24 @@ part-digests digest from size nodes all k below =
 module _ {C F : Type 0} (observes : C → F → C → Type 0) (gives : C → F → C → Type 0) (passing : C → ℕ → ℕ → Bool)
     (checks : C → ℕ → ℕ → C → Type 0) (gives_bits : C → ℕ → ℕ → C → Type 0) (number repr : F → ℕ) (size width : ℕ) (times : ℕ → ℕ → ℕ)
     (vector : ℕ → ℕ) (points : HasPoints repr size width times vector) (hold : RootsHoldColumns) (luck : SumsNeedLuck)
-    (hash : List ℕ → List ℕ) (digest : ℕ) (digests : (bytes : List ℕ) → length (hash bytes) ≡ digest) (n e : ℕ) (left right : List ℕ)
-    (wide : 2 ≤ width) (deep : depth_of n ≤ width) (radius : 2 * e + 2 ^ levels_of n ≤ 2 ^ 2 * 2 ^ levels_of n) where
+    (hash : List ℕ → List ℕ) (digest : ℕ) (digests : (bytes : List ℕ) → length (hash bytes) ≡ digest) (m n e : ℕ) (left right : List ℕ)
+    (wide : 2 ≤ width) (deep : word_levels m n ≤ width) (radius : 2 * e + 2 ^ row_levels m n ≤ 2 ^ 2 * 2 ^ row_levels m n) where
   abbrev Proof : Type 0
-  Proof = AcceptedProof observes gives passing checks gives_bits number repr size width times vector hash digest n left right
+  Proof = AcceptedProof observes gives passing checks gives_bits number repr size width times vector hash digest m n left right
 
   -- the first coordinates
   abbrev first : Proof → List F
-  first p = take (rows_of n) p.verdict.point
+  first p = take (matrix_rows m n) p.verdict.point
 
-  first-long : (p : Proof) → length (first p) ≡ rows_of n
-  first-long p = let long = p.verdict.reduced.challenge_count in length-take-le (rows_of n) p.verdict.point (omega (arith, long))
+  first-long : (p : Proof) → length (first p) ≡ matrix_rows m n
+  first-long p = let long = p.verdict.reduced.challenge_count in length-take-le (matrix_rows m n) p.verdict.point (omega (arith, long))
 
   abbrev sent : ℕ → Proof → SentColumns
-  sent which p = sent_columns repr n which p.elements p.nodes p.verdict.places
+  sent which p = sent_columns repr m n which p.elements p.nodes p.verdict.places
 
   -- what a proof opens of table 0 or 1
   abbrev Opens : ℕ → List ℕ → Proof → Type 0
-  Opens which root p = OpensTable hash repr size width times vector n which root (first p) p.elements p.verdict.places p.nodes
+  Opens which root p = OpensTable hash repr size width times vector m n which root (first p) p.elements p.verdict.places p.nodes
 
   opens-left : (p : Proof) → Opens 0 left p
   opens-left p = (p.verdict.decided.0 refl).2
@@ -143,55 +144,55 @@ module _ {C F : Type 0} (observes : C → F → C → Type 0) (gives : C → F �
   opens-right p = (p.verdict.decided.0 refl).3
 
   accepted : (which : ℕ) (root : List ℕ) (p : Proof) → Opens which root p
-      → AreAccepted hash digest size width (depth_of n) (2 ^ rows_of n) root (sent which p)
+      → AreAccepted hash digest size width (word_levels m n) (2 ^ matrix_rows m n) root (sent which p)
   accepted which root p opens =
-      opened-accepted hash repr size width times vector (levels_of n) 2 (rows_of n) root (first-long p) opens digest points.range
+      opened-accepted hash repr size width times vector (row_levels m n) 2 (matrix_rows m n) root (first-long p) opens digest points.range
       (part-digests digest (which * (length p.nodes / 2)) (length p.nodes / 2) p.nodes p.digests)
 
   -- its row agrees with the columns that a root holds
   agreed : (which : ℕ) (root : List ℕ) (p : Proof) → Opens which root p → (column : ℕ → List ℕ)
       → ((k : ℕ) → k < length p.verdict.places
-      → map repr (row_at (2 ^ rows_of n) (columns_in n which p.elements) k) ≡ column (slice_index p.verdict.places k))
-      → AgreesAt width times vector (levels_of n) 2 (map repr (first p)) (map repr (row_in n which p.elements)) p.verdict.places
+      → map repr (row_at (2 ^ matrix_rows m n) (columns_in m n which p.elements) k) ≡ column (slice_index p.verdict.places k))
+      → AgreesAt width times vector (row_levels m n) 2 (map repr (first p)) (map repr (row_in m n which p.elements)) p.verdict.places
       (λ k. column (slice_index p.verdict.places k))
   agreed which root p opens column same =
-      opened-agrees hash repr size width times vector (levels_of n) 2 (rows_of n) root (first-long p) opens column same
+      opened-agrees hash repr size width times vector (row_levels m n) 2 (matrix_rows m n) root (first-long p) opens column same
 
-  shows : (one other : ℕ → List ℕ) → AreColumnsOf width (2 ^ 2 * 2 ^ levels_of n) one → AreColumnsOf width (2 ^ 2 * 2 ^ levels_of n) other
+  shows : (one other : ℕ → List ℕ) → AreColumnsOf width (2 ^ 2 * 2 ^ row_levels m n) one → AreColumnsOf width (2 ^ 2 * 2 ^ row_levels m n) other
       → (p : Proof)
       → ((k : ℕ) → k < length p.verdict.places
-      → map repr (row_at (2 ^ rows_of n) (columns_in n 0 p.elements) k) ≡ one (slice_index p.verdict.places k))
+      → map repr (row_at (2 ^ matrix_rows m n) (columns_in m n 0 p.elements) k) ≡ one (slice_index p.verdict.places k))
       → ((k : ℕ) → k < length p.verdict.places
-      → map repr (row_at (2 ^ rows_of n) (columns_in n 1 p.elements) k) ≡ other (slice_index p.verdict.places k))
-      → ElementsShowSum repr width times vector n e one other p.elements p.verdict.point p.verdict.places
+      → map repr (row_at (2 ^ matrix_rows m n) (columns_in m n 1 p.elements) k) ≡ other (slice_index p.verdict.places k))
+      → ElementsShowSum repr width times vector m n e one other p.elements p.verdict.point p.verdict.places
   shows one other one_fits other_fits p one_same other_same =
-      luck width times vector wide points.field points.vectors points.fit (levels_of n) 2 e one other (sum_in repr p.elements)
-      (map (map repr) (messages_of 2 n (messages_in n p.elements))) (map repr (first p)) (map repr others) (map repr (row_in n 0 p.elements))
-      (map repr (row_in n 1 p.elements)) p.verdict.places deep radius others_long one_fits other_fits
+      luck width times vector wide points.field points.vectors points.fit (row_levels m n) 2 e one other (sum_in repr p.elements)
+      (map (map repr) (messages_of 2 n (messages_in n p.elements))) (map repr (first p)) (map repr others) (map repr (row_in m n 0 p.elements))
+      (map repr (row_in m n 1 p.elements)) p.verdict.places deep radius others_long one_fits other_fits
       (numbers-lt repr width points.range p.elements 0) (messages-are repr width n points.range (messages_in n p.elements) messages_long) same_length reduced
       (agreed 0 left p (opens-left p) one one_same) (agreed 1 right p (opens-right p) other other_same)
     where
       others : List F
-      others = drop (rows_of n) p.verdict.point
+      others = drop (matrix_rows m n) p.verdict.point
 
       challenges : length p.verdict.point ≡ n
       challenges = p.verdict.reduced.challenge_count
 
-      others_long : length (map repr others) ≡ levels_of n
+      others_long : length (map repr others) ≡ row_levels m n
       others_long =
-          length-map others repr ∙ length-drop (rows_of n) p.verdict.point ∙ ap (λ (m : ℕ). m - rows_of n) challenges
+          length-map others repr ∙ length-drop (matrix_rows m n) p.verdict.point ∙ ap (λ (v : ℕ). v - matrix_rows m n) challenges
 
       messages_long : length (messages_in n p.elements) ≡ n * 2
       messages_long =
           let behind = length-drop 1 p.elements in
-          let room : 2 * n ≤ length (drop 1 p.elements) = enough (row_size n) (columns_size n) (length p.elements) (length (drop 1 p.elements)) p.count behind in
+          let room : 2 * n ≤ length (drop 1 p.elements) = enough (row_size m n) (columns_size m n) (length p.elements) (length (drop 1 p.elements)) p.count behind in
           length-take-le (2 * n) (drop 1 p.elements) room ∙ omega arith
         where
           enough : (r s all left : ℕ) → all ≡ 2 * n + 2 + 2 * r + 2 * s → left ≡ all - 1 → 2 * n ≤ left
           enough r s all left is behind = omega (arith, is, behind)
 
       whole : map repr (first p) ++ map repr others ≡ map repr p.verdict.point
-      whole = sym (map-append repr (first p) others) ∙ ap (map repr) (take-append-drop (rows_of n) p.verdict.point)
+      whole = sym (map-append repr (first p) others) ∙ ap (map repr) (take-append-drop (matrix_rows m n) p.verdict.point)
 
       same_length : length (map (map repr) (messages_of 2 n (messages_in n p.elements))) ≡ length (map repr (first p) ++ map repr others)
       same_length =
@@ -200,25 +201,25 @@ module _ {C F : Type 0} (observes : C → F → C → Type 0) (gives : C → F �
 
       reduced : reduced_claim width times (sum_in repr p.elements) (map (map repr) (messages_of 2 n (messages_in n p.elements)))
           (map repr (first p) ++ map repr others)
-          ≡ times (multilinear_value times (map repr (row_in n 0 p.elements)) (map repr others))
-          (multilinear_value times (map repr (row_in n 1 p.elements)) (map repr others))
+          ≡ times (multilinear_value times (map repr (row_in m n 0 p.elements)) (map repr others))
+          (multilinear_value times (map repr (row_in m n 1 p.elements)) (map repr others))
       reduced =
           ap (reduced_claim width times (sum_in repr p.elements) (map (map repr) (messages_of 2 n (messages_in n p.elements)))) whole
           ∙ sym p.verdict.reduced.left ∙ (p.verdict.decided.0 refl).1
 
   runs : (one other : ℕ → List ℕ) (p : Proof)
       → ((k : ℕ) → k < length p.verdict.places
-      → map repr (row_at (2 ^ rows_of n) (columns_in n 0 p.elements) k) ≡ one (slice_index p.verdict.places k))
+      → map repr (row_at (2 ^ matrix_rows m n) (columns_in m n 0 p.elements) k) ≡ one (slice_index p.verdict.places k))
       → ((k : ℕ) → k < length p.verdict.places
-      → map repr (row_at (2 ^ rows_of n) (columns_in n 1 p.elements) k) ≡ other (slice_index p.verdict.places k))
-      → ElementsAreRun repr width times vector n one other p.elements p.verdict.point p.verdict.places
+      → map repr (row_at (2 ^ matrix_rows m n) (columns_in m n 1 p.elements) k) ≡ other (slice_index p.verdict.places k))
+      → ElementsAreRun repr width times vector m n one other p.elements p.verdict.point p.verdict.places
   runs one other p one_same other_same = record {
     reduced =
         ap (λ (l : List (List ℕ)). reduced_claim width times (sum_in repr p.elements) l (map repr p.verdict.point))
         (sent-always messages (map repr p.verdict.point) same_length)
         ∙ sym p.verdict.reduced.left ∙ (p.verdict.decided.0 refl).1
-        ∙ ap (λ (l : List ℕ). times (multilinear_value times (map repr (row_in n 0 p.elements)) l)
-        (multilinear_value times (map repr (row_in n 1 p.elements)) l)) (sym (drop-map repr (rows_of n) p.verdict.point));
+        ∙ ap (λ (l : List ℕ). times (multilinear_value times (map repr (row_in m n 0 p.elements)) l)
+        (multilinear_value times (map repr (row_in m n 1 p.elements)) l)) (sym (drop-map repr (matrix_rows m n) p.verdict.point));
     left_agrees = at-first 0 left (opens-left p) one one_same;
     right_agrees = at-first 1 right (opens-right p) other other_same;
   }
@@ -233,25 +234,25 @@ module _ {C F : Type 0} (observes : C → F → C → Type 0) (gives : C → F �
 
       at-first : (which : ℕ) (root : List ℕ) → Opens which root p → (column : ℕ → List ℕ)
           → ((k : ℕ) → k < length p.verdict.places
-          → map repr (row_at (2 ^ rows_of n) (columns_in n which p.elements) k) ≡ column (slice_index p.verdict.places k))
-          → AgreesAt width times vector (levels_of n) 2 (take (rows_of n) (map repr p.verdict.point)) (map repr (row_in n which p.elements))
+          → map repr (row_at (2 ^ matrix_rows m n) (columns_in m n which p.elements) k) ≡ column (slice_index p.verdict.places k))
+          → AgreesAt width times vector (row_levels m n) 2 (take (matrix_rows m n) (map repr p.verdict.point)) (map repr (row_in m n which p.elements))
           p.verdict.places (λ k. column (slice_index p.verdict.places k))
       at-first which root opens column same =
-          subst (λ (l : List ℕ). AgreesAt width times vector (levels_of n) 2 l (map repr (row_in n which p.elements)) p.verdict.places
-          (λ k. column (slice_index p.verdict.places k))) (sym (take-map repr (rows_of n) p.verdict.point))
+          subst (λ (l : List ℕ). AgreesAt width times vector (row_levels m n) 2 l (map repr (row_in m n which p.elements)) p.verdict.places
+          (λ k. column (slice_index p.verdict.places k))) (sym (take-map repr (matrix_rows m n) p.verdict.point))
           (agreed which root p opens column same)
 
   module _ (count : ℕ) (proof : ℕ → Proof) where
     abbrev Held : ℕ → Type 0
-    Held which = HaveColumns width (2 ^ 2 * 2 ^ levels_of n) count (λ i. sent which (proof i))
+    Held which = HaveColumns width (2 ^ 2 * 2 ^ row_levels m n) count (λ i. sent which (proof i))
 
     abbrev Other : ℕ → List ℕ → Type 0
-    Other which root = HaveOtherColumns hash size (depth_of n) root count (λ i. sent which (proof i))
+    Other which root = HaveOtherColumns hash size (word_levels m n) root count (λ i. sent which (proof i))
 
     held : (which : ℕ) (root : List ℕ) → ((p : Proof) → Opens which root p) → Held which ⊎ Other which root
     held which root opens =
         within
-        (hold hash digest digests size width (depth_of n) (2 ^ rows_of n) root points.room count (λ i. sent which (proof i))
+        (hold hash digest digests size width (word_levels m n) (2 ^ matrix_rows m n) root points.room count (λ i. sent which (proof i))
         (λ i below. accepted which root (proof i) (opens (proof i))))
       where
         within : ((column : ℕ → List ℕ) × ((p i : ℕ) → slice_index (column p) i < 2 ^ width) × HasSent count (λ i. sent which (proof i)) column)
@@ -259,12 +260,12 @@ module _ {C F : Type 0} (observes : C → F → C → Type 0) (gives : C → F �
         within (inl found) = inl (found.0, (λ p i below. found.1 p i), found.2)
         within (inr collision) = inr collision
 
-    pub proofs-show : RootsShowSums repr hash size width times vector n e left right count (λ i. (proof i).elements) (λ i. (proof i).nodes)
+    pub proofs-show : RootsShowSums repr hash size width times vector m n e left right count (λ i. (proof i).elements) (λ i. (proof i).nodes)
         (λ i. (proof i).verdict.point) (λ i. (proof i).verdict.places)
     proofs-show = join (held 0 left opens-left) (held 1 right opens-right)
       where
         join : Held 0 ⊎ Other 0 left → Held 1 ⊎ Other 1 right
-            → RootsShowSums repr hash size width times vector n e left right count (λ i. (proof i).elements) (λ i. (proof i).nodes)
+            → RootsShowSums repr hash size width times vector m n e left right count (λ i. (proof i).elements) (λ i. (proof i).nodes)
             (λ i. (proof i).verdict.point) (λ i. (proof i).verdict.places)
         join (inr collision) other = inr (inl collision)
         join (inl one) (inr collision) = inr (inr collision)
@@ -282,31 +283,31 @@ pub sums_are_proved : {C F : Type 0} (observes gives : C → F → C → Type 0)
     (gives_bits : C → ℕ → ℕ → C → Type 0) (number repr : F → ℕ) (size width : ℕ) (times : ℕ → ℕ → ℕ) (vector : ℕ → ℕ)
     → HasPoints repr size width times vector → RootsHoldColumns → SumsNeedLuck
     → SumsAreProved observes gives passing checks gives_bits number repr size width times vector
-sums_are_proved observes gives passing checks gives_bits number repr size width times vector points hold luck hash digest digests n e left right wide
+sums_are_proved observes gives passing checks gives_bits number repr size width times vector points hold luck hash digest digests m n e left right wide
     deep radius count proof =
-    proofs-show observes gives passing checks gives_bits number repr size width times vector points hold luck hash digest digests n e left right wide
+    proofs-show observes gives passing checks gives_bits number repr size width times vector points hold luck hash digest digests m n e left right wide
     deep radius count proof
 
 -- ---- of files
 
 pub files_show_sums : {F H : Type 0} (digest : H → List ℕ → List ℕ) (repr : F → ℕ) → HasPoints repr 16 128 word_times word_vector
     → RootsHoldColumns → SumsNeedLuck → FilesShowSums digest repr
-files_show_sums {F} {H} digest repr points hold luck hasher digests n e left right radius count file =
+files_show_sums {F} {H} digest repr points hold luck hasher digests m n e left right radius count file =
     sums_are_proved (λ old x new. observes_number digest old (repr x) new) (λ old x new. gives_number digest old (repr x) new)
     (passes_number digest) (checks_number digest) (samples_bits digest) repr repr 16 128 word_times word_vector points hold luck (digest hasher) 32
-    digests n e left right (lit≤ tt) deep radius count (λ i. proof (file i))
+    digests m n e left right (lit≤ tt) deep radius count (λ i. proof (file i))
   where
-    deep : depth_of n ≤ 128
+    deep : word_levels m n ≤ 128
     deep = let few = (file 0).file.may_be.few in omega (arith, few)
 
-    proof : AcceptedFile digest hasher repr n left right
+    proof : AcceptedFile digest hasher repr m n left right
         → AcceptedProof (λ old x new. observes_number digest old (repr x) new) (λ old x new. gives_number digest old (repr x) new)
-        (passes_number digest) (checks_number digest) (samples_bits digest) repr repr 16 128 word_times word_vector (digest hasher) 32 n left right
+        (passes_number digest) (checks_number digest) (samples_bits digest) repr repr 16 128 word_times word_vector (digest hasher) 32 m n left right
     proof held = record {
       elements = held.elements;
       nodes = held.nodes;
-      old = (hasher, file_bytes n left right [] [], []);
-      count = enough (length held.elements) (element_count n) (sym (length-proof 16 repr held.elements) ∙ held.file.may_be.body_size);
+      old = (hasher, file_bytes m n left right [] [], []);
+      count = enough (length held.elements) (element_count m n) (sym (length-proof 16 repr held.elements) ∙ held.file.may_be.body_size);
       digests = held.file.may_be.node_size;
       verdict = held.verdict;
     }

@@ -23,13 +23,12 @@ use Rattle.proximity.proofs.Openings.{little-missed, near-row}
 use Rattle.sum_checks.specs.SumcheckClaims.{reduced_claim}
 use Rattle.sum_checks.specs.Terms.{table_value, terms_value}
 use Rattle.protocols.specs.CodeDistances.{point_generator}
-use Rattle.protocols.specs.CommitmentScheme.{block_places}
+use Rattle.protocols.specs.CommitmentScheme.{block_places, matrix_rows, place_bits, place_count, row_levels, word_levels}
 use Rattle.protocols.specs.OpenedTables.{AreColumnsOf, CommitsTo, column_symbol}
 use Rattle.protocols.specs.SoundnessErrors.{sent_messages}
 use Rattle.protocols.specs.Tables.{AgreesAt}
 use Rattle.protocols.proofs.OpenedTables.{code-distance, code-word-of, commits, row-value, row-values, table}
 use Rattle.protocols.proofs.SoundnessErrors.{MissesFew, at-most-one, few_runs_save, seldom-or-near}
-use Rattle.prove_sums.specs.Shapes.{block_bits, block_count, depth_of, levels_of, rows_of}
 use Rattle.prove_sums.specs.SoundnessErrors.{Cheats, FewCheatsSucceed, Prover, accepted_runs}
 use Rattle.prove_sums.specs.Verdicts.{interleaved, product_terms}
 use Rattle.prove_sums.proofs.TwoTables.{tables-shape, values-product}
@@ -43,7 +42,7 @@ placed bits q numbers are = (
   λ i inside.
       get_or-map-range_with_len (λ i. i * 2 ^ bits + slice_index numbers i % 2 ^ bits) 0 (length numbers) i i 0 inside
       (omega arith)
-      ∙ ap (λ (m : ℕ). i * 2 ^ bits + m) (mod-eq_of_lt (are.below i (subst (λ (m : ℕ). i < m) are.count inside))),
+      ∙ ap (λ (v : ℕ). i * 2 ^ bits + v) (mod-eq_of_lt (are.below i (subst (λ (v : ℕ). i < v) are.count inside))),
 )
 
 -- ---- one table
@@ -65,7 +64,7 @@ module _ (width : ℕ) (times : ℕ → ℕ → ℕ) (wide : 0 < width) (field :
       (sum_lists h (2 ^ width) (λ first. (2 ^ width) ^ k * cond (near first) 1 0))
       (sum_lists h (2 ^ width) (λ first. cond (near first) 1 0))
       ((2 ^ width) ^ k) ((2 ^ width) ^ h) ((2 ^ width) ^ (h + k)) (h * lucky)
-      (subst (λ (m : ℕ). m ≤ sum_lists h (2 ^ width) (λ first. (2 ^ width) ^ k * cond (near first) 1 0))
+      (subst (λ (v : ℕ). v ≤ sum_lists h (2 ^ width) (λ first. (2 ^ width) ^ k * cond (near first) 1 0))
       (sym (lists-split h k (2 ^ width) (λ point. cond (folds_near point) 1 0)))
       (lists-most h (2 ^ width) (λ first. sum_lists k (2 ^ width) (λ others. cond (folds_near (first ++ others)) 1 0))
       (λ first. (2 ^ width) ^ k * cond (near first) 1 0) each))
@@ -100,33 +99,33 @@ module _ (width : ℕ) (times : ℕ → ℕ → ℕ) (wide : 0 < width) (field :
       joined f all scaled some tail head whole luck less is few_is parts =
           let one = mul-le-mul_left f less in
           let other = mul-le-mul_right tail few_is in
-          let goal : luck * whole ≡ luck * head * tail = ap (λ (m : ℕ). luck * m) parts ∙ omega arith in
-          let turned : f * scaled ≡ f * some * tail = ap (λ (m : ℕ). f * m) is ∙ omega arith in
+          let goal : luck * whole ≡ luck * head * tail = ap (λ (v : ℕ). luck * v) parts ∙ omega arith in
+          let turned : f * scaled ≡ f * some * tail = ap (λ (v : ℕ). f * v) is ∙ omega arith in
           omega (arith, one, other, goal, turned)
 
 -- ---- both tables
 
 -- `weight` times the lists of numbers are at most `large`, and those that miss more than e places at most `small`
 module _ (width : ℕ) (times : ℕ → ℕ → ℕ) (vector : ℕ → ℕ) (wide : 2 ≤ width) (field : IsField width times)
-    (vectors : AreCantorVectors width times vector) (fit : (b : ℕ) → b < width → vector b < 2 ^ width) (n e lucky : ℕ)
-    (deep : depth_of n ≤ width) (radius : 2 * e + 2 ^ levels_of n ≤ 2 ^ 2 * 2 ^ levels_of n)
-    (gap : HasGap width times (2 ^ levels_of n) (2 ^ 2 * 2 ^ levels_of n)
-    (point_generator width times vector (levels_of n)) e lucky)
+    (vectors : AreCantorVectors width times vector) (fit : (b : ℕ) → b < width → vector b < 2 ^ width) (m n e lucky : ℕ)
+    (deep : word_levels m n ≤ width) (radius : 2 * e + 2 ^ row_levels m n ≤ 2 ^ 2 * 2 ^ row_levels m n)
+    (gap : HasGap width times (2 ^ row_levels m n) (2 ^ 2 * 2 ^ row_levels m n)
+    (point_generator width times vector (row_levels m n)) e lucky)
     (left right : ℕ → List ℕ) (sum : ℕ) (prover : Prover) (accepted : List ℕ → List ℕ → Bool)
-    (cheats : Cheats width times vector n e left right sum prover accepted) (weight large small : ℕ)
-    (whole : weight * (2 ^ block_bits n) ^ block_count n ≤ large)
-    (seldom : (marked : ℕ → Bool) → e < marked_below marked (2 ^ 2 * 2 ^ levels_of n)
-    → weight * sum_lists (block_count n) (2 ^ block_bits n)
-    (λ numbers. cond (blocks_unmarked (2 ^ block_bits n) marked 0 numbers) 1 0) ≤ small)
+    (cheats : Cheats width times vector m n e left right sum prover accepted) (weight large small : ℕ)
+    (whole : weight * (2 ^ place_bits m n) ^ place_count m n ≤ large)
+    (seldom : (marked : ℕ → Bool) → e < marked_below marked (2 ^ 2 * 2 ^ row_levels m n)
+    → weight * sum_lists (place_count m n) (2 ^ place_bits m n)
+    (λ numbers. cond (blocks_unmarked (2 ^ place_bits m n) marked 0 numbers) 1 0) ≤ small)
   where
     abbrev h : ℕ
-    h = rows_of n
+    h = matrix_rows m n
 
     abbrev k : ℕ
-    k = levels_of n
+    k = row_levels m n
 
     abbrev runs_at : List ℕ → ℕ
-    runs_at point = weight * sum_lists (block_count n) (2 ^ block_bits n) (λ numbers. cond (accepted point numbers) 1 0)
+    runs_at point = weight * sum_lists (place_count m n) (2 ^ place_bits m n) (λ numbers. cond (accepted point numbers) 1 0)
 
     parts : h + k ≡ n
     parts = omega arith
@@ -153,14 +152,14 @@ module _ (width : ℕ) (times : ℕ → ℕ → ℕ) (vector : ℕ → ℕ) (wid
     all-at : (point : List ℕ) → runs_at point ≤ large
     all-at point =
         let most =
-        lists-most (block_count n) (2 ^ block_bits n) (λ numbers. cond (accepted point numbers) 1 0) (λ numbers. 1)
+        lists-most (place_count m n) (2 ^ place_bits m n) (λ numbers. cond (accepted point numbers) 1 0) (λ numbers. 1)
         (λ numbers long. at-most-one (accepted point numbers)) in
-        let count = lists-constant (block_count n) (2 ^ block_bits n) 1 in
+        let count = lists-constant (place_count m n) (2 ^ place_bits m n) 1 in
         le_trans
         (mul-le-mul_left weight
-        (within (sum_lists (block_count n) (2 ^ block_bits n) (λ numbers. cond (accepted point numbers) 1 0))
-        (sum_lists (block_count n) (2 ^ block_bits n) (λ numbers. 1))
-        ((2 ^ block_bits n) ^ block_count n) most count)) whole
+        (within (sum_lists (place_count m n) (2 ^ place_bits m n) (λ numbers. cond (accepted point numbers) 1 0))
+        (sum_lists (place_count m n) (2 ^ place_bits m n) (λ numbers. 1))
+        ((2 ^ place_bits m n) ^ place_count m n) most count)) whole
       where
         within : (a b c : ℕ) → a ≤ b → b ≡ c * 1 → a ≤ c
         within a b c less is = omega (arith, less, is)
@@ -181,29 +180,29 @@ module _ (width : ℕ) (times : ℕ → ℕ → ℕ) (vector : ℕ → ℕ) (wid
     -- one table: its columns, and its rows
     module _ (column : ℕ → List ℕ) (fits : AreColumnsOf width (2 ^ 2 * 2 ^ k) column) (row : List ℕ → List ℕ)
         (agrees : (point numbers : List ℕ) → AreNumbersBelow n (2 ^ width) point
-        → AreNumbersBelow (block_count n) (2 ^ block_bits n) numbers
+        → AreNumbersBelow (place_count m n) (2 ^ place_bits m n) numbers
         → accepted point numbers ≡ true
-        → AgreesAt width times vector k 2 (take h point) (row point) (block_places (block_bits n) numbers)
-        (λ i. column (slice_index (block_places (block_bits n) numbers) i))) where
+        → AgreesAt width times vector k 2 (take h point) (row point) (block_places (place_bits m n) numbers)
+        (λ i. column (slice_index (block_places (place_bits m n) numbers) i))) where
       abbrev Few : List ℕ → Type 0
-      Few point = MissesFew width times vector k 2 e (block_count n) (2 ^ block_bits n) column (take h point)
+      Few point = MissesFew width times vector k 2 e (place_count m n) (2 ^ place_bits m n) column (take h point)
           (row point) (accepted point)
 
       found : (point : List ℕ) → AreNumbersBelow n (2 ^ width) point → (runs_at point ≤ small) ⊎ Few point
       found point are =
-          seldom-or-near width times vector some_width field vectors fit k 2 deep some e (block_count n)
-          (2 ^ block_bits n) weight small
-          (block_places (block_bits n)) (λ numbers below. placed (block_bits n)
-          (block_count n) numbers below) seldom column (take h point) (row point) fits
+          seldom-or-near width times vector some_width field vectors fit k 2 deep some e (place_count m n)
+          (2 ^ place_bits m n) weight small
+          (block_places (place_bits m n)) (λ numbers below. placed (place_bits m n)
+          (place_count m n) numbers below) seldom column (take h point) (row point) fits
           (accepted point) (λ numbers below is. agrees point numbers are below is)
 
       -- with the number of rows as 2 ^ h
-      few-at : (point : List ℕ) → length point ≡ n → (m : Few point)
-          → marked_below (misses times h (column_symbol column) (take h point) (slice_index m.word)) (2 ^ 2 * 2 ^ k) ≤ e
-      few-at point long m =
-          subst (λ (j : ℕ). marked_below (misses times j (column_symbol column) (take h point) (slice_index m.word))
+      few-at : (point : List ℕ) → length point ≡ n → (v : Few point)
+          → marked_below (misses times h (column_symbol column) (take h point) (slice_index v.word)) (2 ^ 2 * 2 ^ k) ≤ e
+      few-at point long v =
+          subst (λ (j : ℕ). marked_below (misses times j (column_symbol column) (take h point) (slice_index v.word))
           (2 ^ 2 * 2 ^ k) ≤ e)
-          (first-long point long) m.few
+          (first-long point long) v.few
 
       symbols-fit : HaveSymbols width (2 ^ 2 * 2 ^ k) (2 ^ h) (column_symbol column)
       symbols-fit i p below inside = fits p i inside
@@ -215,13 +214,13 @@ module _ (width : ℕ) (times : ℕ → ℕ → ℕ) (vector : ℕ → ℕ) (wid
           lucky h k (column_symbol column) little gap symbols-fit
 
       test-holds : (point : List ℕ) → length point ≡ n → Few point → test point ≡ true
-      test-holds point long m =
+      test-holds point long v =
           near-test width times some_width field (2 ^ k) (2 ^ 2 * 2 ^ k) (point_generator width times vector k) e 1
           (rows_folded times h (take h point) (column_symbol column))
           (near-row width times some_width field (2 ^ k) (2 ^ 2 * 2 ^ k) (2 ^ 2 * 2 ^ k + 1 - 2 ^ k)
           (point_generator width times vector k) distance e h
-          (column_symbol column) (take h point) (slice_index m.word)
-          (code-word-of width times vector k 2 m.word m.code_word) (few-at point long m))
+          (column_symbol column) (take h point) (slice_index v.word)
+          (code-word-of width times vector k 2 v.word v.code_word) (few-at point long v))
 
       -- columns that are far from those of every table
       far-runs : (IsNear times (2 ^ k) (2 ^ 2 * 2 ^ k) (point_generator width times vector k) e (2 ^ h)
@@ -232,8 +231,8 @@ module _ (width : ℕ) (times : ℕ → ℕ → ℕ) (vector : ℕ → ℕ) (wid
           few-large n (2 ^ width) large small (max (2 * n) (h * lucky) * (2 ^ width) ^ n) runs_at test
           (λ point are. at point are (found point are))
           (le_trans
-          (subst (λ (m : ℕ). 2 ^ width * sum_lists m (2 ^ width) (λ point. cond (test point) 1 0)
-          ≤ h * lucky * (2 ^ width) ^ m) parts
+          (subst (λ (v : ℕ). 2 ^ width * sum_lists v (2 ^ width) (λ point. cond (test point) 1 0)
+          ≤ h * lucky * (2 ^ width) ^ v) parts
           (few-fold width times some_width field (2 ^ k) (2 ^ 2 * 2 ^ k) (2 ^ 2 * 2 ^ k + 1 - 2 ^ k)
           (point_generator width times vector k) distance e
           lucky h k (column_symbol column) little gap symbols-fit far))
@@ -242,7 +241,7 @@ module _ (width : ℕ) (times : ℕ → ℕ → ℕ) (vector : ℕ → ℕ) (wid
           at : (point : List ℕ) → AreNumbersBelow n (2 ^ width) point → (runs_at point ≤ small) ⊎ Few point
               → runs_at point ≤ large * cond (test point) 1 0 + small
           at point are (inl less) = small-at point (test point) less
-          at point are (inr m) = large-at point (test point) (test-holds point are.count m)
+          at point are (inr v) = large-at point (test point) (test-holds point are.count v)
 
       module _ (near : IsNear times (2 ^ k) (2 ^ 2 * 2 ^ k) (point_generator width times vector k) e (2 ^ h)
           (column_symbol column)) where
@@ -255,43 +254,43 @@ module _ (width : ℕ) (times : ℕ → ℕ → ℕ) (vector : ℕ → ℕ) (wid
         -- a row that misses few has the table's value
         value-at : (point : List ℕ) → length point ≡ n → Few point
             → multilinear_value times (row point) (drop h point) ≡ multilinear_value times near_table point
-        value-at point long m =
+        value-at point long v =
             row-value width times vector some_width field k 2 e column (take h point) (drop h point)
             (row point) near_table (others-long point long)
             (subst (λ (j : ℕ). CommitsTo width times vector k 2 e (2 ^ j) column near_table)
             (sym (first-long point long)) near-commits)
             (row-values width times vector some_width field k 2 e column h some near (take h point)
-            (first-long point long) m.word (row point)
-            m.code_word.size m.begins folds)
+            (first-long point long) v.word (row point)
+            v.code_word.size v.begins folds)
             ∙ ap (multilinear_value times near_table) (take-append-drop h point)
           where
-            room : marked_below (misses times h (column_symbol column) (take h point) (slice_index m.word))
+            room : marked_below (misses times h (column_symbol column) (take h point) (slice_index v.word))
                 (2 ^ 2 * 2 ^ k) + e
                 < 2 ^ 2 * 2 ^ k + 1 - 2 ^ k
-            room = let few = few-at point long m in let wide_enough = little in omega (arith, few, wide_enough)
+            room = let few = few-at point long v in let wide_enough = little in omega (arith, few, wide_enough)
 
             folds : (p : ℕ) → p < 2 ^ 2 * 2 ^ k
-                → slice_index m.word p ≡ rows_folded times (length (take h point)) (take h point) near.matrix 0 p
+                → slice_index v.word p ≡ rows_folded times (length (take h point)) (take h point) near.matrix 0 p
             folds p inside =
                 little-missed width times some_width field (2 ^ k) (2 ^ 2 * 2 ^ k) (2 ^ 2 * 2 ^ k + 1 - 2 ^ k)
                 (point_generator width times vector k) distance
-                e h (column_symbol column) (take h point) (slice_index m.word)
-                (code-word-of width times vector k 2 m.word m.code_word) near room p
+                e h (column_symbol column) (take h point) (slice_index v.word)
+                (code-word-of width times vector k 2 v.word v.code_word) near room p
                 inside
                 ∙ ap (λ (j : ℕ). rows_folded times j (take h point) near.matrix 0 p) (sym (first-long point long))
 
     left-agrees : (point numbers : List ℕ) → AreNumbersBelow n (2 ^ width) point
-        → AreNumbersBelow (block_count n) (2 ^ block_bits n) numbers
+        → AreNumbersBelow (place_count m n) (2 ^ place_bits m n) numbers
         → accepted point numbers ≡ true
-        → AgreesAt width times vector k 2 (take h point) (prover.left_row point) (block_places (block_bits n) numbers)
-        (λ i. left (slice_index (block_places (block_bits n) numbers) i))
+        → AgreesAt width times vector k 2 (take h point) (prover.left_row point) (block_places (place_bits m n) numbers)
+        (λ i. left (slice_index (block_places (place_bits m n) numbers) i))
     left-agrees point numbers are below is = (cheats.tests point numbers are below is).left_agrees
 
     right-agrees : (point numbers : List ℕ) → AreNumbersBelow n (2 ^ width) point
-        → AreNumbersBelow (block_count n) (2 ^ block_bits n) numbers
+        → AreNumbersBelow (place_count m n) (2 ^ place_bits m n) numbers
         → accepted point numbers ≡ true
-        → AgreesAt width times vector k 2 (take h point) (prover.right_row point) (block_places (block_bits n) numbers)
-        (λ i. right (slice_index (block_places (block_bits n) numbers) i))
+        → AgreesAt width times vector k 2 (take h point) (prover.right_row point) (block_places (place_bits m n) numbers)
+        (λ i. right (slice_index (block_places (place_bits m n) numbers) i))
     right-agrees point numbers are below is = (cheats.tests point numbers are below is).right_agrees
 
     -- columns of which both are near those of a table
@@ -312,7 +311,7 @@ module _ (width : ℕ) (times : ℕ → ℕ → ℕ) (vector : ℕ → ℕ) (wid
       other-commits = near-commits right cheats.right_fits prover.right_row right-agrees other_near
 
       one-size : length one ≡ 2 ^ n
-      one-size = one-commits.size ∙ sym (pow-add 2 h k) ∙ ap (λ (m : ℕ). 2 ^ m) parts
+      one-size = one-commits.size ∙ sym (pow-add 2 h k) ∙ ap (λ (v : ℕ). 2 ^ v) parts
 
       same-size : length other ≡ length one
       same-size = other-commits.size ∙ sym one-commits.size
@@ -334,7 +333,7 @@ module _ (width : ℕ) (times : ℕ → ℕ → ℕ) (vector : ℕ → ℕ) (wid
           ∙ ap₂ times (value-at left cheats.left_fits prover.left_row left-agrees one_near point are.count a)
           (value-at right cheats.right_fits prover.right_row right-agrees other_near point are.count b)
           ∙ sym (values-product width times field.ring one other point
-          (one-size ∙ ap (λ (m : ℕ). 2 ^ m) (sym are.count)) same-size))
+          (one-size ∙ ap (λ (v : ℕ). 2 ^ v) (sym are.count)) same-size))
 
       near-runs : 2 ^ width * sum_lists n (2 ^ width) runs_at
           ≤ max (2 * n) (h * lucky) * (2 ^ width) ^ n * large + 2 ^ width * ((2 ^ width) ^ n * small)
@@ -364,13 +363,13 @@ module _ (width : ℕ) (times : ℕ → ℕ → ℕ) (vector : ℕ → ℕ) (wid
           at point are (inr a) (inl less) = small-at point (leads point) less
           at point are (inr a) (inr b) = large-at point (leads point) (leads-at point are a b)
 
-    pub few-accepted : 2 ^ width * (weight * accepted_runs width n accepted)
+    pub few-accepted : 2 ^ width * (weight * accepted_runs width m n accepted)
         ≤ max (2 * n) (h * lucky) * (2 ^ width) ^ n * large + 2 ^ width * ((2 ^ width) ^ n * small)
     few-accepted =
-        subst (λ (m : ℕ). 2 ^ width * m ≤ max (2 * n)
+        subst (λ (v : ℕ). 2 ^ width * v ≤ max (2 * n)
         (h * lucky) * (2 ^ width) ^ n * large + 2 ^ width * ((2 ^ width) ^ n * small))
         (lists-times n (2 ^ width) weight
-        (λ point. sum_lists (block_count n) (2 ^ block_bits n) (λ numbers. cond (accepted point numbers) 1 0)))
+        (λ point. sum_lists (place_count m n) (2 ^ place_bits m n) (λ numbers. cond (accepted point numbers) 1 0)))
         (pick
         (near-decided width times some_width field (2 ^ k) (2 ^ 2 * 2 ^ k) (point_generator width times vector k) e
         (2 ^ h) (column_symbol left))
@@ -391,35 +390,35 @@ module _ (width : ℕ) (times : ℕ → ℕ → ℕ) (vector : ℕ → ℕ) (wid
 -- ---- over every field
 
 pub few_cheats_succeed : FewCheatsSucceed
-few_cheats_succeed width times vector wide field vectors fit n e lucky deep radius gap left right sum prover accepted cheats =
-    few-accepted width times vector wide field vectors fit n e lucky deep radius gap left right sum prover accepted cheats
-    (block_count n ^ block_count n) ((2 ^ 2 * 2 ^ levels_of n) ^ block_count n)
-    ((2 ^ 2 * 2 ^ levels_of n - (e + 1)) ^ block_count n) whole seldom
+few_cheats_succeed width times vector wide field vectors fit m n e lucky deep radius gap left right sum prover accepted cheats =
+    few-accepted width times vector wide field vectors fit m n e lucky deep radius gap left right sum prover accepted cheats
+    (place_count m n ^ place_count m n) ((2 ^ 2 * 2 ^ row_levels m n) ^ place_count m n)
+    ((2 ^ 2 * 2 ^ row_levels m n - (e + 1)) ^ place_count m n) whole seldom
   where
     -- all places are those of the blocks
-    places : block_count n * 2 ^ block_bits n ≡ 2 ^ 2 * 2 ^ levels_of n
+    places : place_count m n * 2 ^ place_bits m n ≡ 2 ^ 2 * 2 ^ row_levels m n
     places =
-        sym (pow-add 2 (depth_of n - block_bits n) (block_bits n))
-        ∙ ap (λ (m : ℕ). 2 ^ m) (sum-of (depth_of n)) ∙ pow-add 2 2 (levels_of n)
+        sym (pow-add 2 (word_levels m n - place_bits m n) (place_bits m n))
+        ∙ ap (λ (v : ℕ). 2 ^ v) (sum-of (word_levels m n)) ∙ pow-add 2 2 (row_levels m n)
       where
-        sum-of : (d : ℕ) → d - (d - 7) + (d - 7) ≡ d
+        sum-of : (d : ℕ) → d - (d - m) + (d - m) ≡ d
         sum-of d = omega arith
 
-    whole : block_count n ^ block_count n * (2 ^ block_bits n) ^ block_count n
-        ≤ (2 ^ 2 * 2 ^ levels_of n) ^ block_count n
+    whole : place_count m n ^ place_count m n * (2 ^ place_bits m n) ^ place_count m n
+        ≤ (2 ^ 2 * 2 ^ row_levels m n) ^ place_count m n
     whole =
-        let is : block_count n ^ block_count n * (2 ^ block_bits n) ^ block_count n
-        ≡ (2 ^ 2 * 2 ^ levels_of n) ^ block_count n =
-        sym (mul-pow (block_count n) (2 ^ block_bits n) (block_count n)) ∙ ap (λ (m : ℕ). m ^ block_count n) places in
+        let is : place_count m n ^ place_count m n * (2 ^ place_bits m n) ^ place_count m n
+        ≡ (2 ^ 2 * 2 ^ row_levels m n) ^ place_count m n =
+        sym (mul-pow (place_count m n) (2 ^ place_bits m n) (place_count m n)) ∙ ap (λ (v : ℕ). v ^ place_count m n) places in
         omega (arith, is)
 
-    seldom : (marked : ℕ → Bool) → e < marked_below marked (2 ^ 2 * 2 ^ levels_of n)
-        → block_count n ^ block_count n
-        * sum_lists (block_count n) (2 ^ block_bits n)
-        (λ numbers. cond (blocks_unmarked (2 ^ block_bits n) marked 0 numbers) 1 0)
-        ≤ (2 ^ 2 * 2 ^ levels_of n - (e + 1)) ^ block_count n
+    seldom : (marked : ℕ → Bool) → e < marked_below marked (2 ^ 2 * 2 ^ row_levels m n)
+        → place_count m n ^ place_count m n
+        * sum_lists (place_count m n) (2 ^ place_bits m n)
+        (λ numbers. cond (blocks_unmarked (2 ^ place_bits m n) marked 0 numbers) 1 0)
+        ≤ (2 ^ 2 * 2 ^ row_levels m n - (e + 1)) ^ place_count m n
     seldom marked many =
-        le_trans (few_blocks_miss (depth_of n - block_bits n) (2 ^ block_bits n) marked)
+        le_trans (few_blocks_miss (word_levels m n - place_bits m n) (2 ^ place_bits m n) marked)
         (pow-le-pow_left
-        (subst (λ (m : ℕ). m - marked_below marked m ≤ 2 ^ 2 * 2 ^ levels_of n - (e + 1)) (sym places)
-        (omega (arith, many))) (block_count n))
+        (subst (λ (v : ℕ). v - marked_below marked v ≤ 2 ^ 2 * 2 ^ row_levels m n - (e + 1)) (sym places)
+        (omega (arith, many))) (place_count m n))

@@ -4,8 +4,8 @@ use Rattle.transcripts.specs.Lists.{InTurn}
 use Rattle.merkle_trees.specs.Queries.{AreQueries}
 use Rattle.merkle_trees.specs.declared.merkle_tree.MerkleTree.{MerkleTree}
 use Rattle.sum_checks.specs.Sumcheck.{AreTurns, IsRunOf, IsTurn, Statement, messages_of}
-use Rattle.protocols.specs.CommitmentScheme.{ArePlacesDrawn, opening_work}
-use Rattle.prove_sums.specs.Shapes.{block_bits, messages_in, rows_in, sum_in, witness_in}
+use Rattle.protocols.specs.CommitmentScheme.{ArePlacesDrawn, opening_work, place_bits}
+use Rattle.prove_sums.specs.Shapes.{messages_in, rows_in, sum_in, witness_in}
 use Rattle.prove_sums.specs.Verdicts.{IsHonestProof, IsReducedClaim, IsSummed, VerifiesSum, sum_statement}
 
 module _ {C S : Type 0} (state : C → S) where
@@ -29,8 +29,8 @@ module _ {C S : Type 0} (state : C → S) where
     unfolding AreTurns
     turns [] [] old new same = ap state same
     turns [] (r ∷ rs) old new none = none
-    turns (m ∷ ms) [] old new none = none
-    turns (m ∷ ms) (r ∷ rs) old new all = (state all.0, turn m r old all.0 all.1, turns ms rs all.0 new all.2)
+    turns (v ∷ vs) [] old new none = none
+    turns (v ∷ vs) (r ∷ rs) old new all = (state all.0, turn v r old all.0 all.1, turns vs rs all.0 new all.2)
 
     run-on_states : (repr : F → ℕ) (old new : C) (statement : Statement) (messages : List (List F)) (challenges : List F)
         → IsRunOf observes gives repr old statement messages challenges new
@@ -43,22 +43,22 @@ module _ {C S : Type 0} (state : C → S) where
         (passing_by : (old : C) (bits witness : ℕ) → passing old bits witness ≡ passed (state old) bits witness)
         (checks_by : (old : C) (bits witness : ℕ) (new : C) → checks old bits witness new → checked (state old) bits witness (state new))
         (bits_by : (old : C) (bits number : ℕ) (new : C) → gives_bits old bits number new → given_bits (state old) bits number (state new))
-        (number repr : F → ℕ) (n : ℕ) (elements : List F) where
+        (number repr : F → ℕ) (m n : ℕ) (elements : List F) where
       queries : (old new : C) (witness : ℕ) (works : Bool) (places : List ℕ)
-          → AreQueries passing checks gives_bits old opening_work witness works (block_bits n) places new
-          → AreQueries passed checked given_bits (state old) opening_work witness works (block_bits n) places (state new)
+          → AreQueries passing checks gives_bits old opening_work witness works (place_bits m n) places new
+          → AreQueries passed checked given_bits (state old) opening_work witness works (place_bits m n) places (state new)
       queries old new witness works places all = (
         state all.0,
         all.1 ∙ passing_by old opening_work witness,
         checks_by old opening_work witness all.0 all.2,
-        in_turn (λ (from : C) (place : ℕ) (to : C). gives_bits from (block_bits n) place to)
-            (λ (from : S) (place : ℕ) (to : S). given_bits from (block_bits n) place to)
-            (λ from place to is. bits_by from (block_bits n) place to is) places all.0 new all.3,
+        in_turn (λ (from : C) (place : ℕ) (to : C). gives_bits from (place_bits m n) place to)
+            (λ (from : S) (place : ℕ) (to : S). given_bits from (place_bits m n) place to)
+            (λ from place to is. bits_by from (place_bits m n) place to is) places all.0 new all.3,
       )
 
       draws-on_states : (rows : List F) (witness : ℕ) (old new : C) (works : Bool) (places : List ℕ)
-          → ArePlacesDrawn observes gives passing checks gives_bits 7 n rows witness old works places new
-          → ArePlacesDrawn observed given passed checked given_bits 7 n rows witness (state old) works places (state new)
+          → ArePlacesDrawn observes gives passing checks gives_bits m n rows witness old works places new
+          → ArePlacesDrawn observed given passed checked given_bits m n rows witness (state old) works places (state new)
       draws-on_states rows witness old new works places drawn = record {
         challenge = drawn.challenge;
         turned = state drawn.turned;
@@ -81,10 +81,10 @@ module _ {C S : Type 0} (state : C → S) where
 
       pub verdict-on_states : (hash : List ℕ → List ℕ) (size width : ℕ) (times : ℕ → ℕ → ℕ) (vector : ℕ → ℕ) (left right : List ℕ)
           (nodes : List (List ℕ)) (old : C) (begun : S) (accepted : Bool) → state old ≡ begun
-          → VerifiesSum observes gives passing checks gives_bits number repr hash size width times vector n left right elements nodes old accepted
-          → VerifiesSum observed given passed checked given_bits number repr hash size width times vector n left right elements nodes begun accepted
+          → VerifiesSum observes gives passing checks gives_bits number repr hash size width times vector m n left right elements nodes old accepted
+          → VerifiesSum observed given passed checked given_bits number repr hash size width times vector m n left right elements nodes begun accepted
       verdict-on_states hash size width times vector left right nodes old begun accepted is verdict =
-          subst (λ (s : S). VerifiesSum observed given passed checked given_bits number repr hash size width times vector n left right elements nodes s accepted) is
+          subst (λ (s : S). VerifiesSum observed given passed checked given_bits number repr hash size width times vector m n left right elements nodes s accepted) is
           (record {
             point = verdict.point;
             claim = verdict.claim;
@@ -93,7 +93,7 @@ module _ {C S : Type 0} (state : C → S) where
             between = state verdict.between;
             new = state verdict.new;
             reduced = reduced-on_states width times old verdict.between verdict.point verdict.claim verdict.reduced;
-            drawn = draws-on_states (rows_in n elements) (witness_in number n elements) verdict.between verdict.new verdict.works verdict.places
+            drawn = draws-on_states (rows_in m n elements) (witness_in number n elements) verdict.between verdict.new verdict.works verdict.places
                 verdict.drawn;
             decided = verdict.decided;
           })
@@ -111,14 +111,14 @@ module _ {C S : Type 0} (state : C → S) where
 
       pub honest-on_states : {A : Type 0} (width : ℕ) (times : ℕ → ℕ → ℕ) (left right left_columns right_columns : List F)
           (left_tree right_tree : MerkleTree A) (nodes : List (List ℕ)) (old : C) (begun : S) → state old ≡ begun
-          → IsHonestProof observes gives passing checks gives_bits number repr width times n left right left_columns right_columns left_tree right_tree
+          → IsHonestProof observes gives passing checks gives_bits number repr width times m n left right left_columns right_columns left_tree right_tree
           elements nodes old
-          → IsHonestProof observed given passed checked given_bits number repr width times n left right left_columns right_columns left_tree right_tree
+          → IsHonestProof observed given passed checked given_bits number repr width times m n left right left_columns right_columns left_tree right_tree
           elements nodes begun
       honest-on_states width times left right left_columns right_columns left_tree right_tree nodes old begun is honest =
           let parts = honest.parts in
           subst
-          (λ (s : S). IsHonestProof observed given passed checked given_bits number repr width times n left right left_columns right_columns
+          (λ (s : S). IsHonestProof observed given passed checked given_bits number repr width times m n left right left_columns right_columns
           left_tree right_tree elements nodes s) is
           (record {
             parts = parts;

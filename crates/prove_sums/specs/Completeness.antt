@@ -11,13 +11,13 @@ use Rattle.prove_sums.specs.Verdicts.{IsHonestProof, VerifiesSum}
 abbrev pub HonestSumsAreAccepted : {C S F : Type 0} → (C → S) → (C → F → C → Type 0) → (C → F → C → Type 0) → (C → ℕ → ℕ → Bool)
     → (C → ℕ → ℕ → C → Type 0) → (C → ℕ → ℕ → C → Type 0) → (F → ℕ) → (F → ℕ) → ℕ → ℕ → (ℕ → ℕ → ℕ) → (ℕ → ℕ) → Type 0
 HonestSumsAreAccepted {C} {S} {F} state observes gives passing checks gives_bits number repr size width times vector =
-    (hash : List ℕ → List ℕ) (n : ℕ) (left right left_columns right_columns : List F) (left_tree right_tree : MerkleTree Global)
+    (hash : List ℕ → List ℕ) (m n : ℕ) (left right left_columns right_columns : List F) (left_tree right_tree : MerkleTree Global)
     (elements : List F) (nodes : List (List ℕ)) (prover verifier : C) (accepted : Bool) → 2 ≤ width
-    → HoldsColumns hash repr size width times vector 7 n left left_columns left_tree
-    → HoldsColumns hash repr size width times vector 7 n right right_columns right_tree
-    → IsHonestProof observes gives passing checks gives_bits number repr width times n left right left_columns right_columns left_tree
+    → HoldsColumns hash repr size width times vector m n left left_columns left_tree
+    → HoldsColumns hash repr size width times vector m n right right_columns right_tree
+    → IsHonestProof observes gives passing checks gives_bits number repr width times m n left right left_columns right_columns left_tree
     right_tree elements nodes prover
     → state prover ≡ state verifier
-    → VerifiesSum observes gives passing checks gives_bits number repr hash size width times vector n (root_of left_tree) (root_of right_tree)
+    → VerifiesSum observes gives passing checks gives_bits number repr hash size width times vector m n (root_of left_tree) (root_of right_tree)
     elements nodes verifier accepted
     → accepted ≡ true

@@ -1,3 +1,4 @@
+pub mod Bits
 pub mod Completeness
 pub mod ProofFiles
 pub mod Reports

@@ -6,49 +6,52 @@ use Rattle.field_element.specs.Element.{repr_of}
 use Rattle.prove_sums.specs.Shapes.{element_count}
 use Rattle.prove_sums.specs.declared.tables.Table.{Table}
 use Rattle.prove_sums.specs.declared.refusal.Refusal.{Refusal}
-use Rattle.prove_sums.specs.declared.refusal.Refusal.TheVariants.{NotAProof, OtherField, Length, OtherLeft, OtherRight, NotProved}
+use Rattle.prove_sums.specs.declared.refusal.Refusal.TheVariants.{NotAProof, OtherVersion, OtherField, Length, OtherParameters, TooFewBits, OtherLeft, OtherRight, NotProved}
 
--- what a file begins with: "sum 2 ", the letter G for the field of GHASH, and a line feed
+-- what a file begins with: "sum 3 ", the letter G for the field of GHASH, and a line feed
 abbrev pub head : List ℕ
-head = 115 ∷ 117 ∷ 109 ∷ 32 ∷ 50 ∷ 32 ∷ 71 ∷ 10 ∷ []
+head = 115 ∷ 117 ∷ 109 ∷ 32 ∷ 51 ∷ 32 ∷ 71 ∷ 10 ∷ []
 
--- the bytes of a file: the head, the number of rounds as one byte, the roots of the left and of the right table, the bytes of the elements,
--- and the nodes, one after the other
-abbrev pub file_bytes : ℕ → List ℕ → List ℕ → List ℕ → List (List ℕ) → List ℕ
-file_bytes rounds left right body nodes = head ++ (rounds ∷ []) ++ left ++ right ++ body ++ flat_map (λ node. node) nodes
+-- the bytes of a file: the head, m and n as one byte each, where 2 ^ m places are opened of tables of 2 ^ n elements, the roots of the left
+-- and of the right table, the bytes of the elements, and the nodes, one after the other
+abbrev pub file_bytes : ℕ → ℕ → List ℕ → List ℕ → List ℕ → List (List ℕ) → List ℕ
+file_bytes queries rounds left right body nodes = head ++ (queries ∷ rounds ∷ []) ++ left ++ right ++ body ++ flat_map (λ node. node) nodes
 
--- what a file may hold: roots and nodes of 32 bytes, as many nodes for one table as for the other, and as many bytes as the elements have
-pub record IsFile (rounds : ℕ) (left right body : List ℕ) (nodes : List (List ℕ)) : Type 0 where
+-- what a file may hold: 2 ^ 7 or 2 ^ 8 places, roots and nodes of 32 bytes, as many nodes for one table as for the other, and as many bytes as the elements have
+pub record IsFile (queries rounds : ℕ) (left right body : List ℕ) (nodes : List (List ℕ)) : Type 0 where
+  pub some_queries : 7 ≤ queries
+  pub few_queries : queries ≤ 8
   pub few : rounds ≤ 39
   pub left_size : length left ≡ 32
   pub right_size : length right ≡ 32
-  pub body_size : length body ≡ element_count rounds * 16
+  pub body_size : length body ≡ element_count queries rounds * 16
   pub node_size : (k : ℕ) → k < length nodes → length (get_or nodes k []) ≡ 32
   pub even : length nodes % 2 ≡ 0
 
 -- bytes are a file of these parts, and of no others
-pub record IsCutTo (bytes : List ℕ) (rounds : ℕ) (left right body : List ℕ) (nodes : List (List ℕ)) : Type 0 where
-  pub may_be : IsFile rounds left right body nodes
-  pub written : bytes ≡ file_bytes rounds left right body nodes
-  pub only : (n : ℕ) (l r b : List ℕ) (ns : List (List ℕ)) → IsFile n l r b ns → bytes ≡ file_bytes n l r b ns
-      → (rounds ≡ n) × (left ≡ l) × (right ≡ r) × (body ≡ b) × (nodes ≡ ns)
+pub record IsCutTo (bytes : List ℕ) (queries rounds : ℕ) (left right body : List ℕ) (nodes : List (List ℕ)) : Type 0 where
+  pub may_be : IsFile queries rounds left right body nodes
+  pub written : bytes ≡ file_bytes queries rounds left right body nodes
+  pub only : (m n : ℕ) (l r b : List ℕ) (ns : List (List ℕ)) → IsFile m n l r b ns → bytes ≡ file_bytes m n l r b ns
+      → (queries ≡ m) × (rounds ≡ n) × (left ≡ l) × (right ≡ r) × (body ≡ b) × (nodes ≡ ns)
 
 -- a file of a proof with these roots, elements and nodes
-pub record IsFileOf {F : Type 0} (repr : F → ℕ) (bytes : List ℕ) (rounds : ℕ) (left right : List ℕ) (elements : List F) (nodes : List (List ℕ))
-    : Type 0 where
-  pub may_be : IsFile rounds left right (joined_bytes 16 repr elements) nodes
-  pub written : bytes ≡ file_bytes rounds left right (joined_bytes 16 repr elements) nodes
+pub record IsFileOf {F : Type 0} (repr : F → ℕ) (bytes : List ℕ) (queries rounds : ℕ) (left right : List ℕ) (elements : List F)
+    (nodes : List (List ℕ)) : Type 0 where
+  pub may_be : IsFile queries rounds left right (joined_bytes 16 repr elements) nodes
+  pub written : bytes ≡ file_bytes queries rounds left right (joined_bytes 16 repr elements) nodes
 
 -- that file holds nothing else
-abbrev pub IsOnlyFileOf : {F : Type 0} → (F → ℕ) → List ℕ → ℕ → List ℕ → List ℕ → List F → List (List ℕ) → Type 0
-IsOnlyFileOf {F} repr bytes rounds left right elements nodes =
-    (n : ℕ) (l r : List ℕ) (es : List F) (ns : List (List ℕ)) → IsFileOf repr bytes n l r es ns
-    → (rounds ≡ n) × (left ≡ l) × (right ≡ r) × (elements ≡ es) × (nodes ≡ ns)
+abbrev pub IsOnlyFileOf : {F : Type 0} → (F → ℕ) → List ℕ → ℕ → ℕ → List ℕ → List ℕ → List F → List (List ℕ) → Type 0
+IsOnlyFileOf {F} repr bytes queries rounds left right elements nodes =
+    (m n : ℕ) (l r : List ℕ) (es : List F) (ns : List (List ℕ)) → IsFileOf repr bytes m n l r es ns
+    → (queries ≡ m) × (rounds ≡ n) × (left ≡ l) × (right ≡ r) × (elements ≡ es) × (nodes ≡ ns)
 
 -- bytes that are no file of a proof
 abbrev pub IsNoFile : {F : Type 0} → (F → ℕ) → List ℕ → Type 0
 IsNoFile {F} repr bytes =
-    (rounds : ℕ) (left right : List ℕ) (elements : List F) (nodes : List (List ℕ)) → IsFileOf repr bytes rounds left right elements nodes → ⊥
+    (queries rounds : ℕ) (left right : List ℕ) (elements : List F) (nodes : List (List ℕ))
+    → IsFileOf repr bytes queries rounds left right elements nodes → ⊥
 
 -- what gives the elements of a table their numbers, as a function of these elements alone
 abbrev pub number_in : {T F : Type 0} → (T → List F) → (F → ℕ) → F → ℕ
@@ -62,7 +65,10 @@ IsNoWordFile bytes = IsNoFile (number_in (λ (table : Table). table.elements.ite
 abbrev pub IsReadRefusal : Refusal → Type 0
 IsReadRefusal Length = ⊤
 IsReadRefusal NotAProof = ⊤
+IsReadRefusal OtherVersion = ⊤
 IsReadRefusal OtherField = ⊤
+IsReadRefusal OtherParameters = ⊥
+IsReadRefusal TooFewBits = ⊥
 IsReadRefusal OtherLeft = ⊥
 IsReadRefusal OtherRight = ⊥
 IsReadRefusal NotProved = ⊥

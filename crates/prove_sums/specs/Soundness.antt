@@ -8,13 +8,13 @@ use Rattle.merkle_trees.specs.MerkleTrees.{HaveDigestSize}
 use Rattle.sum_checks.specs.Sumcheck.{messages_of}
 use Rattle.sum_checks.specs.SumcheckClaims.{AreMessages, IsSaved, reduced_claim}
 use Rattle.sum_checks.specs.Terms.{cube_sum}
-use Rattle.protocols.specs.CommitmentScheme.{value_columns}
+use Rattle.protocols.specs.CommitmentScheme.{matrix_rows, row_levels, value_columns, word_levels}
 use Rattle.protocols.specs.OpenedTables.{AreColumnsOf, AreLuckyPlaces, CommitsTo, HasLuckyCoordinate}
 use Rattle.protocols.specs.RootColumns.{HasSent, HaveOtherColumns, SentColumns}
 use Rattle.protocols.specs.Tables.{AgreesAt}
 use Rattle.prove_sums.specs.declared.tables.Table.{Table}
 use Rattle.prove_sums.specs.ProofFiles.{IsFileOf, file_bytes, number_in}
-use Rattle.prove_sums.specs.Shapes.{columns_in, depth_of, element_count, levels_of, messages_in, nodes_in, row_in, rows_of, sum_in}
+use Rattle.prove_sums.specs.Shapes.{columns_in, element_count, messages_in, nodes_in, row_in, sum_in}
 use Rattle.prove_sums.specs.SoundnessErrors.{IsAcceptedRun, sends_always}
 use Rattle.prove_sums.specs.Verdicts.{IsSumVerdict, VerifiesSum, interleaved, product_terms, word_times, word_vector}
 
@@ -64,34 +64,34 @@ pub record HasPoints {F : Type 0} (repr : F → ℕ) (size width : ℕ) (times :
 -- a proof for two roots that is accepted, from some state of a transcript
 pub record AcceptedProof {C F : Type 0} (observes gives : C → F → C → Type 0) (passing : C → ℕ → ℕ → Bool)
     (checks : C → ℕ → ℕ → C → Type 0) (gives_bits : C → ℕ → ℕ → C → Type 0) (number repr : F → ℕ) (size width : ℕ) (times : ℕ → ℕ → ℕ)
-    (vector : ℕ → ℕ) (hash : List ℕ → List ℕ) (digest n : ℕ) (left right : List ℕ) : Type 0 where
+    (vector : ℕ → ℕ) (hash : List ℕ → List ℕ) (digest m n : ℕ) (left right : List ℕ) : Type 0 where
   pub elements : List F
   pub nodes : List (List ℕ)
   pub old : C
-  pub count : length elements ≡ element_count n
+  pub count : length elements ≡ element_count m n
   pub digests : HaveDigestSize digest nodes
-  pub verdict : VerifiesSum observes gives passing checks gives_bits number repr hash size width times vector n left right elements nodes
+  pub verdict : VerifiesSum observes gives passing checks gives_bits number repr hash size width times vector m n left right elements nodes
       old true
 
 -- the columns of table 0 or 1 that it opens
-abbrev pub sent_columns : {F : Type 0} → (F → ℕ) → ℕ → ℕ → List F → List (List ℕ) → List ℕ → SentColumns
-sent_columns repr n which elements nodes places = value_columns repr 7 n (columns_in n which elements) (nodes_in which nodes) places
+abbrev pub sent_columns : {F : Type 0} → (F → ℕ) → ℕ → ℕ → ℕ → List F → List (List ℕ) → List ℕ → SentColumns
+sent_columns repr m n which elements nodes places = value_columns repr m n (columns_in m n which elements) (nodes_in which nodes) places
 
 -- what its messages and rows show of the columns of both roots
-abbrev pub ElementsShowSum : {F : Type 0} → (F → ℕ) → ℕ → (ℕ → ℕ → ℕ) → (ℕ → ℕ) → ℕ → ℕ → (ℕ → List ℕ) → (ℕ → List ℕ) → List F
+abbrev pub ElementsShowSum : {F : Type 0} → (F → ℕ) → ℕ → (ℕ → ℕ → ℕ) → (ℕ → ℕ) → ℕ → ℕ → ℕ → (ℕ → List ℕ) → (ℕ → List ℕ) → List F
     → List F → List ℕ → Type 0
-ElementsShowSum repr width times vector n e one other elements point places =
-    ShowsSum width times vector (levels_of n) 2 e one other (sum_in repr elements)
-    (map (map repr) (messages_of 2 n (messages_in n elements))) (map repr (take (rows_of n) point)) (map repr (drop (rows_of n) point))
-    (map repr (row_in n 0 elements)) (map repr (row_in n 1 elements)) places
+ElementsShowSum repr width times vector m n e one other elements point places =
+    ShowsSum width times vector (row_levels m n) 2 e one other (sum_in repr elements)
+    (map (map repr) (messages_of 2 n (messages_in n elements))) (map repr (take (matrix_rows m n) point)) (map repr (drop (matrix_rows m n) point))
+    (map repr (row_in m n 0 elements)) (map repr (row_in m n 1 elements)) places
 
 -- with these columns it is a run of the interactive protocol that a verifier accepts, with the challenges and the places as those that it
 -- draws: so of all that it may draw, as few make a proof of a false sum accepted as runs are (`FewCheatsSucceed`, SoundnessErrors.antt)
-abbrev pub ElementsAreRun : {F : Type 0} → (F → ℕ) → ℕ → (ℕ → ℕ → ℕ) → (ℕ → ℕ) → ℕ → (ℕ → List ℕ) → (ℕ → List ℕ) → List F → List F
+abbrev pub ElementsAreRun : {F : Type 0} → (F → ℕ) → ℕ → (ℕ → ℕ → ℕ) → (ℕ → ℕ) → ℕ → ℕ → (ℕ → List ℕ) → (ℕ → List ℕ) → List F → List F
     → List ℕ → Type 0
-ElementsAreRun repr width times vector n one other elements point places =
-    IsAcceptedRun width times vector n one other (sum_in repr elements)
-    (sends_always (map (map repr) (messages_of 2 n (messages_in n elements))) (map repr (row_in n 0 elements)) (map repr (row_in n 1 elements)))
+ElementsAreRun repr width times vector m n one other elements point places =
+    IsAcceptedRun width times vector m n one other (sum_in repr elements)
+    (sends_always (map (map repr) (messages_of 2 n (messages_in n elements))) (map repr (row_in m n 0 elements)) (map repr (row_in m n 1 elements)))
     (map repr point) places
 
 -- there is a function of columns of elements, over so many places, that has those of the openings
@@ -102,49 +102,49 @@ HaveColumns width size count sent = (column : ℕ → List ℕ) × AreColumnsOf 
 -- its sum of any such functions, and is a run with these: so of the columns that a prover has committed to, whatever is opened of them. The functions are of all
 -- proofs, so that what is lucky is the same for all, and so are the tables to which they commit (`TableIsOne` of `protocols`). Or two proofs
 -- open other columns at one place, and have a collision of the hash function.
-abbrev pub RootsShowSums : {F : Type 0} → (F → ℕ) → (List ℕ → List ℕ) → ℕ → ℕ → (ℕ → ℕ → ℕ) → (ℕ → ℕ) → ℕ → ℕ → List ℕ → List ℕ → ℕ
+abbrev pub RootsShowSums : {F : Type 0} → (F → ℕ) → (List ℕ → List ℕ) → ℕ → ℕ → (ℕ → ℕ → ℕ) → (ℕ → ℕ) → ℕ → ℕ → ℕ → List ℕ → List ℕ → ℕ
     → (ℕ → List F) → (ℕ → List (List ℕ)) → (ℕ → List F) → (ℕ → List ℕ) → Type 0
-RootsShowSums repr hash size width times vector n e left right count elements nodes point places =
-    (HaveColumns width (2 ^ 2 * 2 ^ levels_of n) count (λ i. sent_columns repr n 0 (elements i) (nodes i) (places i))
-    × HaveColumns width (2 ^ 2 * 2 ^ levels_of n) count (λ i. sent_columns repr n 1 (elements i) (nodes i) (places i))
-    × ((one other : ℕ → List ℕ) → AreColumnsOf width (2 ^ 2 * 2 ^ levels_of n) one → AreColumnsOf width (2 ^ 2 * 2 ^ levels_of n) other
-    → HasSent count (λ i. sent_columns repr n 0 (elements i) (nodes i) (places i)) one
-    → HasSent count (λ i. sent_columns repr n 1 (elements i) (nodes i) (places i)) other
+RootsShowSums repr hash size width times vector m n e left right count elements nodes point places =
+    (HaveColumns width (2 ^ 2 * 2 ^ row_levels m n) count (λ i. sent_columns repr m n 0 (elements i) (nodes i) (places i))
+    × HaveColumns width (2 ^ 2 * 2 ^ row_levels m n) count (λ i. sent_columns repr m n 1 (elements i) (nodes i) (places i))
+    × ((one other : ℕ → List ℕ) → AreColumnsOf width (2 ^ 2 * 2 ^ row_levels m n) one → AreColumnsOf width (2 ^ 2 * 2 ^ row_levels m n) other
+    → HasSent count (λ i. sent_columns repr m n 0 (elements i) (nodes i) (places i)) one
+    → HasSent count (λ i. sent_columns repr m n 1 (elements i) (nodes i) (places i)) other
     → (i : ℕ) → i < count
-    → ElementsShowSum repr width times vector n e one other (elements i) (point i) (places i)
-    × ElementsAreRun repr width times vector n one other (elements i) (point i) (places i)))
-    ⊎ HaveOtherColumns hash size (depth_of n) left count (λ i. sent_columns repr n 0 (elements i) (nodes i) (places i))
-    ⊎ HaveOtherColumns hash size (depth_of n) right count (λ i. sent_columns repr n 1 (elements i) (nodes i) (places i))
+    → ElementsShowSum repr width times vector m n e one other (elements i) (point i) (places i)
+    × ElementsAreRun repr width times vector m n one other (elements i) (point i) (places i)))
+    ⊎ HaveOtherColumns hash size (word_levels m n) left count (λ i. sent_columns repr m n 0 (elements i) (nodes i) (places i))
+    ⊎ HaveOtherColumns hash size (word_levels m n) right count (λ i. sent_columns repr m n 1 (elements i) (nodes i) (places i))
 
 -- any proofs that are accepted for the same roots, as many as one likes, show sums of what these hold
 abbrev pub SumsAreProved : {C F : Type 0} → (C → F → C → Type 0) → (C → F → C → Type 0) → (C → ℕ → ℕ → Bool)
     → (C → ℕ → ℕ → C → Type 0) → (C → ℕ → ℕ → C → Type 0) → (F → ℕ) → (F → ℕ) → ℕ → ℕ → (ℕ → ℕ → ℕ) → (ℕ → ℕ) → Type 0
 SumsAreProved observes gives passing checks gives_bits number repr size width times vector =
     (hash : List ℕ → List ℕ) (digest : ℕ) → ((bytes : List ℕ) → length (hash bytes) ≡ digest)
-    → (n e : ℕ) (left right : List ℕ) → 2 ≤ width → depth_of n ≤ width → 2 * e + 2 ^ levels_of n ≤ 2 ^ 2 * 2 ^ levels_of n
+    → (m n e : ℕ) (left right : List ℕ) → 2 ≤ width → word_levels m n ≤ width → 2 * e + 2 ^ row_levels m n ≤ 2 ^ 2 * 2 ^ row_levels m n
     → (count : ℕ)
-    (proof : ℕ → AcceptedProof observes gives passing checks gives_bits number repr size width times vector hash digest n left right)
-    → RootsShowSums repr hash size width times vector n e left right count (λ i. (proof i).elements) (λ i. (proof i).nodes)
+    (proof : ℕ → AcceptedProof observes gives passing checks gives_bits number repr size width times vector hash digest m n left right)
+    → RootsShowSums repr hash size width times vector m n e left right count (λ i. (proof i).elements) (λ i. (proof i).nodes)
     (λ i. (proof i).verdict.point) (λ i. (proof i).verdict.places)
 
 -- ---- of files
 
--- a file of a proof for the tables with these roots, of 2 ^ n words, which is accepted
-pub record AcceptedFile {F H : Type 0} (digest : H → List ℕ → List ℕ) (hasher : H) (repr : F → ℕ) (n : ℕ) (left right : List ℕ)
+-- a file of a proof for the tables with these roots, of 2 ^ n words, of which 2 ^ m places are opened, which is accepted
+pub record AcceptedFile {F H : Type 0} (digest : H → List ℕ → List ℕ) (hasher : H) (repr : F → ℕ) (m n : ℕ) (left right : List ℕ)
     : Type 0 where
   pub bytes : List ℕ
   pub elements : List F
   pub nodes : List (List ℕ)
-  pub file : IsFileOf repr bytes n left right elements nodes
-  pub verdict : IsSumVerdict digest hasher repr (file_bytes n left right [] []) n left right elements nodes true
+  pub file : IsFileOf repr bytes m n left right elements nodes
+  pub verdict : IsSumVerdict digest hasher repr (file_bytes m n left right [] []) m n left right elements nodes true
 
 -- The same of files that the program accepts for the same roots, by a hasher whose digests have 32 bytes.
 abbrev pub FilesShowSums : {F H : Type 0} → (H → List ℕ → List ℕ) → (F → ℕ) → Type 0
 FilesShowSums {F} {H} digest repr =
     (hasher : H) → ((bytes : List ℕ) → length (digest hasher bytes) ≡ 32)
-    → (n e : ℕ) (left right : List ℕ) → 2 * e + 2 ^ levels_of n ≤ 2 ^ 2 * 2 ^ levels_of n
-    → (count : ℕ) (file : ℕ → AcceptedFile digest hasher repr n left right)
-    → RootsShowSums repr (digest hasher) 16 128 word_times word_vector n e left right count (λ i. (file i).elements) (λ i. (file i).nodes)
+    → (m n e : ℕ) (left right : List ℕ) → 2 * e + 2 ^ row_levels m n ≤ 2 ^ 2 * 2 ^ row_levels m n
+    → (count : ℕ) (file : ℕ → AcceptedFile digest hasher repr m n left right)
+    → RootsShowSums repr (digest hasher) 16 128 word_times word_vector m n e left right count (λ i. (file i).elements) (λ i. (file i).nodes)
     (λ i. (file i).verdict.point) (λ i. (file i).verdict.places)
 
 -- .. of words

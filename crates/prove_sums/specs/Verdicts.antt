@@ -16,18 +16,19 @@ use Rattle.field_slices.specs.Multilinear.{multilinear_value}
 use Rattle.word_tables.specs.Cantor.{cantor_vector}
 use Rattle.sum_checks.specs.Sumcheck.{IsRunOf, Statement, messages_of, statement_of}
 use Rattle.sum_checks.specs.SumcheckClaims.{AreHonestMessages, reduced_claim}
-use Rattle.protocols.specs.CommitmentScheme.{ArePlacesDrawn}
+use Rattle.protocols.specs.CommitmentScheme.{ArePlacesDrawn, matrix_rows, row_levels, word_levels}
 use Rattle.protocols.specs.Tables.{AreColumnsAt, AreExtendedColumns, OpensColumns, OpensPlaces}
 use Rattle.merkle_trees.specs.Commitments.{IsTreeOver, root_of, row_at}
 use Rattle.merkle_trees.specs.MerkleTrees.{rows_root}
 use Rattle.merkle_trees.specs.declared.merkle_tree.MerkleTree.{MerkleTree}
 use Rattle.sum_checks.specs.Terms.{Product, cube_sum}
 use Rattle.field_element.specs.Element.{repr_of}
+use Rattle.prove_sums.specs.Bits.{AreFor, NoneIsFor}
 use Rattle.prove_sums.specs.ProofFiles.{IsFileOf, IsNoFile, file_bytes, number_in}
 use Rattle.prove_sums.specs.declared.tables.Table.{Table}
-use Rattle.prove_sums.specs.Shapes.{columns_in, depth_of, levels_of, messages_in, nodes_in, row_in, row_size, rows_in, rows_of, sum_in, witness_in}
+use Rattle.prove_sums.specs.Shapes.{columns_in, messages_in, nodes_in, row_in, row_size, rows_in, sum_in, witness_in}
 use Rattle.prove_sums.specs.declared.refusal.Refusal.{Refusal}
-use Rattle.prove_sums.specs.declared.refusal.Refusal.TheVariants.{NotAProof, OtherField, Length, OtherLeft, OtherRight, NotProved}
+use Rattle.prove_sums.specs.declared.refusal.Refusal.TheVariants.{NotAProof, OtherVersion, OtherField, Length, OtherParameters, TooFewBits, OtherLeft, OtherRight, NotProved}
 
 -- ---- the statement
 
@@ -66,10 +67,10 @@ pub record IsReducedClaim {C F : Type 0} (observes gives : C → F → C → Typ
 -- ---- the verdict
 
 -- the claim is the product of both rows' values at the other coordinates of the point
-abbrev pub IsProductAt : {F : Type 0} → (F → ℕ) → (ℕ → ℕ → ℕ) → ℕ → List F → List F → ℕ → Type 0
-IsProductAt repr times n elements others claim =
-    claim ≡ times (multilinear_value times (map repr (row_in n 0 elements)) (map repr others))
-    (multilinear_value times (map repr (row_in n 1 elements)) (map repr others))
+abbrev pub IsProductAt : {F : Type 0} → (F → ℕ) → (ℕ → ℕ → ℕ) → ℕ → ℕ → List F → List F → ℕ → Type 0
+IsProductAt repr times m n elements others claim =
+    claim ≡ times (multilinear_value times (map repr (row_in m n 0 elements)) (map repr others))
+    (multilinear_value times (map repr (row_in m n 1 elements)) (map repr others))
 
 -- the root of table 0 or 1
 abbrev pub root_in : ℕ → List ℕ → List ℕ → List ℕ
@@ -77,17 +78,17 @@ root_in zero left right = left
 root_in (suc which) left right = right
 
 -- the nodes open the columns of table 0 or 1 at these places under its root, and its row's code word agrees with them at the point
-abbrev pub OpensTable : {F : Type 0} → (List ℕ → List ℕ) → (F → ℕ) → ℕ → ℕ → (ℕ → ℕ → ℕ) → (ℕ → ℕ) → ℕ → ℕ → List ℕ → List F
+abbrev pub OpensTable : {F : Type 0} → (List ℕ → List ℕ) → (F → ℕ) → ℕ → ℕ → (ℕ → ℕ → ℕ) → (ℕ → ℕ) → ℕ → ℕ → ℕ → List ℕ → List F
     → List F → List ℕ → List (List ℕ) → Type 0
-OpensTable hash repr size width times vector n which root point elements places nodes =
-    OpensColumns hash repr size width times vector (levels_of n) 2 root point (row_in n which elements) places (columns_in n which elements)
+OpensTable hash repr size width times vector m n which root point elements places nodes =
+    OpensColumns hash repr size width times vector (row_levels m n) 2 root point (row_in m n which elements) places (columns_in m n which elements)
     (nodes_in which nodes)
 
 -- The verdict on elements and nodes: true exactly if the witness works, the claim that the messages leave is the product of both rows' values,
 -- and the rows agree with the columns that are opened under the roots.
 pub record VerifiesSum {C F : Type 0} (observes gives : C → F → C → Type 0) (passing : C → ℕ → ℕ → Bool)
     (checks : C → ℕ → ℕ → C → Type 0) (gives_bits : C → ℕ → ℕ → C → Type 0) (number repr : F → ℕ) (hash : List ℕ → List ℕ)
-    (size width : ℕ) (times : ℕ → ℕ → ℕ) (vector : ℕ → ℕ) (n : ℕ) (left right : List ℕ) (elements : List F) (nodes : List (List ℕ))
+    (size width : ℕ) (times : ℕ → ℕ → ℕ) (vector : ℕ → ℕ) (m n : ℕ) (left right : List ℕ) (elements : List F) (nodes : List (List ℕ))
     (old : C) (accepted : Bool) : Type 0 where
   pub point : List F
   pub claim : ℕ
@@ -96,26 +97,26 @@ pub record VerifiesSum {C F : Type 0} (observes gives : C → F → C → Type 0
   pub between : C
   pub new : C
   pub reduced : IsReducedClaim observes gives repr width times n elements old point claim between
-  pub drawn : ArePlacesDrawn observes gives passing checks gives_bits 7 n (rows_in n elements) (witness_in number n elements) between works places new
+  pub drawn : ArePlacesDrawn observes gives passing checks gives_bits m n (rows_in m n elements) (witness_in number n elements) between works places new
   pub decided : IsTrue accepted
       ↔ IsTrue works
-      × IsProductAt repr times n elements (drop (rows_of n) point) claim
-      × OpensTable hash repr size width times vector n 0 left (take (rows_of n) point) elements places nodes
-      × OpensTable hash repr size width times vector n 1 right (take (rows_of n) point) elements places nodes
+      × IsProductAt repr times m n elements (drop (matrix_rows m n) point) claim
+      × OpensTable hash repr size width times vector m n 0 left (take (matrix_rows m n) point) elements places nodes
+      × OpensTable hash repr size width times vector m n 1 right (take (matrix_rows m n) point) elements places nodes
 
 -- ---- the prover
 
 -- a table of 2 ^ n elements, the columns of its extension, and a tree of as many leaves
-pub record HoldsTable {F A : Type 0} (repr : F → ℕ) (width : ℕ) (times : ℕ → ℕ → ℕ) (vector : ℕ → ℕ) (n : ℕ) (elements columns : List F)
+pub record HoldsTable {F A : Type 0} (repr : F → ℕ) (width : ℕ) (times : ℕ → ℕ → ℕ) (vector : ℕ → ℕ) (m n : ℕ) (elements columns : List F)
     (tree : MerkleTree A) : Type 0 where
   pub count : length elements ≡ 2 ^ n
-  pub extended : AreExtendedColumns repr width times vector (levels_of n) 2 (2 ^ rows_of n) (map repr elements) columns
-  pub depth : tree.depth ≡ depth_of n
+  pub extended : AreExtendedColumns repr width times vector (row_levels m n) 2 (2 ^ matrix_rows m n) (map repr elements) columns
+  pub depth : tree.depth ≡ word_levels m n
 
 -- the values of a table's columns at the first coordinates of a point
-abbrev pub values_at : {F : Type 0} → (F → ℕ) → (ℕ → ℕ → ℕ) → ℕ → List F → List F → List ℕ
-values_at repr times n columns point =
-    map (λ p. multilinear_value times (map repr (row_at (2 ^ length point) columns p)) (map repr point)) (range_with_len 0 (row_size n))
+abbrev pub values_at : {F : Type 0} → (F → ℕ) → (ℕ → ℕ → ℕ) → ℕ → ℕ → List F → List F → List ℕ
+values_at repr times m n columns point =
+    map (λ p. multilinear_value times (map repr (row_at (2 ^ length point) columns p)) (map repr point)) (range_with_len 0 (row_size m n))
 
 -- what a prover sends beside nodes: a sum, messages, a witness of work, both tables' rows, and the columns of each that are opened
 pub record SentParts (F : Type 0) : Type 0 where
@@ -135,7 +136,7 @@ sent_elements parts = parts.sum ∷ parts.messages ++ (parts.witness ∷ parts.r
 -- of the right one.
 pub record IsHonestProof {C F A : Type 0} (observes gives : C → F → C → Type 0) (passing : C → ℕ → ℕ → Bool)
     (checks : C → ℕ → ℕ → C → Type 0) (gives_bits : C → ℕ → ℕ → C → Type 0) (number repr : F → ℕ) (width : ℕ) (times : ℕ → ℕ → ℕ)
-    (n : ℕ) (left right left_columns right_columns : List F) (left_tree right_tree : MerkleTree A) (elements : List F) (nodes : List (List ℕ))
+    (m n : ℕ) (left right left_columns right_columns : List F) (left_tree right_tree : MerkleTree A) (elements : List F) (nodes : List (List ℕ))
     (old : C) : Type 0 where
   pub parts : SentParts F
   pub point : List F
@@ -143,11 +144,11 @@ pub record IsHonestProof {C F A : Type 0} (observes gives : C → F → C → Ty
   pub between : C
   pub new : C
   pub summed : IsSummed observes gives repr width times n left right old parts.sum parts.messages point between
-  pub rows_are : map repr parts.rows ≡ values_at repr times n left_columns (take (rows_of n) point)
-      ++ values_at repr times n right_columns (take (rows_of n) point)
-  pub drawn : ArePlacesDrawn observes gives passing checks gives_bits 7 n parts.rows (number parts.witness) between true places new
-  pub left_opened : AreColumnsAt (2 ^ rows_of n) left_columns places parts.left
-  pub right_opened : AreColumnsAt (2 ^ rows_of n) right_columns places parts.right
+  pub rows_are : map repr parts.rows ≡ values_at repr times m n left_columns (take (matrix_rows m n) point)
+      ++ values_at repr times m n right_columns (take (matrix_rows m n) point)
+  pub drawn : ArePlacesDrawn observes gives passing checks gives_bits m n parts.rows (number parts.witness) between true places new
+  pub left_opened : AreColumnsAt (2 ^ matrix_rows m n) left_columns places parts.left
+  pub right_opened : AreColumnsAt (2 ^ matrix_rows m n) right_columns places parts.right
   pub written : elements ≡ sent_elements parts
   pub left_nodes : List (List ℕ)
   pub right_nodes : List (List ℕ)
@@ -186,19 +187,19 @@ abbrev pub samples_bits : {H : Type 0} → (H → List ℕ → List ℕ) → Has
 samples_bits digest old bits number new = SamplesBits (hash_transitions digest) old bits number new
 
 -- the verdict in the transcript that begins with these bytes
-abbrev pub IsSumVerdict : {F H : Type 0} → (H → List ℕ → List ℕ) → H → (F → ℕ) → List ℕ → ℕ → List ℕ → List ℕ → List F → List (List ℕ)
+abbrev pub IsSumVerdict : {F H : Type 0} → (H → List ℕ → List ℕ) → H → (F → ℕ) → List ℕ → ℕ → ℕ → List ℕ → List ℕ → List F → List (List ℕ)
     → Bool → Type 0
-IsSumVerdict digest hasher repr front n left right elements nodes accepted =
+IsSumVerdict digest hasher repr front m n left right elements nodes accepted =
     VerifiesSum (λ old x new. observes_number digest old (repr x) new) (λ old x new. gives_number digest old (repr x) new) (passes_number digest)
-    (checks_number digest) (samples_bits digest) repr repr (digest hasher) 16 128 word_times word_vector n left right elements nodes
+    (checks_number digest) (samples_bits digest) repr repr (digest hasher) 16 128 word_times word_vector m n left right elements nodes
     (hasher, front, []) accepted
 
 -- .. and what an honest prover sends of two tables with these columns
-abbrev pub IsHonestSum : {F H A : Type 0} → (H → List ℕ → List ℕ) → H → (F → ℕ) → List ℕ → ℕ → List F → List F → List F → List F
+abbrev pub IsHonestSum : {F H A : Type 0} → (H → List ℕ → List ℕ) → H → (F → ℕ) → List ℕ → ℕ → ℕ → List F → List F → List F → List F
     → MerkleTree A → MerkleTree A → List F → List (List ℕ) → Type 0
-IsHonestSum digest hasher repr front n left right left_columns right_columns left_tree right_tree elements nodes =
+IsHonestSum digest hasher repr front m n left right left_columns right_columns left_tree right_tree elements nodes =
     IsHonestProof (λ old x new. observes_number digest old (repr x) new) (λ old x new. gives_number digest old (repr x) new)
-    (passes_number digest) (checks_number digest) (samples_bits digest) repr repr 128 word_times n left right left_columns right_columns
+    (passes_number digest) (checks_number digest) (samples_bits digest) repr repr 128 word_times m n left right left_columns right_columns
     left_tree right_tree elements nodes (hasher, front, [])
 
 -- ---- tables
@@ -210,53 +211,78 @@ pub record IsTable {F : Type 0} (repr : F → ℕ) (bytes : List ℕ) (n : ℕ) 
   pub written : bytes ≡ joined_bytes 16 repr elements
 
 -- the root that commits to a table: that of the tree over the columns of its extension
-pub record IsTableRoot {F : Type 0} (hash : List ℕ → List ℕ) (repr : F → ℕ) (n : ℕ) (elements columns : List F) (root : List ℕ) : Type 0 where
-  pub extended : AreExtendedColumns repr 128 word_times word_vector (levels_of n) 2 (2 ^ rows_of n) (map repr elements) columns
-  pub rooted : root ≡ rows_root hash (depth_of n) (λ p. joined_bytes 16 repr (row_at (2 ^ rows_of n) columns p))
+pub record IsTableRoot {F : Type 0} (hash : List ℕ → List ℕ) (repr : F → ℕ) (m n : ℕ) (elements columns : List F) (root : List ℕ) : Type 0 where
+  pub extended : AreExtendedColumns repr 128 word_times word_vector (row_levels m n) 2 (2 ^ matrix_rows m n) (map repr elements) columns
+  pub rooted : root ≡ rows_root hash (word_levels m n) (λ p. joined_bytes 16 repr (row_at (2 ^ matrix_rows m n) columns p))
 
 -- a tree over the columns of a table's extension, with this root
-pub record IsTableTree {F A : Type 0} (hash : List ℕ → List ℕ) (repr : F → ℕ) (n : ℕ) (columns : List F) (root : List ℕ)
+pub record IsTableTree {F A : Type 0} (hash : List ℕ → List ℕ) (repr : F → ℕ) (m n : ℕ) (columns : List F) (root : List ℕ)
     (tree : MerkleTree A) : Type 0 where
-  pub over : IsTreeOver hash (λ p. joined_bytes 16 repr (row_at (2 ^ rows_of n) columns p)) tree
+  pub over : IsTreeOver hash (λ p. joined_bytes 16 repr (row_at (2 ^ matrix_rows m n) columns p)) tree
   pub top : root ≡ root_of tree
 
--- the root that commits to the bytes of a table
-pub record IsCommitment {F : Type 0} (hash : List ℕ → List ℕ) (repr : F → ℕ) (bytes root : List ℕ) : Type 0 where
+-- the root that commits to the bytes of a table, with the sizes for so many bits
+pub record IsCommitment {F : Type 0} (hash : List ℕ → List ℕ) (repr : F → ℕ) (bits : ℕ) (bytes root : List ℕ) : Type 0 where
+  pub queries : ℕ
   pub rounds : ℕ
   pub elements : List F
   pub columns : List F
+  pub sized : AreFor bits queries rounds
   pub table : IsTable repr bytes rounds elements
-  pub commits : IsTableRoot hash repr rounds elements columns root
+  pub commits : IsTableRoot hash repr queries rounds elements columns root
 
 -- ---- files
 
--- a file of a proof for these roots, with this verdict on it
-abbrev pub HasVerdict : {F H : Type 0} → (H → List ℕ → List ℕ) → H → (F → ℕ) → List ℕ → List ℕ → List ℕ → Bool → Type 0
-HasVerdict {F} digest hasher repr left right bytes accepted =
-    (n : ℕ) × (elements : List F) × (nodes : List (List ℕ)) × IsFileOf repr bytes n left right elements nodes
-    × IsSumVerdict digest hasher repr (file_bytes n left right [] []) n left right elements nodes accepted
+-- a file of a proof for these roots, with the sizes for so many bits, and this verdict on it
+abbrev pub HasVerdict : {F H : Type 0} → (H → List ℕ → List ℕ) → H → (F → ℕ) → ℕ → List ℕ → List ℕ → List ℕ → Bool → Type 0
+HasVerdict {F} digest hasher repr bits left right bytes accepted =
+    (m n : ℕ) × (elements : List F) × (nodes : List (List ℕ)) × AreFor bits m n × IsFileOf repr bytes m n left right elements nodes
+    × IsSumVerdict digest hasher repr (file_bytes m n left right [] []) m n left right elements nodes accepted
 
 -- why a proof is refused, if it is
 abbrev pub refusal_in : {T : Type 0} → Result T Refusal → Option Refusal
 refusal_in (Ok proof) = None
 refusal_in (Err refusal) = Some refusal
 
--- What is answered on a file of a proof for the tables with these roots: nothing, and it is accepted, if it has these roots, and the verdict
--- on what it holds is true; else what is wrong.
-abbrev pub IsAnswerTo : {F H : Type 0} → (H → List ℕ → List ℕ) → H → (F → ℕ) → List ℕ → List ℕ → List ℕ → Option Refusal → Type 0
-IsAnswerTo digest hasher repr left right bytes None = HasVerdict digest hasher repr left right bytes true
-IsAnswerTo digest hasher repr left right bytes (Some NotProved) = HasVerdict digest hasher repr left right bytes false
-IsAnswerTo {F} digest hasher repr left right bytes (Some OtherLeft) =
-    (n : ℕ) × (one other : List ℕ) × (elements : List F) × (nodes : List (List ℕ)) × IsFileOf repr bytes n one other elements nodes × (one ≢ left)
-IsAnswerTo {F} digest hasher repr left right bytes (Some OtherRight) =
-    (n : ℕ) × (other : List ℕ) × (elements : List F) × (nodes : List (List ℕ)) × IsFileOf repr bytes n left other elements nodes × (other ≢ right)
-IsAnswerTo digest hasher repr left right bytes (Some Length) = IsNoFile repr bytes
-IsAnswerTo digest hasher repr left right bytes (Some NotAProof) = IsNoFile repr bytes
-IsAnswerTo digest hasher repr left right bytes (Some OtherField) = IsNoFile repr bytes
+-- why sizes are not those for so many bits
+abbrev pub IsSizeRefusal : ℕ → ℕ → ℕ → Refusal → Type 0
+IsSizeRefusal bits m n OtherParameters = (k : ℕ) × AreFor bits k n × (m ≢ k)
+IsSizeRefusal bits m n TooFewBits = NoneIsFor bits n
+IsSizeRefusal bits m n NotAProof = ⊥
+IsSizeRefusal bits m n OtherVersion = ⊥
+IsSizeRefusal bits m n OtherField = ⊥
+IsSizeRefusal bits m n Length = ⊥
+IsSizeRefusal bits m n OtherLeft = ⊥
+IsSizeRefusal bits m n OtherRight = ⊥
+IsSizeRefusal bits m n NotProved = ⊥
 
--- What the program writes for the bytes of two tables: they have as many words, one as the other, and the file has the roots that commit to
+-- What is answered on a file of a proof for the tables with these roots, with the sizes for so many bits: nothing, and it is accepted, if
+-- it has these sizes and roots, and the verdict on what it holds is true; else what is wrong.
+abbrev pub IsAnswerTo : {F H : Type 0} → (H → List ℕ → List ℕ) → H → (F → ℕ) → ℕ → List ℕ → List ℕ → List ℕ → Option Refusal → Type 0
+IsAnswerTo digest hasher repr bits left right bytes None = HasVerdict digest hasher repr bits left right bytes true
+IsAnswerTo digest hasher repr bits left right bytes (Some NotProved) = HasVerdict digest hasher repr bits left right bytes false
+IsAnswerTo {F} digest hasher repr bits left right bytes (Some OtherLeft) =
+    (m n : ℕ) × (one other : List ℕ) × (elements : List F) × (nodes : List (List ℕ)) × IsFileOf repr bytes m n one other elements nodes
+    × (one ≢ left)
+IsAnswerTo {F} digest hasher repr bits left right bytes (Some OtherRight) =
+    (m n : ℕ) × (other : List ℕ) × (elements : List F) × (nodes : List (List ℕ)) × IsFileOf repr bytes m n left other elements nodes
+    × (other ≢ right)
+IsAnswerTo {F} digest hasher repr bits left right bytes (Some OtherParameters) =
+    (m n : ℕ) × (one other : List ℕ) × (elements : List F) × (nodes : List (List ℕ)) × IsFileOf repr bytes m n one other elements nodes
+    × IsSizeRefusal bits m n OtherParameters
+IsAnswerTo {F} digest hasher repr bits left right bytes (Some TooFewBits) =
+    (m n : ℕ) × (one other : List ℕ) × (elements : List F) × (nodes : List (List ℕ)) × IsFileOf repr bytes m n one other elements nodes
+    × IsSizeRefusal bits m n TooFewBits
+IsAnswerTo digest hasher repr bits left right bytes (Some Length) = IsNoFile repr bytes
+IsAnswerTo digest hasher repr bits left right bytes (Some NotAProof) = IsNoFile repr bytes
+IsAnswerTo digest hasher repr bits left right bytes (Some OtherVersion) = IsNoFile repr bytes
+IsAnswerTo digest hasher repr bits left right bytes (Some OtherField) = IsNoFile repr bytes
+
+-- What the program writes for the bytes of two tables, with the sizes for so many bits: they have as many words, one as the other, and the file has the roots that commit to
 -- them, and what an honest prover sends, with nodes of the trees that have these roots.
-pub record IsProgramProof {F H : Type 0} (digest : H → List ℕ → List ℕ) (hasher : H) (repr : F → ℕ) (left right proof : List ℕ) : Type 0 where
+pub record IsProgramProof {F H : Type 0} (digest : H → List ℕ → List ℕ) (hasher : H) (repr : F → ℕ) (bits : ℕ) (left right proof : List ℕ)
+    : Type 0 where
+  pub queries : ℕ
   pub rounds : ℕ
   pub one : List F
   pub other : List F
@@ -268,28 +294,29 @@ pub record IsProgramProof {F H : Type 0} (digest : H → List ℕ → List ℕ) 
   pub other_tree : MerkleTree Global
   pub elements : List F
   pub nodes : List (List ℕ)
+  pub sized : AreFor bits queries rounds
   pub left_table : IsTable repr left rounds one
   pub right_table : IsTable repr right rounds other
-  pub left_root : IsTableRoot (digest hasher) repr rounds one one_columns one_root
-  pub right_root : IsTableRoot (digest hasher) repr rounds other other_columns other_root
-  pub left_tree : IsTableTree (digest hasher) repr rounds one_columns one_root one_tree
-  pub right_tree : IsTableTree (digest hasher) repr rounds other_columns other_root other_tree
-  pub written : proof ≡ file_bytes rounds one_root other_root (joined_bytes 16 repr elements) nodes
-  pub honest : IsHonestSum digest hasher repr (file_bytes rounds one_root other_root [] []) rounds one other one_columns other_columns
+  pub left_root : IsTableRoot (digest hasher) repr queries rounds one one_columns one_root
+  pub right_root : IsTableRoot (digest hasher) repr queries rounds other other_columns other_root
+  pub left_tree : IsTableTree (digest hasher) repr queries rounds one_columns one_root one_tree
+  pub right_tree : IsTableTree (digest hasher) repr queries rounds other_columns other_root other_tree
+  pub written : proof ≡ file_bytes queries rounds one_root other_root (joined_bytes 16 repr elements) nodes
+  pub honest : IsHonestSum digest hasher repr (file_bytes queries rounds one_root other_root [] []) queries rounds one other one_columns other_columns
       one_tree other_tree elements nodes
 
 -- ---- the same of words
 
 -- what is answered on a file
-abbrev pub IsWordAnswer : {H : Type 0} → (H → List ℕ → List ℕ) → H → List ℕ → List ℕ → List ℕ → Option Refusal → Type 0
-IsWordAnswer digest hasher left right bytes refusal =
-    IsAnswerTo digest hasher (number_in (λ (table : Table). table.elements.items) repr_of) left right bytes refusal
+abbrev pub IsWordAnswer : {H : Type 0} → (H → List ℕ → List ℕ) → H → ℕ → List ℕ → List ℕ → List ℕ → Option Refusal → Type 0
+IsWordAnswer digest hasher bits left right bytes refusal =
+    IsAnswerTo digest hasher (number_in (λ (table : Table). table.elements.items) repr_of) bits left right bytes refusal
 
 -- the root that commits to a table
-abbrev pub IsWordCommitment : (List ℕ → List ℕ) → List ℕ → List ℕ → Type 0
-IsWordCommitment hash bytes root = IsCommitment hash (number_in (λ (table : Table). table.elements.items) repr_of) bytes root
+abbrev pub IsWordCommitment : (List ℕ → List ℕ) → ℕ → List ℕ → List ℕ → Type 0
+IsWordCommitment hash bits bytes root = IsCommitment hash (number_in (λ (table : Table). table.elements.items) repr_of) bits bytes root
 
 -- what is written for two tables
-abbrev pub IsWordProof : {H : Type 0} → (H → List ℕ → List ℕ) → H → List ℕ → List ℕ → List ℕ → Type 0
-IsWordProof digest hasher left right proof =
-    IsProgramProof digest hasher (number_in (λ (table : Table). table.elements.items) repr_of) left right proof
+abbrev pub IsWordProof : {H : Type 0} → (H → List ℕ → List ℕ) → H → ℕ → List ℕ → List ℕ → List ℕ → Type 0
+IsWordProof digest hasher bits left right proof =
+    IsProgramProof digest hasher (number_in (λ (table : Table). table.elements.items) repr_of) bits left right proof

@@ -1,6 +1,7 @@
 // What the program does.
-ghost use Rattle.std.specs.Prelude.{string_bytes, IfOk};
+ghost use Rattle.std.specs.Prelude.{◌≡◌, ◌⊎◌, ◌≤◌, codes, string_bytes, IfOk, IfSome};
 ghost use Rattle.field_element.specs.Element.{repr_of};
+ghost use Rattle.prove_sums.specs.Bits.{AreFor};
 ghost use Rattle.prove_sums.specs.Reports.{IsCommitReport, IsProveReport};
 ghost use Rattle.prove_sums.specs.Verdicts.{word_times, word_vector, HoldsTable, IsTable, IsTableRoot, IsTableTree};
 ghost use Rattle.prove_sums.specs.Verdicts.{IsWordCommitment};
@@ -22,22 +23,26 @@ use transcripts::{ByteHasher32, Sha256Hasher};
 
 const VERSION: &str = "prove_sums 0.1.0";
 
-const USAGE: &str = "usage: prove_sums commit TABLE | prove LEFT RIGHT PROOF | verify PROOF ROOTS
-       prove_sums info PROOF
+const USAGE: &str = "usage: prove_sums commit [--bits B] TABLE | prove [--bits B] LEFT RIGHT PROOF
+       prove_sums verify [--bits B] PROOF ROOTS | info PROOF
 
 TABLE, LEFT and RIGHT are files of 2^n words of 16 bytes, n from 0 to 39, as many in LEFT as in RIGHT. A word is an element of the
 field of GHASH, from its lowest byte. `commit` prints the root that commits to a table, as 64 hexadecimal digits. `prove` adds the
 products of the words at the same places, proves that this is their sum, and writes the proof to PROOF, which may not be one of the two
 tables. `verify` says whether PROOF proves that for the tables nearest to what these two roots hold, that of LEFT first, and for which
 sum. It reads neither table. `info` says what PROOF holds, and does not verify it: the words of a table, the roots, the sum, its bytes,
-how many columns of how many are opened, and the bits of soundness.
+the rows of the matrix, how many columns of how many are opened, and the bits of soundness.
 
-A table is a matrix of 2^h rows, h = (n - 7) / 2, or 0 where n is below 7. Each row of 2^k words, k = n - h, is extended to a code word
-of four times its length, and the root is that of the Merkle tree over SHA-256 whose leaves are the columns. A proof is 8 bytes that
-name the format and the field, one byte for n, both roots, the sum, the 2 n numbers of the sum-check protocol, a witness of 16 bits of
-work, a row of 2^k numbers for each table, which has the values of its columns at the first h challenges, the columns at 128 places for
-each table, or at all places where there are fewer, and the nodes that open them, as many for either. Numbers have 16 bytes and nodes
-32. The transcript begins with the bytes before the sum.
+B is 80, 96 or 100, and 96 where it is not given: the bits of soundness that are asked for. A root is one for these bits, so that each
+command takes the same. Columns at 128 places are opened where these reach the bits, as they do 80, and else at 256. Those reach 100 up
+to n = 26 and 96 up to n = 34; a table that has more words is refused, and a proof that opens another number of places.
+
+A table is a matrix of 2^h rows, h = (n - m) / 2, or 0 where n is below m, 2^m the places that are opened. Each row of 2^k words,
+k = n - h, is extended to a code word of four times its length, and the root is that of the Merkle tree over SHA-256 whose leaves are
+the columns. A proof is 8 bytes that name the format and the field, one byte for m and one for n, both roots, the sum, the 2 n numbers
+of the sum-check protocol, a witness of 16 bits of work, a row of 2^k numbers for each table, which has the values of its columns at the
+first h challenges, the columns at 2^m places for each table, or at all places where there are fewer, and the nodes that open them, as
+many for either. Numbers have 16 bytes and nodes 32. The transcript begins with the bytes before the sum.
 
 A proof is about the nearest tables: where a few columns below a root are not those of its table, a proof may be accepted that is one of
 the table to which the others belong. b bits of soundness: where a verifier draws challenges and places at random, it accepts a sum that
@@ -46,6 +51,9 @@ digests. That SHA-256 may draw in place of a verifier, and that it has no collis
 
 The exit status is 0 if a proof was written, is accepted or is described, 1 if it is refused, and 2 after an error. Without arguments
 the program prints a worked example. --version prints the version.";
+
+/// The bits of soundness where none are asked for.
+pub(crate) const BITS: usize = 96;
 
 /// Does what the command line says. It returns what the program ends with.
 pub fn run(rt: &HostRuntime) -> Result<ExitCode> {
@@ -66,35 +74,76 @@ pub fn run(rt: &HostRuntime) -> Result<ExitCode> {
         println!(rt; "{VERSION}")?;
         return Ok(ExitCode::SUCCESS);
     }
-    let report = if words.len() == 3 && command == "commit" {
-        run_commit(rt, words[2].as_str())?
-    } else if words.len() == 5 && command == "prove" {
-        run_prove(rt, words[2].as_str(), words[3].as_str(), words[4].as_str())?
-    } else if words.len() == 5 && command == "verify" {
-        run_verify(rt, words[2].as_str(), words[3].as_str(), words[4].as_str())?
-    } else if words.len() == 3 && command == "info" {
-        run_info(rt, words[2].as_str())?
-    } else {
-        bail!("{USAGE}")
-    };
+    let report = report_of(rt, command, &words[2..])?;
     let code = print_report(&mut rt.stdout(), &report)?;
     Ok(code)
 }
 
+// What a command prints, for the words behind it.
+fn report_of(rt: &HostRuntime, command: &str, words: &[String]) -> Result<Report> {
+    if command == "info" && words.len() == 1 {
+        return run_info(rt, words[0].as_str());
+    }
+    let (bits, files) = option_of(words)?;
+    if command == "commit" && files.len() == 1 {
+        run_commit(rt, bits, files[0].as_str())
+    } else if command == "prove" && files.len() == 3 {
+        let (left, right, to) = (files[0].as_str(), files[1].as_str(), files[2].as_str());
+        run_prove(rt, bits, left, right, to)
+    } else if command == "verify" && files.len() == 3 {
+        let (from, left, right) = (files[0].as_str(), files[1].as_str(), files[2].as_str());
+        run_verify(rt, bits, from, left, right)
+    } else {
+        bail!("{USAGE}")
+    }
+}
+
+// The bits of soundness that are asked for, and the words behind the option that asks for them.
+fn option_of(words: &[String]) -> Result<(usize, &[String])>
+    ensures { IfOk result (λ asked. asked.0 ≤ 100) }
+{
+    if words.len() < 2 || words[0].as_str() != "--bits" {
+        return Ok((BITS, words));
+    }
+    let Some(bits) = bits_from(words[1].as_str()) else {
+        bail!("--bits has to be 80, 96 or 100")
+    };
+    Ok((bits, &words[2..]))
+}
+
+// The bits of soundness that a word asks for.
+fn bits_from(word: &str) -> Option<usize>
+    ensures few { IfSome result (λ bits. bits ≤ 100) }
+    ensures named { IfSome result (λ bits. ((bits ≡ 80) × (word.now ≡ codes "80")) ⊎ ((bits ≡ 96) × (word.now ≡ codes "96"))
+        ⊎ ((bits ≡ 100) × (word.now ≡ codes "100"))) }
+{
+    match word {
+        "80" => Some(80),
+        "96" => Some(96),
+        "100" => Some(100),
+        _ => None,
+    }
+}
+
 // Commits to the table in a file.
-fn run_commit(rt: &HostRuntime, table: &str) -> Result<Report> {
+fn run_commit(rt: &HostRuntime, bits: usize, table: &str) -> Result<Report>
+    requires { bits ≤ 100 }
+{
     let table = fs::read(rt, table).context("reading the table")?;
-    commit_report(rt.alloc(), &Sha256Hasher, table.as_slice())
+    commit_report(rt.alloc(), &Sha256Hasher, bits, table.as_slice())
 }
 
 // Proves the sum of the tables in two files, and writes the proof to a third.
-fn run_prove(rt: &HostRuntime, left: &str, right: &str, to: &str) -> Result<Report> {
+fn run_prove(rt: &HostRuntime, bits: usize, left: &str, right: &str, to: &str) -> Result<Report>
+    requires { bits ≤ 100 }
+{
     if is_one_file(rt, left, to) || is_one_file(rt, right, to) {
         bail!("the proof would be written over a table")
     }
     let left = fs::read(rt, left).context("reading the left table")?;
     let right = fs::read(rt, right).context("reading the right table")?;
-    let written = prove_tables(rt.alloc(), &Sha256Hasher, left.as_slice(), right.as_slice())?;
+    let (left, right) = (left.as_slice(), right.as_slice());
+    let written = prove_tables(rt.alloc(), &Sha256Hasher, bits, left, right)?;
     fs::write(rt, to, written.bytes.as_slice()).context("writing the proof")?;
     Ok(written.report)
 }
@@ -108,9 +157,18 @@ fn is_one_file(rt: &HostRuntime, one: &str, other: &str) -> bool {
 }
 
 // Verifies the proof in a file, for the tables with the roots of these digits.
-fn run_verify(rt: &HostRuntime, from: &str, left: &str, right: &str) -> Result<Report> {
+fn run_verify(rt: &HostRuntime, bits: usize, from: &str, left: &str, right: &str) -> Result<Report>
+    requires { bits ≤ 100 }
+{
     let bytes = fs::read(rt, from).context("reading the proof")?;
-    let report = verify_report(rt.alloc(), &Sha256Hasher, bytes.as_slice(), left, right)?;
+    let report = verify_report(
+        rt.alloc(),
+        &Sha256Hasher,
+        bits,
+        bytes.as_slice(),
+        left,
+        right,
+    )?;
     Ok(report)
 }
 
@@ -121,44 +179,55 @@ fn run_info(rt: &HostRuntime, from: &str) -> Result<Report> {
     Ok(report)
 }
 
-// A table, and what commits to it.
+// A table, and what commits to it, with the sizes for so many bits of soundness.
 fn commit<H: ByteHasher32>(
     alloc: Global,
     hasher: &H,
+    bits: usize,
     bytes: &[u8],
 ) -> Result<(Shape, Committed<Ghash128>, [u8; 32])>
+    requires { bits ≤ 128 }
+    ensures sized { IfOk result (λ made. AreFor bits made.0.queries made.0.rounds) }
     ensures table { IfOk result (λ made. IsTable repr_of bytes.now made.0.rounds made.1.elements.items) }
-    ensures holds { IfOk result (λ made. HoldsTable repr_of 128 word_times word_vector made.0.rounds made.1.elements.items
-        made.1.held.columns.items made.1.held.tree) }
-    ensures root { IfOk result (λ made. IsTableRoot (H.digest hasher.now) repr_of made.0.rounds made.1.elements.items
+    ensures holds { IfOk result (λ made. HoldsTable repr_of 128 word_times word_vector made.0.queries made.0.rounds
+        made.1.elements.items made.1.held.columns.items made.1.held.tree) }
+    ensures root { IfOk result (λ made. IsTableRoot (H.digest hasher.now) repr_of made.0.queries made.0.rounds made.1.elements.items
         made.1.held.columns.items made.2) }
-    ensures tree { IfOk result (λ made. IsTableTree (H.digest hasher.now) repr_of made.0.rounds made.1.held.columns.items made.2
-        made.1.held.tree) }
+    ensures tree { IfOk result (λ made. IsTableTree (H.digest hasher.now) repr_of made.0.queries made.0.rounds
+        made.1.held.columns.items made.2 made.1.held.tree) }
 {
-    let table = table_of(alloc, bytes)?;
+    let table = table_of(alloc, bits, bytes)?;
     let shape = table.shape;
     let committed = commit_table(alloc, hasher, table)?;
     let root = root_of(&committed);
     Ok((shape, committed, root))
 }
 
-/// The root that commits to a table.
+/// The root that commits to a table, with the sizes for so many bits of soundness.
 pub(crate) fn commit_bytes<H: ByteHasher32>(
     alloc: Global,
     hasher: &H,
+    bits: usize,
     table: &[u8],
 ) -> Result<[u8; 32]>
-    ensures { IfOk result (λ root. IsWordCommitment (H.digest hasher.now) table.now root) }
+    requires { bits ≤ 128 }
+    ensures { IfOk result (λ root. IsWordCommitment (H.digest hasher.now) bits table.now root) }
 {
-    let (_shape, _committed, root) = commit(alloc, hasher, table)?;
+    let (_shape, _committed, root) = commit(alloc, hasher, bits, table)?;
     Ok(root)
 }
 
 /// What `commit` prints for the bytes of a table.
-fn commit_report<H: ByteHasher32>(alloc: Global, hasher: &H, table: &[u8]) -> Result<Report>
-    ensures { IfOk result (λ report. IsCommitReport (H.digest hasher.now) table.now (string_bytes report.line) report.status) }
+fn commit_report<H: ByteHasher32>(
+    alloc: Global,
+    hasher: &H,
+    bits: usize,
+    table: &[u8],
+) -> Result<Report>
+    requires { bits ≤ 128 }
+    ensures { IfOk result (λ report. IsCommitReport (H.digest hasher.now) bits table.now (string_bytes report.line) report.status) }
 {
-    let root = commit_bytes(alloc, hasher, table)?;
+    let root = commit_bytes(alloc, hasher, bits, table)?;
     let report = root_report(alloc, &root)?;
     Ok(report)
 }
@@ -172,18 +241,20 @@ pub(crate) struct Written {
     pub report: Report,
 }
 
-/// The proof of the sum of two tables.
+/// The proof of the sum of two tables, with the sizes for so many bits of soundness.
 pub(crate) fn prove_tables<H: ByteHasher32>(
     alloc: Global,
     hasher: &H,
+    bits: usize,
     left: &[u8],
     right: &[u8],
 ) -> Result<Written>
-    ensures { IfOk result (λ written. IsProveReport H.digest hasher.now left.now right.now written.bytes.items
+    requires { bits ≤ 128 }
+    ensures { IfOk result (λ written. IsProveReport H.digest hasher.now bits left.now right.now written.bytes.items
         (string_bytes written.report.line) written.report.status) }
 {
-    let (shape, first, left_root) = commit(alloc, hasher, left)?;
-    let (other, second, right_root) = commit(alloc, hasher, right)?;
+    let (shape, first, left_root) = commit(alloc, hasher, bits, left)?;
+    let (other, second, right_root) = commit(alloc, hasher, bits, right)?;
     let (rounds, others) = (shape.rounds, other.rounds);
     if others != rounds {
         bail!("the tables have to have as many words, one as the other")

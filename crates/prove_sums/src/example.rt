@@ -1,29 +1,32 @@
 // A worked example: two tables of eight words, and what becomes of their proof where it, or a root, is changed.
 use crate::answers::answer_to;
-use crate::commands::{commit_bytes, prove_tables};
+use crate::commands::{BITS, commit_bytes, prove_tables};
 use crate::proof_file::Roots;
 use anyhow::Result;
 use transcripts::Sha256Hasher;
 
 // What the example changes, and at which byte of the proof.
-static CHANGES: [(&str, usize); 12] = [
-    ("with another first byte", 0),
-    ("over another field", 6),
-    ("with another number of rounds", 8),
-    ("for another left table", 9),
-    ("for another right table", 41),
-    ("with another sum", 73),
-    ("with another first message", 89),
-    ("with another witness", 185),
-    ("with another left row", 201),
-    ("with another right row", 329),
-    ("with another left column", 457),
-    ("with another right column", 969),
+// The change turns the lowest bits of that byte.
+static CHANGES: [(&str, usize, u8); 14] = [
+    ("with another first byte", 0, 1),
+    ("of another version", 4, 1),
+    ("over another field", 6, 1),
+    ("with another number of places", 8, 15),
+    ("with another number of rounds", 9, 1),
+    ("for another left table", 10, 1),
+    ("for another right table", 42, 1),
+    ("with another sum", 74, 1),
+    ("with another first message", 90, 1),
+    ("with another witness", 186, 1),
+    ("with another left row", 202, 1),
+    ("with another right row", 330, 1),
+    ("with another left column", 458, 1),
+    ("with another right column", 970, 1),
 ];
 
 // Prints the verifier's answer on a proof for the tables with these roots.
 fn say(rt: &HostRuntime, what: &str, roots: &Roots, proof: &[u8]) -> Result<()> {
-    match answer_to(rt.alloc(), &Sha256Hasher, roots, proof)? {
+    match answer_to(rt.alloc(), &Sha256Hasher, BITS, roots, proof)? {
         Ok(_) => println!(rt; "{what}: accepted")?,
         Err(refusal) => {
             let why = refusal.text();
@@ -40,11 +43,12 @@ fn say_changed(
     roots: &Roots,
     proof: &mut [u8],
     place: usize,
+    bits: u8,
 ) -> Result<()> {
     if place < proof.len() {
-        proof[place] ^= 1;
+        proof[place] ^= bits;
         say(rt, what, roots, proof)?;
-        proof[place] ^= 1;
+        proof[place] ^= bits;
     }
     Ok(())
 }
@@ -55,10 +59,10 @@ pub(crate) fn print(rt: &HostRuntime) -> Result<()> {
         *b"Two tables of eight words, of 16 bytes each, whose products are added. This is the table on the left, and so on: 12345678901234567";
     let right = [7; 128];
     let left = &left[..128];
-    let mut written = prove_tables(rt.alloc(), &Sha256Hasher, left, &right)?;
+    let mut written = prove_tables(rt.alloc(), &Sha256Hasher, BITS, left, &right)?;
     let proof = written.bytes.as_mut_slice();
-    let left = commit_bytes(rt.alloc(), &Sha256Hasher, left)?;
-    let right = commit_bytes(rt.alloc(), &Sha256Hasher, &right)?;
+    let left = commit_bytes(rt.alloc(), &Sha256Hasher, BITS, left)?;
+    let right = commit_bytes(rt.alloc(), &Sha256Hasher, BITS, &right)?;
     let roots = &Roots { left, right };
     let turned = &Roots {
         left: right,
@@ -69,8 +73,8 @@ pub(crate) fn print(rt: &HostRuntime) -> Result<()> {
     say(rt, "the proof", roots, proof)?;
     say(rt, "the proof for the tables in turn", turned, proof)?;
     'changes: for index in 0..CHANGES.len() {
-        let (what, place) = CHANGES[index];
-        say_changed(rt, what, roots, proof, place)?;
+        let (what, place, bits) = CHANGES[index];
+        say_changed(rt, what, roots, proof, place, bits)?;
     }
     let short = proof.len().saturating_sub(1);
     say(rt, "without its last byte", roots, &proof[..short])?;

@@ -70,8 +70,9 @@ pub fn few_cheats_succeed()
     ensures { FewCheatsSucceed }
 {}
 
-/// States it in numbers over the field of GHASH: of all runs for two tables of 2^n words, at most the share
-/// max(2 n, 34 N h) / 2^128 + (163 / 256)^128 accepts a sum that is false, by N places and 2^h rows, and 2 n / 2^128 where n is below 6.
+/// States it in numbers over the field of GHASH: of all runs for two tables of 2^n words, of which q places are opened, 2^7 or 2^8, at most
+/// the share max(2 n, 34 N h) / 2^128 + (163 / 256)^q accepts a sum that is false, by N places and 2^h rows, and max(2 n, 34 N h) / 2^128
+/// where all places are opened.
 pub fn errors_are_small()
     ensures { ErrorsAreSmall }
 {

@@ -1,5 +1,5 @@
-// The bytes of a proof: eight that name the format and the field, one that says how many rounds there are, the roots of the left and of the
-// right table, 32 bytes each, the elements of 16 bytes each, from the lowest, and the nodes of 32 bytes each.
+// The bytes of a proof: eight that name the format and the field, two that say how many places are opened and how many rounds there are,
+// the roots of the left and of the right table, 32 bytes each, the elements of 16 bytes each, from the lowest, and the nodes of 32 bytes each.
 ghost use Rattle.std.specs.Prelude.{◌≡◌, ◌≢◌, ℕ, List, vec_len, IfOk, IfErr};
 ghost use Rattle.field_bytes.specs.Streams.{joined_bytes};
 ghost use Rattle.field_element.specs.Element.{repr_of};
@@ -14,10 +14,10 @@ use protocols::proof_bytes;
 use std::alloc::{AllocError, Global};
 
 /// How many bytes stand before the elements.
-const FRONT: usize = 73;
+const FRONT: usize = 74;
 
 /// What a proof begins with: the seventh byte names the field, which is that of GHASH.
-static HEAD: [u8; 8] = *b"sum 2 G\n";
+static HEAD: [u8; 8] = *b"sum 3 G\n";
 
 /// The roots that commit to two tables.
 #[derive(Clone, Copy)]
@@ -39,7 +39,7 @@ pub struct Proof<'a, F: Field> {
     pub elements: Vec<F>,
     /// The nodes that open the columns.
     pub nodes: &'a [[u8; 32]],
-    ghost count: { vec_len elements ≡ element_count shape.rounds },
+    ghost count: { vec_len elements ≡ element_count shape.queries shape.rounds },
 }
 
 impl<F: Field> Proof<'_, F> {
@@ -72,11 +72,13 @@ pub fn encode(
     nodes: &[[u8; 32]],
 ) -> Result<Vec<u8>, AllocError>
     ensures { IfOk result (λ bytes. bytes.items
-        ≡ file_bytes shape.now.rounds roots.now.left roots.now.right (joined_bytes 16 repr_of elements.now) nodes.now) }
+        ≡ file_bytes shape.now.queries shape.now.rounds roots.now.left roots.now.right (joined_bytes 16 repr_of elements.now)
+        nodes.now) }
 {
     let body = proof_bytes::encode(alloc, elements)?;
     let mut bytes = Vec::new(alloc);
     bytes.extend_from_slice(&HEAD)?;
+    bytes.push(shape.queries as u8)?;
     bytes.push(shape.rounds as u8)?;
     bytes.extend_from_slice(&roots.left)?;
     bytes.extend_from_slice(&roots.right)?;
@@ -93,10 +95,10 @@ pub fn decode(
     alloc: Global,
     bytes: &[u8],
 ) -> Result<Result<Proof<'_, Ghash128>, Refusal>, AllocError>
-    ensures whole { IfOk result (λ read. IfOk read (λ proof. IsFileOf repr_of bytes.now proof.shape.rounds proof.roots.left proof.roots.right
-        proof.elements.items proof.nodes.now)) }
-    ensures own { IfOk result (λ read. IfOk read (λ proof. IsOnlyFileOf repr_of bytes.now proof.shape.rounds proof.roots.left
-        proof.roots.right proof.elements.items proof.nodes.now)) }
+    ensures whole { IfOk result (λ read. IfOk read (λ proof. IsFileOf repr_of bytes.now proof.shape.queries proof.shape.rounds
+        proof.roots.left proof.roots.right proof.elements.items proof.nodes.now)) }
+    ensures own { IfOk result (λ read. IfOk read (λ proof. IsOnlyFileOf repr_of bytes.now proof.shape.queries proof.shape.rounds
+        proof.roots.left proof.roots.right proof.elements.items proof.nodes.now)) }
     ensures refused { IfOk result (λ read. IfErr read (λ refusal. IsNoWordFile bytes.now × IsReadRefusal refusal)) }
 {
     let parts = match cut(bytes) {
@@ -118,10 +120,10 @@ pub fn decode(
 
 // The parts of a file.
 fn cut(bytes: &[u8]) -> Result<Parts<'_>, Refusal>
-    ensures file { IfOk result (λ parts. IsCutTo bytes.now parts.shape.rounds parts.roots.left parts.roots.right parts.body.now
-        parts.nodes.now) }
-    ensures refused { IfErr result (λ _. (rounds : ℕ) (left right body : List ℕ) (nodes : List (List ℕ))
-        → IsFile rounds left right body nodes → bytes.now ≢ file_bytes rounds left right body nodes) }
+    ensures file { IfOk result (λ parts. IsCutTo bytes.now parts.shape.queries parts.shape.rounds parts.roots.left parts.roots.right
+        parts.body.now parts.nodes.now) }
+    ensures refused { IfErr result (λ _. (queries rounds : ℕ) (left right body : List ℕ) (nodes : List (List ℕ))
+        → IsFile queries rounds left right body nodes → bytes.now ≢ file_bytes queries rounds left right body nodes) }
     ensures reason { IfErr result (λ refusal. IsReadRefusal refusal) }
 {
     if bytes.len() < FRONT {
@@ -130,11 +132,11 @@ fn cut(bytes: &[u8]) -> Result<Parts<'_>, Refusal>
     if bytes[..8] != HEAD[..] {
         return Err(other_head(&bytes[..8]));
     }
-    let rounds = bytes[8] as usize;
-    if rounds > 39 {
+    let (queries, rounds) = (bytes[8] as usize, bytes[9] as usize);
+    if queries < 7 || queries > 8 || rounds > 39 {
         return Err(Refusal::Length);
     }
-    let shape = Shape::new(rounds);
+    let shape = Shape::new(rounds, queries);
     let size = 16 * shape.element_count();
     if bytes.len() < FRONT + size {
         return Err(Refusal::Length);
@@ -144,8 +146,8 @@ fn cut(bytes: &[u8]) -> Result<Parts<'_>, Refusal>
     }
     let mut left = [0; 32];
     let mut right = [0; 32];
-    left.copy_from_slice(&bytes[9..41]);
-    right.copy_from_slice(&bytes[41..FRONT]);
+    left.copy_from_slice(&bytes[10..42]);
+    right.copy_from_slice(&bytes[42..FRONT]);
     let (nodes, _rest) = bytes[FRONT + size..].as_chunks::<32>();
     Ok(Parts {
         shape,
@@ -159,8 +161,10 @@ fn cut(bytes: &[u8]) -> Result<Parts<'_>, Refusal>
 fn other_head(head: &[u8]) -> Refusal
     ensures { IsReadRefusal result }
 {
-    if head.starts_with(b"sum 2 ") {
+    if head.starts_with(b"sum 3 ") {
         Refusal::OtherField
+    } else if head.starts_with(b"sum ") {
+        Refusal::OtherVersion
     } else {
         Refusal::NotAProof
     }

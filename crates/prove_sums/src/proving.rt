@@ -4,7 +4,8 @@ ghost use Rattle.transcripts.specs.Grinding.{MayGrind};
 ghost use Rattle.field_bytes.specs.Streams.{joined_bytes};
 ghost use Rattle.merkle_trees.specs.{Commitments.{IsTreeOver, row_at}, Openings.{AreAscending}};
 ghost use Rattle.protocols.specs.Tables.{AreColumnsAt, OpensPlaces};
-ghost use Rattle.prove_sums.specs.Shapes.{depth_of, row_size, rows_of};
+ghost use Rattle.protocols.specs.CommitmentScheme.{matrix_rows, word_levels};
+ghost use Rattle.prove_sums.specs.Shapes.{row_size};
 ghost use Rattle.prove_sums.specs.Verdicts.{HoldsTable, IsHonestProof, values_at};
 
 use crate::shapes::Shape;
@@ -45,10 +46,11 @@ pub fn commit<F: ByteLevel, H: ByteHasher32>(
     requires count { vec_len elements ≡ 2 ^ shape.now.rounds }
     requires points { 40 ≤ F.width }
     ensures table { IfOk result (λ committed. committed.elements.items ≡ elements.items) }
-    ensures holds { IfOk result (λ committed. HoldsTable F.repr F.width F.product (λ i. F.basis (F.cantor i)) shape.now.rounds
-        committed.elements.items committed.held.columns.items committed.held.tree) }
+    ensures holds { IfOk result (λ committed. HoldsTable F.repr F.width F.product (λ i. F.basis (F.cantor i)) shape.now.queries
+        shape.now.rounds committed.elements.items committed.held.columns.items committed.held.tree) }
     ensures tree { IfOk result (λ committed. IsTreeOver (H.digest hasher.now)
-        (λ p. joined_bytes F.NUM_BYTES F.repr (row_at (2 ^ rows_of shape.now.rounds) committed.held.columns.items p)) committed.held.tree) }
+        (λ p. joined_bytes F.NUM_BYTES F.repr (row_at (2 ^ matrix_rows shape.now.queries shape.now.rounds) committed.held.columns.items
+        p)) committed.held.tree) }
 {
     let sizes = shape.sizes();
     let held = commitment_scheme::commit(alloc, hasher, &sizes, elements.as_slice())?;
@@ -67,13 +69,13 @@ pub fn prove<
     right: &Committed<F>,
 ) -> Result<Sent<F>, ProtocolError>
     requires work { MayGrind C.witness_bits 16 }
-    requires left { HoldsTable F.repr F.width F.product (λ i. F.basis (F.cantor i)) shape.now.rounds left.now.elements.items
-        left.now.held.columns.items left.now.held.tree }
-    requires right { HoldsTable F.repr F.width F.product (λ i. F.basis (F.cantor i)) shape.now.rounds right.now.elements.items
-        right.now.held.columns.items right.now.held.tree }
+    requires left { HoldsTable F.repr F.width F.product (λ i. F.basis (F.cantor i)) shape.now.queries shape.now.rounds
+        left.now.elements.items left.now.held.columns.items left.now.held.tree }
+    requires right { HoldsTable F.repr F.width F.product (λ i. F.basis (F.cantor i)) shape.now.queries shape.now.rounds
+        right.now.elements.items right.now.held.columns.items right.now.held.tree }
     ensures { IfOk result (λ sent. IsHonestProof C.observes C.gives C.passing C.checks C.gives_bits C.number F.repr F.width F.product
-        shape.now.rounds left.now.elements.items right.now.elements.items left.now.held.columns.items right.now.held.columns.items
-        left.now.held.tree right.now.held.tree sent.elements.items sent.nodes.items challenger.old) }
+        shape.now.queries shape.now.rounds left.now.elements.items right.now.elements.items left.now.held.columns.items
+        right.now.held.columns.items left.now.held.tree right.now.held.tree sent.elements.items sent.nodes.items challenger.old) }
 {
     let (one, other) = (left.elements.as_slice(), right.elements.as_slice());
     let summed = sums::prove(alloc, challenger, one, other, shape.rounds)?;
@@ -115,11 +117,14 @@ fn rows_of<F: Field>(
     right: &Committed<F>,
     point: &[F],
 ) -> Result<Vec<F>, AllocError>
-    requires coordinates { length point.now ≡ rows_of shape.now.rounds }
-    requires left { row_size shape.now.rounds * 2 ^ rows_of shape.now.rounds ≤ length left.now.held.columns.items }
-    requires right { row_size shape.now.rounds * 2 ^ rows_of shape.now.rounds ≤ length right.now.held.columns.items }
-    ensures { IfOk result (λ rows. map F.repr rows.items ≡ values_at F.repr F.product shape.now.rounds left.now.held.columns.items point.now
-        ++ values_at F.repr F.product shape.now.rounds right.now.held.columns.items point.now) }
+    requires coordinates { length point.now ≡ matrix_rows shape.now.queries shape.now.rounds }
+    requires left { row_size shape.now.queries shape.now.rounds * 2 ^ matrix_rows shape.now.queries shape.now.rounds ≤ length
+        left.now.held.columns.items }
+    requires right { row_size shape.now.queries shape.now.rounds * 2 ^ matrix_rows shape.now.queries shape.now.rounds ≤ length
+        right.now.held.columns.items }
+    ensures { IfOk result (λ rows. map F.repr rows.items ≡ values_at F.repr F.product shape.now.queries shape.now.rounds
+        left.now.held.columns.items point.now ++ values_at F.repr F.product shape.now.queries shape.now.rounds
+        right.now.held.columns.items point.now) }
 {
     let size = shape.row_size();
     let mut rows = column_values(alloc, left.held.columns.as_slice(), size, point)?;
@@ -137,11 +142,11 @@ fn open<F: ByteLevel>(
     elements: &mut Vec<F>,
     nodes: &mut Vec<[u8; 32]>,
 ) -> Result<(), AllocError>
-    requires holds { HoldsTable F.repr F.width F.product (λ i. F.basis (F.cantor i)) shape.now.rounds table.now.elements.items
-        table.now.held.columns.items table.now.held.tree }
-    requires places { AreAscending (2 ^ depth_of shape.now.rounds) places.now }
+    requires holds { HoldsTable F.repr F.width F.product (λ i. F.basis (F.cantor i)) shape.now.queries shape.now.rounds
+        table.now.elements.items table.now.held.columns.items table.now.held.tree }
+    requires places { AreAscending (2 ^ word_levels shape.now.queries shape.now.rounds) places.now }
     ensures { OnOk result ((columns : List F) × (elements.new.items ≡ elements.old.items ++ columns)
-        × AreColumnsAt (2 ^ rows_of shape.now.rounds) table.now.held.columns.items places.now columns
+        × AreColumnsAt (2 ^ matrix_rows shape.now.queries shape.now.rounds) table.now.held.columns.items places.now columns
         × (opening : List (List ℕ)) × (nodes.new.items ≡ nodes.old.items ++ opening)
         × OpensPlaces table.now.held.tree places.now opening) }
 {

@@ -1,12 +1,13 @@
 // What the commands print, and the status that the program then ends with: over the bytes of files and the digits of roots alone.
-ghost use Rattle.std.specs.Prelude.{◌≡◌, string_bytes, IfErr, IfOk, OnOk};
+ghost use Rattle.std.specs.Prelude.{◌≡◌, ◌≤◌, string_bytes, IfErr, IfOk, OnOk};
 ghost use Rattle.std.specs.Io.KnownBytes.{Appends};
 ghost use Rattle.std.specs.Process.{exit_status};
 ghost use Rattle.hex.specs.Hex.{decode_sized, encode_lower};
 ghost use Rattle.field_element.specs.Element.{repr_of};
+ghost use Rattle.protocols.specs.CommitmentScheme.{matrix_rows, place_count, word_levels};
 ghost use Rattle.prove_sums.specs.Reports.{claim_text, highest_first, info_text, refusal_line, root_line, security_text, sum_line};
 ghost use Rattle.prove_sums.specs.Reports.{HasNoAnswer, IsInfoReport, IsVerifyReport};
-ghost use Rattle.prove_sums.specs.Shapes.{block_count, depth_of, sum_in};
+ghost use Rattle.prove_sums.specs.Shapes.{sum_in};
 ghost use Rattle.prove_sums.specs.declared.reports.NoAnswer.TheVariants.{Memory};
 
 use crate::answers::answer_to;
@@ -101,17 +102,20 @@ fn root_from(digits: &str) -> Result<[u8; 32], FromHexError>
     <[u8; 32] as FromHex>::from_hex(digits)
 }
 
-/// What `verify` prints for the bytes of a file and the digits of two roots. It fails with `LeftRoot` or `RightRoot` exactly if these digits
-/// are those of no root, the left ones first, and else only with `Memory`, if memory was refused.
+/// What `verify` prints for the bytes of a file and the digits of two roots, with the sizes for so many bits of soundness, up to 128. It
+/// fails with `LeftRoot` or `RightRoot` exactly if these digits are those of no root, the left ones first, and else only with `Memory`, if
+/// memory was refused.
 pub(crate) fn verify_report<H: ByteHasher32>(
     alloc: Global,
     hasher: &H,
+    bits: usize,
     bytes: &[u8],
     left: &str,
     right: &str,
 ) -> Result<Report, NoAnswer>
-    ensures report { IfOk result (λ report. IsVerifyReport H.digest hasher.now left.now right.now bytes.now (string_bytes report.line)
-        report.status) }
+    requires { bits ≤ 128 }
+    ensures report { IfOk result (λ report. IsVerifyReport H.digest hasher.now bits left.now right.now bytes.now
+        (string_bytes report.line) report.status) }
     ensures error { IfErr result (λ error. HasNoAnswer left.now right.now error) }
 {
     let left = match root_from(left) {
@@ -123,7 +127,7 @@ pub(crate) fn verify_report<H: ByteHasher32>(
         Err(_) => return Err(NoAnswer::RightRoot),
     };
     let roots = Roots { left, right };
-    let answer = match answer_to(alloc, hasher, &roots, bytes) {
+    let answer = match answer_to(alloc, hasher, bits, &roots, bytes) {
         Ok(answer) => answer,
         Err(_) => return Err(NoAnswer::Memory),
     };
@@ -154,18 +158,20 @@ fn claim_line(alloc: Global, proof: &Proof<'_, Ghash128>) -> Result<String, Allo
     Ok(line)
 }
 
-// What is printed of a proof of so many bytes, which opens so many columns of 2^depth, with its bits of soundness.
+// What is printed of a proof of so many bytes, for a matrix of 2^rows rows, which opens so many columns of 2^depth, with its bits of
+// soundness.
 fn security_line(
     alloc: Global,
     size: usize,
+    rows: usize,
     count: usize,
     depth: usize,
-    bits: u8,
+    bits: usize,
 ) -> Result<String, AllocError>
-    ensures { IfOk result (λ line. string_bytes line ≡ security_text size count depth bits) }
+    ensures { IfOk result (λ line. string_bytes line ≡ security_text size rows count depth bits) }
 {
     let line = format!(in alloc;
-        "bytes {size}\ncolumns {count} of 2^{depth}\nsoundness {bits} bits, and 16 of work\n\
+        "bytes {size}\nrows 2^{rows}\ncolumns {count} of 2^{depth}\nsoundness {bits} bits, and 16 of work\n\
         assumed SHA-256 draws as if at random, and has no collisions\n"
     )?;
     Ok(line)
@@ -176,16 +182,18 @@ fn info_line(
     alloc: Global,
     proof: &Proof<'_, Ghash128>,
     size: usize,
-    bits: u8,
+    bits: usize,
 ) -> Result<String, AllocError>
     ensures { IfOk result (λ line. string_bytes line ≡ info_text proof.now.shape.rounds (encode_lower proof.now.roots.left)
         (encode_lower proof.now.roots.right) (highest_first (sum_in repr_of proof.now.elements.items)) size
-        (block_count proof.now.shape.rounds) (depth_of proof.now.shape.rounds) bits) }
+        (matrix_rows proof.now.shape.queries proof.now.shape.rounds) (place_count proof.now.shape.queries proof.now.shape.rounds)
+        (word_levels proof.now.shape.queries proof.now.shape.rounds) bits) }
 {
     let claim = claim_line(alloc, proof)?;
+    let rows = proof.shape.rows;
     let count = proof.shape.block_count();
     let depth = EXPANSION + proof.shape.levels;
-    let security = security_line(alloc, size, count, depth, bits)?;
+    let security = security_line(alloc, size, rows, count, depth, bits)?;
     let line = format!(in alloc; "{claim}{security}")?;
     Ok(line)
 }
@@ -202,7 +210,7 @@ pub(crate) fn info_report(alloc: Global, bytes: &[u8]) -> Result<Report, AllocEr
             return Ok(report);
         }
     };
-    let bits = soundness_bits(proof.shape.rounds);
+    let bits = soundness_bits(proof.shape.queries, proof.shape.rounds);
     let line = info_line(alloc, &proof, bytes.len(), bits)?;
     Ok(Report { line, status: 0 })
 }

@@ -1,26 +1,43 @@
 // How sure an accepted proof is: the soundness error of the interactive protocol, in bits.
 ghost use Rattle.std.specs.Prelude.{◌≤◌};
-ghost use Rattle.prove_sums.specs.SoundnessErrors.{AreMostBits, AreSoundBits};
+ghost use Rattle.prove_sums.specs.Bits.{AreMostBits};
+ghost use Rattle.prove_sums.specs.SoundnessErrors.{AreSoundBits};
 
 use crate::laws::errors_are_small;
 
-/// The bits of soundness of a proof for two tables of 2^rounds words, rounds from 0 to 39: the largest b by which at most one of 2^b runs
-/// accepts a sum that is false, of all that a verifier may draw, by the bound of `errors_are_small`; 128 where that bound is 0. The work
-/// comes on top.
-pub(crate) fn soundness_bits(rounds: usize) -> u8
-    requires { rounds ≤ 39 }
-    ensures bits { AreMostBits rounds result }
-    ensures sound { AreSoundBits rounds result }
+/// The bits of soundness of a proof for two tables of 2^rounds words, rounds from 0 to 39, of which 2^queries places are opened, queries 7
+/// or 8, or all where there are fewer: the largest b by which at most one of 2^b runs accepts a sum that is false, of all that a verifier
+/// may draw, by the bound of `errors_are_small`; 128 where that bound is 0. The work comes on top.
+pub(crate) fn soundness_bits(queries: usize, rounds: usize) -> usize
+    requires some_queries { 7 ≤ queries }
+    requires few_queries { queries ≤ 8 }
+    requires few { rounds ≤ 39 }
+    ensures bits { AreMostBits queries rounds result }
+    ensures sound { AreSoundBits queries rounds result }
 {
     errors_are_small();
-    bits_of(rounds)
+    most_bits(queries, rounds)
 }
 
-// Those bits. Up to 2^5 words all columns are opened, and 2 n of 2^128 challenges are lucky. From there on (163 / 256)^128 < 2^-83 of all lists
-// of places are, beside which challenges do not count.
-fn bits_of(rounds: usize) -> u8
+/// Those bits, in numbers alone.
+pub(crate) fn most_bits(queries: usize, rounds: usize) -> usize
+    requires some_queries { 7 ≤ queries }
+    requires few_queries { queries ≤ 8 }
+    requires few { rounds ≤ 39 }
+    ensures { AreMostBits queries rounds result }
+{
+    if queries == 7 {
+        bits_of_128(rounds)
+    } else {
+        bits_of_256(rounds)
+    }
+}
+
+// Those with 2^7 places. Up to 2^5 words all columns are opened, and 2 n of 2^128 challenges are lucky. From there on
+// (163 / 256)^128 < 2^-83 of all lists of places are, beside which challenges do not count.
+fn bits_of_128(rounds: usize) -> usize
     requires { rounds ≤ 39 }
-    ensures { AreMostBits rounds result }
+    ensures { AreMostBits 7 rounds result }
 {
     match rounds {
         0 => 128,
@@ -29,5 +46,40 @@ fn bits_of(rounds: usize) -> u8
         3 | 4 => 125,
         5 => 124,
         _ => 83,
+    }
+}
+
+// Those with 2^8 places, of whose lists (163 / 256)^256 < 2^-166 are lucky, which does not count beside challenges: up to 2^9 words, of
+// which there is one row, 2 n of 2^128 are, and from there on 34 for each place and each coordinate that combines rows.
+fn bits_of_256(rounds: usize) -> usize
+    requires { rounds ≤ 39 }
+    ensures { AreMostBits 8 rounds result }
+{
+    match rounds {
+        0 => 128,
+        1 => 127,
+        2 => 126,
+        3 | 4 => 125,
+        5 | 6 | 7 => 124,
+        8 | 9 => 123,
+        10 => 111,
+        11 => 110,
+        12 => 109,
+        13 | 14 => 108,
+        15 => 107,
+        16 => 106,
+        17 | 18 => 105,
+        19 | 20 => 104,
+        21 | 22 => 103,
+        23 => 102,
+        24 => 101,
+        25 | 26 => 100,
+        27 | 28 => 99,
+        29 | 30 => 98,
+        31 | 32 => 97,
+        33 | 34 => 96,
+        35 | 36 => 95,
+        37 | 38 => 94,
+        _ => 93,
     }
 }

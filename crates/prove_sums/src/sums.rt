@@ -98,8 +98,8 @@ pub fn reduce<F: Field, C: FieldChallenger<F>>(
     elements: &[F],
 ) -> Result<Reduced<F, Global>, ProtocolError>
     requires { 2 * rounds + 1 ≤ length elements.now }
-    ensures reduced { IfOk result (λ reduced. IsReducedClaim C.observes C.gives F.repr F.width F.product rounds elements.now challenger.old
-        reduced.point.items (F.repr reduced.claim) challenger.new) }
+    ensures reduced { IfOk result (λ reduced. IsReducedClaim C.observes C.gives F.repr F.width F.product rounds elements.now
+        challenger.old reduced.point.items (F.repr reduced.claim) challenger.new) }
     ensures goes_on { OnOk result (C.has_failed challenger.new ≡ false) }
     ensures memory { 3 ≤ F.width → rounds < 2 ^ F.width → C.has_failed challenger.old ≡ false → IfErr result (λ error. error ≡ Memory) }
 {

@@ -1,8 +1,8 @@
 // The verifier of a sum of products of two tables, of which it has the commitments alone.
 ghost use Rattle.std.specs.Prelude.{◌≡◌, ◌↔◌, ◌+◌, ◌*◌, ◌≤◌, ◌<◌, false, length, IfErr, IfOk, IsTrue};
 ghost use Rattle.sum_checks.specs.declared.error.ProtocolError.TheVariants.{Memory};
-ghost use Rattle.protocols.specs.CommitmentScheme.{ArePlacesDrawn};
-ghost use Rattle.prove_sums.specs.Shapes.{columns_size, element_count, levels_of, row_in, rows_in, rows_of, witness_in};
+ghost use Rattle.protocols.specs.CommitmentScheme.{ArePlacesDrawn, matrix_rows, row_levels};
+ghost use Rattle.prove_sums.specs.Shapes.{columns_size, element_count, row_in, rows_in, witness_in};
 ghost use Rattle.prove_sums.specs.Verdicts.{IsProductAt, VerifiesSum, OpensTable, root_in};
 
 use crate::proof_file::{Proof, Roots};
@@ -30,9 +30,9 @@ pub fn verify<
     proof: &Proof<'_, F>,
 ) -> Result<bool, ProtocolError>
     requires { 40 ≤ F.width }
-    ensures verdict { IfOk result (λ accepted. VerifiesSum C.observes C.gives C.passing C.checks C.gives_bits C.number F.repr (H.digest hasher.now)
-        F.NUM_BYTES F.width F.product (λ i. F.basis (F.cantor i)) proof.now.shape.rounds proof.now.roots.left proof.now.roots.right
-        proof.now.elements.items proof.now.nodes.now challenger.old accepted) }
+    ensures verdict { IfOk result (λ accepted. VerifiesSum C.observes C.gives C.passing C.checks C.gives_bits C.number F.repr (H.digest
+        hasher.now) F.NUM_BYTES F.width F.product (λ i. F.basis (F.cantor i)) proof.now.shape.queries proof.now.shape.rounds
+        proof.now.roots.left proof.now.roots.right proof.now.elements.items proof.now.nodes.now challenger.old accepted) }
     ensures memory { C.has_failed challenger.old ≡ false → IfErr result (λ error. error ≡ Memory) }
 {
     let shape = &proof.shape;
@@ -64,10 +64,10 @@ fn sample_places<
     shape: &Shape,
     elements: &[F],
 ) -> Result<(bool, Vec<usize>), ProtocolError>
-    requires { length elements.now ≡ element_count shape.now.rounds }
-    ensures drawn { IfOk result (λ drawn. ArePlacesDrawn C.observes C.gives C.passing C.checks C.gives_bits 7 shape.now.rounds
-        (rows_in shape.now.rounds elements.now) (witness_in C.number shape.now.rounds elements.now) challenger.old drawn.0 drawn.1.items
-        challenger.new) }
+    requires { length elements.now ≡ element_count shape.now.queries shape.now.rounds }
+    ensures drawn { IfOk result (λ drawn. ArePlacesDrawn C.observes C.gives C.passing C.checks C.gives_bits shape.now.queries
+        shape.now.rounds (rows_in shape.now.queries shape.now.rounds elements.now) (witness_in C.number shape.now.rounds elements.now)
+        challenger.old drawn.0 drawn.1.items challenger.new) }
     ensures memory { C.has_failed challenger.old ≡ false → IfErr result (λ error. error ≡ Memory) }
 {
     let rows = part(elements, 2 * shape.rounds + 2, 2 * shape.row_size());
@@ -89,10 +89,10 @@ fn opens_table<F: ByteLevel, H: ByteHasher32>(
 ) -> Result<bool, AllocError>
     requires which { which < 2 }
     requires points { 40 ≤ F.width }
-    requires coordinates { length point.now ≡ rows_of proof.now.shape.rounds }
+    requires coordinates { length point.now ≡ matrix_rows proof.now.shape.queries proof.now.shape.rounds }
     ensures { IfOk result (λ opens. IsTrue opens ↔ OpensTable (H.digest hasher.now) F.repr F.NUM_BYTES F.width F.product
-        (λ i. F.basis (F.cantor i)) proof.now.shape.rounds which (root_in which proof.now.roots.left proof.now.roots.right) point.now
-        proof.now.elements.items places.now proof.now.nodes.now) }
+        (λ i. F.basis (F.cantor i)) proof.now.shape.queries proof.now.shape.rounds which (root_in which proof.now.roots.left
+        proof.now.roots.right) point.now proof.now.elements.items places.now proof.now.nodes.now) }
 {
     let shape = &proof.shape;
     let elements = proof.elements.as_slice();
@@ -127,8 +127,8 @@ fn root_of(roots: &Roots, which: usize) -> [u8; 32]
 // The row of table 0 or 1.
 fn row_of<'a, F>(shape: &Shape, which: usize, elements: &'a [F]) -> &'a [F]
     requires which { which < 2 }
-    requires count { length elements.now ≡ element_count shape.now.rounds }
-    ensures { result.now ≡ row_in shape.now.rounds which elements.now }
+    requires count { length elements.now ≡ element_count shape.now.queries shape.now.rounds }
+    ensures { result.now ≡ row_in shape.now.queries shape.now.rounds which elements.now }
 {
     let size = shape.row_size();
     part(elements, 2 * shape.rounds + 2 + which * size, size)
@@ -136,9 +136,9 @@ fn row_of<'a, F>(shape: &Shape, which: usize, elements: &'a [F]) -> &'a [F]
 
 // Whether the claim is the product of both rows' values at the other coordinates of the point.
 fn is_product<F: ByteLevel>(shape: &Shape, elements: &[F], others: &[F], claim: F) -> bool
-    requires count { length elements.now ≡ element_count shape.now.rounds }
-    requires coordinates { length others.now ≡ levels_of shape.now.rounds }
-    ensures { IsTrue result ↔ IsProductAt F.repr F.product shape.now.rounds elements.now others.now (F.repr claim) }
+    requires count { length elements.now ≡ element_count shape.now.queries shape.now.rounds }
+    requires coordinates { length others.now ≡ row_levels shape.now.queries shape.now.rounds }
+    ensures { IsTrue result ↔ IsProductAt F.repr F.product shape.now.queries shape.now.rounds elements.now others.now (F.repr claim) }
 {
     let one = evaluate_multilinear(row_of(shape, 0, elements), others);
     let other = evaluate_multilinear(row_of(shape, 1, elements), others);

@@ -6,7 +6,8 @@ ghost use Rattle.transcripts.specs.HashChallengers.{hash_state};
 ghost use Rattle.transcript_elements.specs.Challengers.{challenger_failed, inner_of};
 ghost use Rattle.sum_checks.specs.declared.error.ProtocolError.TheVariants.{Memory};
 ghost use Rattle.merkle_trees.specs.{Commitments.{IsTreeOver, digest_at, row_at}, MerkleTrees.{rows_root}};
-ghost use Rattle.prove_sums.specs.{ProofFiles.{file_bytes}, Shapes.{rows_of}};
+ghost use Rattle.protocols.specs.CommitmentScheme.{matrix_rows};
+ghost use Rattle.prove_sums.specs.ProofFiles.{file_bytes};
 ghost use Rattle.prove_sums.specs.Verdicts.{word_times, word_vector, HoldsTable, IsHonestSum, IsSumVerdict};
 
 use crate::proof_file::{Proof, Roots, encode};
@@ -20,7 +21,7 @@ use std::alloc::{AllocError, Global};
 use transcript_elements::BinaryChallenger;
 use transcripts::{ByteHasher32, HashChallenger};
 
-// The transcript of a proof, which begins with what names the format and the field, with the number of rounds and with both roots.
+// The transcript of a proof, which begins with what names the format and the field, with the sizes and with both roots.
 fn transcript<H: ByteHasher32>(
     alloc: Global,
     hasher: &H,
@@ -28,7 +29,7 @@ fn transcript<H: ByteHasher32>(
     roots: &Roots,
 ) -> Result<BinaryChallenger<Ghash128, HashChallenger<H>>, AllocError>
     ensures state { IfOk result (λ challenger. hash_state (inner_of challenger)
-        ≡ (hasher.now, file_bytes shape.now.rounds roots.now.left roots.now.right [] [], [])) }
+        ≡ (hasher.now, file_bytes shape.now.queries shape.now.rounds roots.now.left roots.now.right [] [], [])) }
     ensures fresh { IfOk result (λ challenger. challenger_failed challenger ≡ false) }
 {
     let front = encode(alloc, shape, roots, &[], &[])?;
@@ -42,10 +43,11 @@ pub fn commit_table<H: ByteHasher32>(
     table: Table,
 ) -> Result<Committed<Ghash128>, AllocError>
     ensures table { IfOk result (λ committed. committed.elements.items ≡ table.elements.items) }
-    ensures holds { IfOk result (λ committed. HoldsTable repr_of 128 word_times word_vector table.shape.rounds committed.elements.items
-        committed.held.columns.items committed.held.tree) }
+    ensures holds { IfOk result (λ committed. HoldsTable repr_of 128 word_times word_vector table.shape.queries table.shape.rounds
+        committed.elements.items committed.held.columns.items committed.held.tree) }
     ensures tree { IfOk result (λ committed. IsTreeOver (H.digest hasher.now)
-        (λ p. joined_bytes 16 repr_of (row_at (2 ^ rows_of table.shape.rounds) committed.held.columns.items p)) committed.held.tree) }
+        (λ p. joined_bytes 16 repr_of (row_at (2 ^ matrix_rows table.shape.queries table.shape.rounds) committed.held.columns.items p))
+        committed.held.tree) }
 {
     let shape = table.shape;
     let committed = commit(alloc, hasher, &shape, table.elements)?;
@@ -71,13 +73,14 @@ pub fn prove<H: ByteHasher32>(
     left: &Committed<Ghash128>,
     right: &Committed<Ghash128>,
 ) -> Result<Sent<Ghash128>, ProtocolError>
-    requires left { HoldsTable repr_of 128 word_times word_vector shape.now.rounds left.now.elements.items left.now.held.columns.items
-        left.now.held.tree }
-    requires right { HoldsTable repr_of 128 word_times word_vector shape.now.rounds right.now.elements.items right.now.held.columns.items
-        right.now.held.tree }
+    requires left { HoldsTable repr_of 128 word_times word_vector shape.now.queries shape.now.rounds left.now.elements.items
+        left.now.held.columns.items left.now.held.tree }
+    requires right { HoldsTable repr_of 128 word_times word_vector shape.now.queries shape.now.rounds right.now.elements.items
+        right.now.held.columns.items right.now.held.tree }
     ensures { IfOk result (λ sent. IsHonestSum H.digest hasher.now repr_of
-        (file_bytes shape.now.rounds roots.now.left roots.now.right [] []) shape.now.rounds left.now.elements.items
-        right.now.elements.items left.now.held.columns.items right.now.held.columns.items left.now.held.tree right.now.held.tree sent.elements.items sent.nodes.items) }
+        (file_bytes shape.now.queries shape.now.rounds roots.now.left roots.now.right [] []) shape.now.queries shape.now.rounds
+        left.now.elements.items right.now.elements.items left.now.held.columns.items right.now.held.columns.items left.now.held.tree
+        right.now.held.tree sent.elements.items sent.nodes.items) }
 {
     let mut challenger = transcript(alloc, hasher, shape, roots)?;
     let sent = proving::prove(alloc, &mut challenger, shape, left, right)?;
@@ -91,8 +94,9 @@ pub fn verify<H: ByteHasher32>(
     proof: &Proof<'_, Ghash128>,
 ) -> Result<bool, ProtocolError>
     ensures verdict { IfOk result (λ accepted. IsSumVerdict H.digest hasher.now repr_of
-        (file_bytes proof.now.shape.rounds proof.now.roots.left proof.now.roots.right [] []) proof.now.shape.rounds proof.now.roots.left
-        proof.now.roots.right proof.now.elements.items proof.now.nodes.now accepted) }
+        (file_bytes proof.now.shape.queries proof.now.shape.rounds proof.now.roots.left proof.now.roots.right [] [])
+        proof.now.shape.queries proof.now.shape.rounds proof.now.roots.left proof.now.roots.right proof.now.elements.items
+        proof.now.nodes.now accepted) }
     ensures memory { IfErr result (λ error. error ≡ Memory) }
 {
     let mut challenger = transcript(alloc, hasher, &proof.shape, &proof.roots)?;

@@ -3,7 +3,7 @@ use Rattle.field_bytes.specs.Streams.{joined_bytes}
 use Rattle.field_element.specs.Element.{repr_of}
 use Rattle.merkle_trees.specs.Commitments.{row_at}
 use Rattle.merkle_trees.specs.MerkleTrees.{rows_root}
-use Rattle.prove_sums.specs.Shapes.{rows_of}
+use Rattle.protocols.specs.CommitmentScheme.{matrix_rows}
 use Rattle.prove_sums.specs.Verdicts.{IsTable}
 use Rattle.prove_sums.proofs.commands.commit.Goals as goal
 
@@ -12,15 +12,15 @@ returns-clause-table g c =
     let table = c.in_ok-table.table in
     let size : length table.elements.items ≡ 2 ^ table.shape.rounds = search rules in
     subst (λ (l : List _). IsTable repr_of c.args.bytes.now table.shape.rounds l) (sym c.in_ok-committed.ensures.table)
-    (record { few = table.shape.few; count = size; written = c.in_ok-table.ensures })
+    (record { few = table.shape.few; count = size; written = c.in_ok-table.ensures.words })
 
 pub returns-clause-root : goal.returns-clause-root
 returns-clause-root g c =
     let held = c.in_ok-committed.ensures.holds in
     let columns = c.in_ok-committed.committed.held.columns.items in
-    let rounds = c.in_ok-table.table.shape.rounds in
+    let shape = c.in_ok-table.table.shape in
     let hash = g.H.ByteHasher32.digest c.args.hasher.now in
-    let row : ℕ → List ℕ = λ (p : ℕ). joined_bytes 16 repr_of (row_at (2 ^ rows_of rounds) columns p) in
+    let row : ℕ → List ℕ = λ (p : ℕ). joined_bytes 16 repr_of (row_at (2 ^ matrix_rows shape.queries shape.rounds) columns p) in
     record {
       extended = held.extended;
       rooted =

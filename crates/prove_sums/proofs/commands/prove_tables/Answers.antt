@@ -5,6 +5,7 @@ use Rattle.prove_sums.specs.ProofFiles.{file_bytes}
 use Rattle.prove_sums.specs.Reports.{sum_line}
 use Rattle.prove_sums.specs.Shapes.{sum_in}
 use Rattle.prove_sums.specs.Verdicts.{HoldsTable, IsTable, IsTableRoot, IsTableTree, word_times, word_vector}
+use Rattle.prove_sums.proofs.SizeBits.{sizes-moved}
 use Rattle.prove_sums.proofs.SumSteps.{number-at}
 use Rattle.prove_sums.proofs.commands.prove_tables.Goals as goal
 
@@ -15,8 +16,8 @@ pub prove-requires-clause-right : goal.prove-requires-clause-right
 prove-requires-clause-right g c =
     let second = c.in_ok-other.second in
     let same : c.in_ok-other.other.rounds ≡ c.in_ok-shape.shape.rounds = omega (arith, c.if-others-rounds.false) in
-    subst (λ (n : ℕ). HoldsTable repr_of 128 word_times word_vector n second.elements.items second.held.columns.items second.held.tree) same
-    c.in_ok-other.ensures.holds
+    sizes-moved (λ (m n : ℕ). HoldsTable repr_of 128 word_times word_vector m n second.elements.items second.held.columns.items second.held.tree)
+    c.args.bits same c.in_ok-other.ensures.sized c.in_ok-shape.ensures.sized c.in_ok-other.ensures.holds
 
 pub bounds-elements-0 : goal.bounds-elements-0
 bounds-elements-0 g c =
@@ -24,6 +25,7 @@ bounds-elements-0 g c =
 
 pub returns : goal.returns
 returns g c =
+    let m = c.in_ok-shape.shape.queries in
     let n = c.in_ok-shape.shape.rounds in
     let first = c.in_ok-shape.first in
     let second = c.in_ok-other.second in
@@ -38,6 +40,7 @@ returns g c =
     let size : c.len.result ≡ length c.in_ok-bytes.bytes.items = search rules in
     record {
       is = record {
+        queries = m;
         rounds = n;
         one = first.elements.items;
         other = second.elements.items;
@@ -49,16 +52,20 @@ returns g c =
         other_tree = second.held.tree;
         elements = sent.elements.items;
         nodes = sent.nodes.items;
+        sized = left.sized;
         left_table = left.table;
-        right_table = subst (λ (m : ℕ). IsTable repr_of c.args.right.now m second.elements.items) same right.table;
+        right_table = subst (λ (v : ℕ). IsTable repr_of c.args.right.now v second.elements.items) same right.table;
         left_root = left.root;
         right_root =
-            subst (λ (m : ℕ). IsTableRoot hash repr_of m second.elements.items second.held.columns.items right_root) same right.root;
+            sizes-moved (λ (u v : ℕ). IsTableRoot hash repr_of u v second.elements.items second.held.columns.items right_root) c.args.bits same
+            right.sized left.sized right.root;
         left_tree = left.tree;
-        right_tree = subst (λ (m : ℕ). IsTableTree hash repr_of m second.held.columns.items right_root second.held.tree) same right.tree;
+        right_tree =
+            sizes-moved (λ (u v : ℕ). IsTableTree hash repr_of u v second.held.columns.items right_root second.held.tree) c.args.bits same
+            right.sized left.sized right.tree;
         written =
             c.in_ok-bytes.ensures
-            ∙ ap₂ (λ (l : List _) (ns : List (List ℕ)). file_bytes n c.in_ok-shape.left_root right_root (joined_bytes 16 repr_of l) ns)
+            ∙ ap₂ (λ (l : List _) (ns : List (List ℕ)). file_bytes m n c.in_ok-shape.left_root right_root (joined_bytes 16 repr_of l) ns)
             c.as_slice-elements.ensures.value c.as_slice-nodes.ensures.value;
         honest = c.in_ok-sent.ensures;
       };

@@ -8,4 +8,4 @@ use Rattle.prove_sums.proofs.proof_file.encode.Given as goal
 -- the nodes before the index are written
 abbrev pub invariant-nodes : goal.invariant-nodes
 invariant-nodes l =
-    l.bytes.items ≡ head ++ (l.shape.rounds ∷ []) ++ l.roots.left ++ l.roots.right ++ joined_bytes 16 repr_of l.elements ++ flat (take l.index l.nodes)
+    l.bytes.items ≡ head ++ (l.shape.queries ∷ l.shape.rounds ∷ []) ++ l.roots.left ++ l.roots.right ++ joined_bytes 16 repr_of l.elements ++ flat (take l.index l.nodes)

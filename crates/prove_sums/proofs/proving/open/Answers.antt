@@ -9,7 +9,7 @@ open_columns-requires-clause-few g c = let few = c.args.shape.now.few_rows in om
 
 pub open_columns-requires-clause-count : goal.open_columns-requires-clause-count
 open_columns-requires-clause-count g c =
-    columns-counted 7 c.args.shape.now.rounds c.args.shape.now.rows_are c.requires.holds.depth c.requires.holds.extended.count
+    columns-counted c.args.shape.now.queries c.args.shape.now.rounds c.args.shape.now.rows_are c.requires.holds.depth c.requires.holds.extended.count
 
 pub open_columns-requires-clause-places : goal.open_columns-requires-clause-places
 open_columns-requires-clause-places g c =

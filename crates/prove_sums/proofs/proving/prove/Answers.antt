@@ -1,8 +1,7 @@
-use Rattle.std.proofs.Common.{◌≡◌, ◌++◌, ◌^◌, ℕ, true, List, length, take, refl, sym, ◌∙◌, ap, subst}
+use Rattle.std.proofs.Common.{◌≡◌, ◌++◌, ◌^◌, ℕ, true, List, take, sym, ◌∙◌, ap, subst}
 use Rattle.merkle_trees.specs.Openings.{AreAscending}
-use Rattle.protocols.specs.CommitmentScheme.{ArePlacesDrawn, word_levels}
+use Rattle.protocols.specs.CommitmentScheme.{ArePlacesDrawn, matrix_rows, word_levels}
 use Rattle.protocols.specs.Tables.{AreColumnsAt, OpensPlaces}
-use Rattle.prove_sums.specs.Shapes.{rows_of}
 use Rattle.prove_sums.specs.Verdicts.{IsSummed, values_at}
 use Rattle.prove_sums.proofs.SumSteps.{elements-listed, sizes-same}
 use Rattle.prove_sums.proofs.proving.prove.Goals as goal
@@ -20,12 +19,13 @@ open-requires-2-clause-places g c =
 pub returns : goal.returns
 returns g c =
     let field = g.F.Represented in
+    let m = c.args.shape.now.queries in
     let n = c.args.shape.now.rounds in
     let shape = c.args.shape.now in
     let summed = c.in_ok-summed.summed in
     let left = c.args.left.now in
     let right = c.args.right.now in
-    let point : c.split_at.result.0.now ≡ take (rows_of n) summed.point.items =
+    let point : c.split_at.result.0.now ≡ take (matrix_rows m n) summed.point.items =
     c.split_at.ensures.front ∙ ap (take shape.rows) c.as_slice.ensures.value ∙ ap (λ (r : ℕ). take r summed.point.items) shape.rows_are in
     let says : List _ → List _ → Type 0 =
     λ (one other : List _).
@@ -49,20 +49,20 @@ returns g c =
           (subst (λ (l : List _). says c.as_slice-one.result.now l) c.as_slice-other.ensures.value c.in_ok-summed.ensures);
       rows_are =
           c.in_ok-rows.ensures
-          ∙ ap (λ (p : List _). values_at field.repr field.product n left.held.columns.items p
-          ++ values_at field.repr field.product n right.held.columns.items p) point;
+          ∙ ap (λ (p : List _). values_at field.repr field.product m n left.held.columns.items p
+          ++ values_at field.repr field.product m n right.held.columns.items p) point;
       drawn =
           sizes-same
-          (λ (m v : ℕ) (sent : List _).
+          (λ (q v : ℕ) (sent : List _).
           ArePlacesDrawn g.C.CanObserve.observes g.C.CanSample.gives g.C.GrindingChallenger.passing g.C.GrindingChallenger.checks
-          g.C.CanSampleBits.gives_bits m v sent (g.C.GrindingChallenger.number c.in_ok-witness.witness) c.prove.new.challenger true
+          g.C.CanSampleBits.gives_bits q v sent (g.C.GrindingChallenger.number c.in_ok-witness.witness) c.prove.new.challenger true
           c.in_ok-witness.places.items c.grind_places.new.challenger) c.sizes-sizes.ensures.queries c.sizes-sizes.ensures.variables
           c.as_slice-rows.ensures.value c.in_ok-witness.ensures.drawn;
       left_opened =
-          subst (λ (ps : List ℕ). AreColumnsAt (2 ^ rows_of n) left.held.columns.items ps c.in_ok-open.ensures.0) c.as_slice-3.ensures.value
+          subst (λ (ps : List ℕ). AreColumnsAt (2 ^ matrix_rows m n) left.held.columns.items ps c.in_ok-open.ensures.0) c.as_slice-3.ensures.value
           c.in_ok-open.ensures.2;
       right_opened =
-          subst (λ (ps : List ℕ). AreColumnsAt (2 ^ rows_of n) right.held.columns.items ps c.in_ok-open-2.ensures.0) c.as_slice-4.ensures.value
+          subst (λ (ps : List ℕ). AreColumnsAt (2 ^ matrix_rows m n) right.held.columns.items ps c.in_ok-open-2.ensures.0) c.as_slice-4.ensures.value
           c.in_ok-open-2.ensures.2;
       written =
           elements-listed c.in_ok-open.ensures.0 c.in_ok-open-2.ensures.0 summed.sum c.in_ok-witness.witness c.new-elements.ensures.items c.in_ok-push.ensures.items c.in_ok-extend_from_slice.ensures.items

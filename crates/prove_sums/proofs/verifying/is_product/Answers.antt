@@ -6,12 +6,12 @@ use Rattle.prove_sums.proofs.verifying.is_product.Goals as goal
 
 pub evaluate_multilinear-one-requires : goal.evaluate_multilinear-one-requires
 evaluate_multilinear-one-requires g c =
-    ap length c.row_of.ensures ∙ row-long c.args.shape.now.rounds 0 c.args.elements.now (omega arith) c.requires.count
+    ap length c.row_of.ensures ∙ row-long c.args.shape.now.queries c.args.shape.now.rounds 0 c.args.elements.now (omega arith) c.requires.count
     ∙ ap (λ (n : ℕ). 2 ^ n) (sym c.requires.coordinates)
 
 pub evaluate_multilinear-other-requires : goal.evaluate_multilinear-other-requires
 evaluate_multilinear-other-requires g c =
-    ap length c.row_of-2.ensures ∙ row-long c.args.shape.now.rounds 1 c.args.elements.now (omega arith) c.requires.count
+    ap length c.row_of-2.ensures ∙ row-long c.args.shape.now.queries c.args.shape.now.rounds 1 c.args.elements.now (omega arith) c.requires.count
     ∙ ap (λ (n : ℕ). 2 ^ n) (sym c.requires.coordinates)
 
 pub returns : goal.returns

@@ -4,7 +4,7 @@ use Rattle.prove_sums.proofs.Sizes.{row-room}
 use Rattle.prove_sums.proofs.verifying.row_of.Goals as goal
 
 pub part-requires : goal.part-requires
-part-requires g c = row-room c.args.shape.now.rounds c.args.which c.args.elements.now c.requires.which c.requires.count c.row_size-size.result c.row_size-size.ensures.size
+part-requires g c = row-room c.args.shape.now.queries c.args.shape.now.rounds c.args.which c.args.elements.now c.requires.which c.requires.count c.row_size-size.result c.row_size-size.ensures.size
 
 pub returns : goal.returns
 returns g c =

@@ -1,7 +1,6 @@
-use Rattle.std.proofs.Common.{◌≡◌, ◌+◌, ◌-◌, ◌≤◌, ◌^◌, ℕ, ◌∙◌, ap₂, arith, lit<}
+use Rattle.std.proofs.Common.{◌≡◌, ◌-◌, ◌≤◌, ◌^◌, ℕ, ◌∙◌, ap₂, arith, lit<}
 use Rattle.std.proofs.Math.Nat.{pow-le-pow_right}
-use Rattle.protocols.specs.CommitmentScheme.{place_count}
-use Rattle.prove_sums.specs.Shapes.{block_bits, block_count, depth_of}
+use Rattle.protocols.specs.CommitmentScheme.{place_bits, place_count, word_levels}
 use Rattle.prove_sums.proofs.shapes.Shape.block_count.Goals as goal
 
 pub returns-clause-count : goal.returns-clause-count
@@ -10,8 +9,10 @@ returns-clause-count c =
 
 pub returns-clause-few : goal.returns-clause-few
 returns-clause-few c =
+    let m = c.args.self.now.queries in
     let n = c.args.self.now.rounds in
-    let count : c.place_count.result ≡ block_count n = returns-clause-count c in
-    let few : depth_of n - block_bits n ≤ 7 = omega arith in
-    let up : 2 ^ (depth_of n - block_bits n) ≤ 2 ^ 7 = pow-le-pow_right (lit< tt) few in
+    let most = c.args.self.now.few_queries in
+    let count : c.place_count.result ≡ place_count m n = returns-clause-count c in
+    let few : word_levels m n - place_bits m n ≤ 8 = omega (arith, most) in
+    let up : 2 ^ (word_levels m n - place_bits m n) ≤ 2 ^ 8 = pow-le-pow_right (lit< tt) few in
     omega (arith, up, count)

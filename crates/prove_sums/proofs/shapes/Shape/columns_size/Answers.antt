@@ -6,4 +6,4 @@ pub returns-clause-size : goal.returns-clause-size
 returns-clause-size c = ap₂ (λ (a b : ℕ). a * b) c.block_count.ensures.count c.height.ensures.size
 
 pub returns-clause-few : goal.returns-clause-few
-returns-clause-few c = product-few c.block_count.result c.height.result 128 65536 c.block_count.ensures.few c.height.ensures.few
+returns-clause-few c = product-few c.block_count.result c.height.result 256 65536 c.block_count.ensures.few c.height.ensures.few

@@ -1,6 +1,6 @@
 use Rattle.std.proofs.Common.{◌≤◌, arith}
 use Rattle.prove_sums.proofs.SoundBits.{many-bits}
-use Rattle.prove_sums.proofs.security.bits_of.Goals as goal
+use Rattle.prove_sums.proofs.security.bits_of_128.Goals as goal
 
 pub returns-in_default : goal.returns-in_default
 returns-in_default c =
