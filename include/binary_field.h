@@ -36,6 +36,7 @@
 #ifndef BINARY_FIELD_H
 #define BINARY_FIELD_H
 
+#include <stdbool.h>
 #include <stddef.h>
 #include <stdint.h>
 
@@ -2035,6 +2036,31 @@ uint32_t bf_code_correct(uint64_t modulus, size_t symbols, size_t data, uint64_t
     uint8_t *words, size_t words_length, const uint8_t *erasures, size_t erasures_length,
     uint16_t *corrected, size_t corrected_length) BF_CHECKED;
 
+/* The same as bf_code_encode, of words that stand interleaved: the first symbols of all words, one after the other,
+ * then the second symbols. BF_CODE if modulus is none of those above, data is 0 or not below symbols, symbols is
+ * above 255, or a power of g^root_step with an exponent from 1 to symbols - 1 is 1. BF_LENGTH unless words has a
+ * multiple of symbols. */
+uint32_t bf_code_encode_interleaved(uint64_t modulus, size_t symbols, size_t data, uint64_t first_root,
+    uint64_t root_step, uint8_t *words, size_t words_length) BF_CHECKED;
+
+/* syndromes: the same as bf_code_syndromes, of words that stand interleaved, whose values do too: those of all words
+ * at a root stand one after the other. BF_CODE if modulus is none of those above, data is 0 or not below symbols,
+ * symbols is above 255, or a power of g^root_step with an exponent from 1 to symbols - 1 is 1. BF_LENGTH unless
+ * words has a multiple of symbols, and syndromes symbols - data for each word. */
+uint32_t bf_code_syndromes_interleaved(uint64_t modulus, size_t symbols, size_t data, uint64_t first_root,
+    uint64_t root_step, const uint8_t *words, size_t words_length,
+    uint8_t *syndromes, size_t syndromes_length) BF_CHECKED;
+
+/* Corrects each word as bf_code_correct does, of words that stand interleaved, and writes to corrected whether it
+ * could. Symbol i of every word is erased where byte i of erasures is not 0. To syndromes it writes the values of
+ * the received words, as bf_code_syndromes_interleaved does. A bool is the byte 0 or 1, before the call too. BF_CODE
+ * if modulus is none of those above, data is 0 or not below symbols, symbols is above 255, or a power of g^root_step
+ * with an exponent from 1 to symbols - 1 is 1. BF_LENGTH unless words has a multiple of symbols, erasures one byte
+ * for each symbol of a word or none, syndromes symbols - data for each word, and corrected one for each. */
+uint32_t bf_code_correct_interleaved(uint64_t modulus, size_t symbols, size_t data, uint64_t first_root,
+    uint64_t root_step, uint8_t *words, size_t words_length, const uint8_t *erasures, size_t erasures_length,
+    uint8_t *syndromes, size_t syndromes_length, bool *corrected, size_t corrected_length) BF_CHECKED;
+
 /* ------------------------------------------------------------------------------------------------------------------ */
 /* Reed-Solomon codes over t16 by additive transforms, of thousands of shards: column i of the shards, their word i,
  * has the values of one polynomial. With 2^n the least power of two that is at least data, it has a degree below
@@ -2096,6 +2122,16 @@ uint32_t bf_secret_split(uint64_t modulus, size_t needed, size_t count, const ui
  * polynomials of needed coefficients. */
 uint32_t bf_secret_combine(uint64_t modulus, size_t needed, const uint8_t *indexes, size_t indexes_length,
     const uint8_t *shares, size_t shares_length, uint8_t *secret, size_t secret_length) BF_CHECKED;
+
+/* Restores a secret as bf_secret_combine does, of shares some of which may be wrong, and writes to wrong for each
+ * share 1 where it is wrong, else 0. A share is wrong if any of its bytes is, and of n shares up to (n - needed) / 2
+ * may be. BF_CODE if modulus is another number. BF_LENGTH unless wrong has a byte for each of indexes. BF_CODE if
+ * needed is below 2. BF_TOO_FEW_SHARDS unless there are at least needed indexes. BF_CODE if there are more than 255
+ * indexes, one is 0, or two are equal. BF_LENGTH unless secret has a byte or more, and shares as many for each of
+ * indexes. BF_UNSOLVABLE unless so few shares are wrong. */
+uint32_t bf_secret_combine_correcting(uint64_t modulus, size_t needed, const uint8_t *indexes, size_t indexes_length,
+    const uint8_t *shares, size_t shares_length, uint8_t *secret, size_t secret_length,
+    uint8_t *wrong, size_t wrong_length) BF_CHECKED;
 
 /* ------------------------------------------------------------------------------------------------------------------ */
 /* Lines of text: a field by its name above, an operation (add, mul, square, inv or sqrt) and its operands, with

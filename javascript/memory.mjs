@@ -14,6 +14,7 @@ const BYTES = {
   u128: 16,
   u192: 24,
   usize: 8,
+  bool: 1,
   ghash_state: 8 * STATE_WORDS,
   polyval_state: 8 * STATE_WORDS,
   field: 8 * FIELD_WORDS

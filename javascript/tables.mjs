@@ -401,6 +401,9 @@ export const FUNCTIONS = {
   code_syndromes: [["number", "modulus", "u64"], ["count", "symbols", "u64"], ["count", "data", "u64"], ["number", "first_root", "u64"], ["number", "root_step", "u64"], ["in", "words", "u8"], ["out", "syndromes", "u8"]],
   code_are_words: [["number", "modulus", "u64"], ["count", "symbols", "u64"], ["count", "data", "u64"], ["number", "first_root", "u64"], ["number", "root_step", "u64"], ["in", "words", "u8"], ["out", "flags", "u8"]],
   code_correct: [["number", "modulus", "u64"], ["count", "symbols", "u64"], ["count", "data", "u64"], ["number", "first_root", "u64"], ["number", "root_step", "u64"], ["inout", "words", "u8"], ["in", "erasures", "u8"], ["out", "corrected", "u16"]],
+  code_encode_interleaved: [["number", "modulus", "u64"], ["count", "symbols", "u64"], ["count", "data", "u64"], ["number", "first_root", "u64"], ["number", "root_step", "u64"], ["inout", "words", "u8"]],
+  code_syndromes_interleaved: [["number", "modulus", "u64"], ["count", "symbols", "u64"], ["count", "data", "u64"], ["number", "first_root", "u64"], ["number", "root_step", "u64"], ["in", "words", "u8"], ["out", "syndromes", "u8"]],
+  code_correct_interleaved: [["number", "modulus", "u64"], ["count", "symbols", "u64"], ["count", "data", "u64"], ["number", "first_root", "u64"], ["number", "root_step", "u64"], ["inout", "words", "u8"], ["in", "erasures", "u8"], ["out", "syndromes", "u8"], ["inout", "corrected", "bool"]],
   erasure_space: [["count", "data", "u64"], ["count", "parity", "u64"], ["result", "length", "u64"]],
   erasure_encode: [["count", "data", "u64"], ["count", "parity", "u64"], ["in", "shards", "u16"], ["out", "parity_shards", "u16"], ["space", "space", "u16"]],
   erasure_verify: [["count", "data", "u64"], ["count", "parity", "u64"], ["in", "shards", "u16"], ["in", "parity_shards", "u16"], ["space", "space", "u16"], ["result", "whole", "u8"]],
@@ -408,6 +411,7 @@ export const FUNCTIONS = {
   erasure_reconstruct: [["count", "data", "u64"], ["count", "parity", "u64"], ["inout", "shards", "u16"], ["inout", "parity_shards", "u16"], ["in", "present", "u8"], ["space", "space", "u16"]],
   secret_split: [["number", "modulus", "u64"], ["count", "needed", "u64"], ["count", "count", "u64"], ["in", "secret", "u8"], ["in", "draws", "u8"], ["out", "shares", "u8"]],
   secret_combine: [["number", "modulus", "u64"], ["count", "needed", "u64"], ["in", "indexes", "u8"], ["in", "shares", "u8"], ["out", "secret", "u8"]],
+  secret_combine_correcting: [["number", "modulus", "u64"], ["count", "needed", "u64"], ["in", "indexes", "u8"], ["in", "shares", "u8"], ["out", "secret", "u8"], ["out", "wrong", "u8"]],
 };
 
 // The fields, the levels of the tower first.

@@ -36,7 +36,7 @@ FIELD_WORDS = 5
 WORDS = {
     "u8": "uint8_t", "u16": "uint16_t", "u32": "uint32_t", "u64": "uint64_t", "u128": "bf_u128", "u192": "bf_u192", "usize": "size_t",
     "ghash_state": "bf_ghash_state", "polyval_state": "bf_polyval_state",
-    "field": "bf_field",
+    "field": "bf_field", "bool": "bool",
 }
 # Those that are structs: a scalar of such a word is passed by a pointer.
 STRUCTS = ("u128", "u192", "field")
@@ -96,6 +96,14 @@ CODE_FUNCTIONS = [
      "corrects each word, and writes how many of its symbols changed; a symbol is erased where its byte of erasures is not 0. A word becomes the only "
      "word of the code from which it differs at t places beside e erased ones, with 2 * t + e at most symbols - data. Where there is none it stays, "
      "and corrected is 65535"),
+    ("encode_interleaved", [("inout", "words", "u8")],
+     "the same as code_encode, of words that stand interleaved: the first symbols of all words, one after the other, then the second symbols"),
+    ("syndromes_interleaved", [("in", "words", "u8"), ("out", "syndromes", "u8")],
+     "the same as code_syndromes, of words that stand interleaved, whose values do too: those of all words at a root stand one after the other"),
+    ("correct_interleaved", [("inout", "words", "u8"), ("in", "erasures", "u8"), ("out", "syndromes", "u8"), ("inout", "corrected", "bool")],
+     "corrects each word as code_correct does, of words that stand interleaved, and writes to corrected whether it could. Symbol i of every word is erased "
+     "where byte i of erasures is not 0. To syndromes it writes the values of the received words, as code_syndromes_interleaved does. A bool is the byte "
+     "0 or 1, before the call too"),
 ]
 
 # (name, parameters, what it computes). The word of every parameter stands in it.
@@ -228,6 +236,10 @@ OTHER_FUNCTIONS = [
     ("secret_combine", [("number", "modulus"), ("count", "needed"), ("in", "indexes", "u8"), ("in", "shares", "u8"), ("out", "secret", "u8")],
      "writes the secret of shares with these indexes, of which needed are needed; they stand one after the other. Of more than needed all have to be "
      "those of one secret; whether bytes of needed shares are right cannot be told"),
+    ("secret_combine_correcting", [("number", "modulus"), ("count", "needed"), ("in", "indexes", "u8"), ("in", "shares", "u8"), ("out", "secret", "u8"),
+                                   ("out", "wrong", "u8")],
+     "restores a secret as secret_combine does, of shares some of which may be wrong, and writes to wrong for each share 1 where it is wrong, else 0. A "
+     "share is wrong if any of its bytes is, and of n shares up to (n - needed) / 2 may be"),
 ]
 
 # Of these the proved crate exports a second form too, which gives the same and is made for x86-64-v3, whose vectors have 256 bits. No

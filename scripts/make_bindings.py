@@ -22,7 +22,7 @@ from make_c_header import ARRAYS, sections, told
 
 WRITTEN = files.generated("make_bindings.py")
 # The words of the library as Rust passes them, and as an element holds them.
-PASSED = {"u8": "u8", "u16": "u16", "u32": "u32", "u64": "u64", "u128": "[u64; 2]", "u192": "[u64; 3]", "usize": "usize"}
+PASSED = {"u8": "u8", "u16": "u16", "u32": "u32", "u64": "u64", "u128": "[u64; 2]", "u192": "[u64; 3]", "usize": "usize", "bool": "bool"}
 PASSED |= {it: f"[u64; {c_library.STATE_WORDS}]" for it in ("ghash_state", "polyval_state")}
 PASSED["field"] = f"[u64; {c_library.FIELD_WORDS}]"
 HELD = PASSED | {"u128": "u128"}

@@ -117,6 +117,7 @@ tags_are_equal          messages    tags_are_equal     Compares left.now right.n
 answer                  lines       answer_line        AnswersLine line.now answer.old written.old answer.new written.new result
 secret_split            secrets     split_secret       SplitsSecret modulus needed count secret.now draws.now shares.old shares.new result
 secret_combine          secrets     combine_shares     CombinesShares modulus needed indexes.now shares.now secret.old secret.new result
+secret_combine_correcting  secrets  correct_shares     CorrectsShares modulus needed indexes.now shares.now secret.old wrong.old secret.new wrong.new result
 rs_encode               shards      encode             Encodes «data» parity shards.old shards.new result
 rs_verify               shards      verify             Verifies «data» parity shards.now whole.old whole.new result
 rs_tables_length        shards      tables_length      TellsTablesLength «data» parity length.old length.new result
@@ -158,6 +159,14 @@ for _name, _contract, _clause in (
     ("correct", "CorrectsWords", "erasures.now words.old corrected.old words.new corrected.new result"),
 ):
     OTHER_CALLS[f"code_{_name}"] = ["codes", f"codes::{_name}", f"{_contract} modulus symbols «data» first_root root_step {_clause}"]
+for _name, _contract, _clause in (
+    ("encode", "EncodesInterleaved", "words.old words.new result"),
+    ("syndromes", "WritesInterleavedSyndromes", "words.now syndromes.old syndromes.new result"),
+    ("correct", "CorrectsInterleaved", "erasures.now words.old syndromes.old corrected.old words.new syndromes.new corrected.new result"),
+):
+    OTHER_CALLS[f"code_{_name}_interleaved"] = [
+        "codes", f"interleaved_codes::{_name}", f"{_contract} modulus symbols «data» first_root root_step {_clause}",
+    ]
 
 # The functions of matrices: the contract over a field.
 MATRIX_CALLS = {row.split()[0]: row.split(maxsplit=1)[1] for row in """\
@@ -173,7 +182,7 @@ matrix_solve        SolvesEquations {} rows columns matrix.now right.now (length
 ABOUT = {
     "bit_matrices": "Calls over matrices over GF(2), whose rows are packed in words of 64 bits.",
     "changes": "Calls over slices of elements of a level of the tower, and of their images in a field of polynomials.",
-    "codes": "Calls of Reed-Solomon codes over bytes that correct errors, on words that stand one after the other.",
+    "codes": "Calls of Reed-Solomon codes over bytes that correct errors, on words that stand one after the other or interleaved.",
     "chosen": "Calls over slices of elements of a field that the caller chooses.",
     "erasure": "Calls of erasure codes by transforms, over words of 16 bits: shards of data, and those of parity, stand one after the other.",
     "linear": "Calls that map words linearly.",
@@ -201,11 +210,12 @@ HOMES = {
         "Prepares", "Reconstructs", "TellsFactors", "TellsTablesLength", "Verifies", "VerifiesPrepared",
     ],
     "c_calls.specs.Codes": ["CorrectsWords", "EncodesWords", "TellsCodeWords", "WritesSyndromes"],
+    "c_calls.specs.InterleavedCodes": ["CorrectsInterleaved", "EncodesInterleaved", "WritesInterleavedSyndromes"],
     "c_calls.specs.ChosenFields": ["OverField", "PreparesField", "TakesQuotients", "TakesTraces", "chosen_field"],
     "c_calls.specs.Erasure": ["EncodesErasure", "ReconstructsErasure", "TellsSpace", "VerifiesErasure"],
     "c_calls.specs.Linear": ["MapsLinearly"],
     "c_calls.specs.Lines": ["AnswersLine"],
-    "c_calls.specs.Secrets": ["CombinesShares", "SplitsSecret"],
+    "c_calls.specs.Secrets": ["CombinesShares", "CorrectsShares", "SplitsSecret"],
     "c_calls.specs.Transforms": [
         "ButterfliesForward", "ButterfliesInverse", "InvertsLevelTransform", "InvertsTransform", "RunsLowStages", "Transforms", "TransformsLevel",
     ],

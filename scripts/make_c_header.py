@@ -69,9 +69,14 @@ LENGTHS = {
     "code_encode": "words has a multiple of symbols",
     "code_syndromes": "words has a multiple of symbols, and syndromes symbols - data for each word",
     "code_correct": "words has a multiple of symbols, erasures as many bytes or none, and corrected one for each word",
+    "code_encode_interleaved": "words has a multiple of symbols",
+    "code_syndromes_interleaved": "words has a multiple of symbols, and syndromes symbols - data for each word",
+    "code_correct_interleaved": "words has a multiple of symbols, erasures one byte for each symbol of a word or none, syndromes symbols - data for each "
+    "word, and corrected one for each",
     "code_are_words": "words has a multiple of symbols, and flags one for each word",
     "secret_split": "secret has a byte or more, draws needed - 1 times as many, and shares count times as many",
     "secret_combine": "secret has a byte or more, and shares as many for each of indexes",
+    "secret_combine_correcting": "secret has a byte or more, and shares as many for each of indexes",
     "erasure_space": "",
     "erasure_encode": ERASURE_LENGTHS,
     "erasure_verify": ERASURE_LENGTHS,
@@ -114,6 +119,11 @@ def statuses_of(name, parameters, bits):
         yield "BF_CODE", "modulus is another number, or not 2 <= needed <= count <= 255"
     if name == "secret_combine":
         yield "BF_CODE", "modulus is another number, or needed is below 2"
+    if name == "secret_combine_correcting":
+        yield "BF_CODE", "modulus is another number"
+        yield "BF_LENGTH", "wrong has a byte for each of indexes"
+        yield "BF_CODE", "needed is below 2"
+    if name.startswith("secret_combine"):
         yield "BF_TOO_FEW_SHARDS", "there are at least needed indexes"
         yield "BF_CODE", "there are more than 255 indexes, one is 0, or two are equal"
     lengths = lengths_of(name, parameters)
@@ -121,6 +131,8 @@ def statuses_of(name, parameters, bits):
         yield "BF_LENGTH", lengths
     if name == "secret_combine":
         yield "BF_UNSOLVABLE", "the shares lie, byte by byte, on polynomials of needed coefficients"
+    if name == "secret_combine_correcting":
+        yield "BF_UNSOLVABLE", "so few shares are wrong"
     if bits < 8 and any(it[0] in ("in", "inout", "scalar") for it in parameters):
         yield "BF_NOT_AN_ELEMENT", f"each word that is read is below {1 << bits}"
     if name.endswith("matrix_inverse"):
@@ -157,7 +169,7 @@ def told(name, parameters, bits, text):
     the stack, where that is much. Functions are named as C has them, and lengths that a status tells stand there alone."""
     before, _, last = text.rpartition("; ")
     text = own_names().sub(r"bf_\1", before if before and lengths_of(name, parameters).startswith(last) else text)
-    written = [it[1] for it in parameters if it[0] in ("out", "result")]
+    written = [it for kind, it, word in parameters if kind in ("out", "result") or word == "bool"]
     words = [f"{written[0]}: {text}." if len(written) == 1 else sentence(text, parameters)]
     for status, condition in statuses_of(name, parameters, bits):
         words.append(f"{status} {'if' if status == 'BF_CODE' else 'unless'} {condition}.")
@@ -472,6 +484,7 @@ HEAD = """\
 #ifndef BINARY_FIELD_H
 #define BINARY_FIELD_H
 
+#include <stdbool.h>
 #include <stddef.h>
 #include <stdint.h>
 

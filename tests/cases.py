@@ -9,63 +9,15 @@ import itertools
 import pathlib
 import random
 
+import correcting
 import definitions
 import published
-from definitions import FIELDS, c_library
+from called import ARRAYS, FUNCTIONS, case, refused, with_argument
+from definitions import FIELDS
 
 LONGEST = 257
-ARRAYS = ("in", "inout", "out", "space")
 REPLAYED = pathlib.Path(__file__).resolve().parent / "replayed_calls.txt"
-STATUS = {name: value for name, value, _ in c_library.STATUSES}
-FUNCTIONS = {name: parameters for name, parameters, _ in c_library.functions()}
-SIZES = {"u8": 1, "u16": 2, "u32": 4, "u64": 8, "u128": 16, "u192": 24, "usize": 8}
-SIZES |= {it: 8 * c_library.STATE_WORDS for it in ("ghash_state", "polyval_state")}
-SIZES["field"] = 8 * c_library.FIELD_WORDS
 UNWRITTEN = published.UNWRITTEN
-
-
-@dataclasses.dataclass
-class Argument:
-    """What one parameter is given: an array or a scalar as it is before the call, and as it has to be after it."""
-
-    kind: str
-    name: str
-    word: str
-    before: list | None
-    after: list
-    # whether the call at length n takes the first n elements of the array, or entry n of the results
-    cut: bool = True
-
-    def bytes_of(self, values):
-        return b"".join(it.to_bytes(SIZES[self.word], "little") for it in values)
-
-
-@dataclasses.dataclass
-class Case:
-    """A call, or one for each length from 0 to `each`."""
-
-    name: str
-    arguments: list
-    each: int | None = None
-    status: int = 0
-
-
-def case(name, *values, each=None, whole=(), status="BF_OK"):
-    """A case by the values of its parameters in order: a pair, before and after, of what is read and written, the expected values
-    of what is written, how many words of space there are, and the values of what is read. The parameters named in `whole` are not cut."""
-    arguments = []
-    for (kind, parameter, word), value in zip(FUNCTIONS[name], values, strict=True):
-        if kind in ("inout", "state"):
-            before, after = value
-        elif kind in ("out", "result"):
-            before, after = None, value
-        elif kind == "space":
-            before, after = None, [0] * value
-        else:
-            before = after = list(value) if kind == "in" else [value]
-        cut = each is not None and kind in (*ARRAYS, "result") and parameter not in whole
-        arguments.append(Argument(kind, parameter, word, before, after, cut))
-    return Case(name, arguments, each, STATUS[status])
 
 
 def drawn(field, draw, count, pool=None):
@@ -426,90 +378,6 @@ def factor_cases(draw, data, parity):
         yield refused(case("rs_shard_factors", data, parity, present, other, factors), "BF_LENGTH")
 
 
-# Codes of standards and others: a modulus, symbols of a word and of its data, the first root and the step from one to the next.
-CORRECTING_CODES = [
-    (0x187, 255, 223, 112, 11), (0x11D, 204, 188, 0, 1), (0x11D, 26, 16, 0, 1), (0x11B, 85, 9, 1, 3), (0x11D, 2, 1, 0, 1), (0x11B, 255, 1, 7, 2),
-    (0x187, 5, 3, (1 << 64) - 1, (1 << 64) - 2), (0x11D, 3, 2, 5, 85),
-]
-
-# Codes with so few words that all are looked at: of one symbol of data.
-FEW_WORDS = [(0x11D, 2, 1, 0, 1), (0x11D, 5, 1, 0, 1), (0x187, 6, 1, 3, 11), (0x11B, 7, 1, 1, 1)]
-
-# No codes: a modulus that is none of these, no data, nothing but data, words that are too long, and roots that come again.
-NO_CODES = [
-    (0x12D, 5, 3, 0, 1), (0x1D, 5, 3, 0, 1), (1 << 32 | 0x11D, 5, 3, 0, 1), (0x11D, 5, 0, 0, 1), (0x11D, 5, 5, 0, 1), (0x11D, 5, 6, 0, 1),
-    (0x11D, 256, 3, 0, 1), (0x11B, (1 << 64) - 1, 3, 0, 1), (0x11D, 2, 1, 0, 0), (0x187, 86, 9, 0, 3), (0x11D, 4, 2, 5, 85), (0x11D, 2, 1, 0, 255),
-]
-
-
-def correcting_cases(draw):
-    """Codes that correct errors, over many words, of which some are changed."""
-    for code in CORRECTING_CODES:
-        symbols, checks = code[1], code[1] - code[2]
-        for count in (0, 1, 5):
-            words = [definitions.code_word(code, draw.randbytes(code[2])) for _ in range(count)]
-            drawn_ends = [[*it[: code[2]], *draw.randbytes(checks)] for it in words]
-            yield case("code_encode", *code, (sum(drawn_ends, []), sum(words, [])))
-            for at in range(1, count, 2):
-                words[at][draw.randrange(symbols)] ^= 1 << draw.randrange(8)
-            flags = [int(at % 2 == 0) for at in range(count)]
-            values = [definitions.code_syndromes(code, it) for it in words]
-            assert flags == [int(not any(it)) for it in values]
-            yield case("code_syndromes", *code, sum(words, []), sum(values, []))
-            yield case("code_are_words", *code, sum(words, []), flags)
-            # Flags or values of a word that is not there, and a word of which a symbol is not.
-            yield refused(case("code_are_words", *code, sum(words, []), [*flags, 0]), "BF_LENGTH")
-            yield refused(case("code_syndromes", *code, sum(words, []), [*sum(values, []), 0]), "BF_LENGTH")
-            yield refused(case("code_encode", *code, ([*sum(words, []), 7], [])), "BF_LENGTH")
-    for code in NO_CODES:
-        for words in ([], [0] * 10):
-            yield refused(case("code_encode", *code, (words, words)), "BF_CODE")
-            yield refused(case("code_syndromes", *code, words, [0] * 4), "BF_CODE")
-            yield refused(case("code_are_words", *code, words, [0] * 2), "BF_CODE")
-
-
-def correction(code, received, erased, meant):
-    """The cases of some words, with flags and, where no symbol is erased, without: what each becomes, and how many of its symbols change."""
-    after = [old if new is None else new for old, new in zip(received, meant)]
-    counts = [65535 if new is None else sum(a != b for a, b in zip(old, new)) for old, new in zip(received, meant)]
-    flags = sum(erased, [])
-    for given in [flags] if any(flags) else [flags, []]:
-        yield case("code_correct", *code, (sum(received, []), sum(after, [])), given, counts)
-
-
-def correct_cases(draw):
-    """Words with errors and erased symbols, up to as many as a code corrects and beyond."""
-    for code in FEW_WORDS:
-        symbols, checks = code[1], code[1] - code[2]
-        words = [definitions.code_word(code, [it]) for it in range(256)]
-        for count in (0, 1, 2, 3, 20):
-            received, erased = [list(draw.choice(words)) for _ in range(count)], []
-            for it in received:
-                for place in draw.sample(range(symbols), draw.randrange(symbols + 1)):
-                    it[place] = draw.choice((0, draw.getrandbits(8)))
-                erased.append([draw.choice((0, 0, 0, 1, 255)) for _ in it])
-            for flags in (erased, [[0] * symbols for _ in received]):
-                yield from correction(code, received, flags, [definitions.code_meant(checks, words, *it) for it in zip(received, flags)])
-    for code in CORRECTING_CODES:
-        symbols, checks = code[1], code[1] - code[2]
-        for lost in sorted({0, 1, checks // 2, checks}):
-            word = definitions.code_word(code, draw.randbytes(code[2]))
-            places = draw.sample(range(symbols), lost + (checks - lost) // 2)
-            received = [it ^ draw.randrange(1, 256) if at in places else it for at, it in enumerate(word)]
-            erased = [draw.randrange(1, 256) if at in places[:lost] else 0 for at in range(symbols)]
-            # One more than can be erased, in a word of the code.
-            many = [1] * (checks + 1) + [0] * (code[2] - 1)
-            yield from correction(code, [received], [erased], [word])
-            yield from correction(code, [word, received, word], [many, erased, [0] * symbols], [None, word, word])
-    code, words = FEW_WORDS[1], [0] * 15
-    for flags, count in ((14, 3), (16, 3), (15, 2), (15, 4), (5, 3), (0, 2)):
-        yield refused(case("code_correct", *code, (words, words), [0] * flags, [0] * count), "BF_LENGTH")
-    yield refused(case("code_correct", *code, (words[1:], words[1:]), [], [0] * 3), "BF_LENGTH")
-    for code in NO_CODES:
-        yield refused(case("code_correct", *code, (words, words), [], [0] * 3), "BF_CODE")
-        yield refused(case("code_correct", *code, ([], []), [0], []), "BF_CODE")
-
-
 def erasure_cases(draw):
     """Erasure codes by transforms, with shards lost."""
     for data, parity, size in ((1, 1, 1), (2, 1, 5), (3, 9, 4), (4, 2, 17), (5, 3, 33), (10, 6, 8), (16, 4, 3), (17, 20, 2), (1, 31, 2)):
@@ -539,50 +407,6 @@ def erasure_cases(draw):
     yield case("erasure_space", 32768, 32768, [40 << 16])
 
 
-def secret_cases(draw):
-    """Secrets that are split, and restored from shares in any order, as many as are needed and more; and what is refused."""
-    for modulus, needed, count, size in (
-        (0x11B, 2, 2, 1), (0x11B, 3, 5, 16), (0x11D, 2, 5, 33), (0x11D, 4, 4, 7), (0x11B, 2, 255, 2), (0x11D, 20, 30, 3), (0x11B, 255, 255, 1),
-    ):
-        secret, draws = draw.randbytes(size), draw.randbytes((needed - 1) * size)
-        shares = [definitions.share(modulus, secret, draws, index) for index in range(1, count + 1)]
-        split = case("secret_split", modulus, needed, count, secret, draws, list(b"".join(shares)))
-        yield split
-        yield case("secret_split", modulus, needed, count, secret, bytes(len(draws)), list(secret * count))
-        for taken in sorted({needed, min(needed + 1, count), count}):
-            indexes = draw.sample(range(1, count + 1), taken)
-            left = b"".join(shares[it - 1] for it in indexes)
-            yield case("secret_combine", modulus, needed, indexes, left, list(secret))
-            wrong = bytearray(left)
-            wrong[draw.randrange(len(wrong))] ^= 1 << draw.randrange(8)
-            changed = case("secret_combine", modulus, needed, indexes, wrong, list(secret))
-            if taken > needed:
-                yield refused(changed, "BF_UNSOLVABLE")
-            twice = [indexes[-1], *indexes[1:]]
-            for given in ([0, *indexes[1:]], twice):
-                yield refused(case("secret_combine", modulus, needed, given, left, list(secret)), "BF_CODE")
-                # Wrong indexes are told before lengths, and too few shares before both.
-                yield refused(case("secret_combine", modulus, needed, given, b"", list(secret)), "BF_CODE")
-                if taken < 255:
-                    yield refused(case("secret_combine", modulus, 255, given, b"", list(secret)), "BF_TOO_FEW_SHARDS")
-        few = list(range(1, needed))
-        yield refused(case("secret_combine", modulus, needed, few, b"".join(shares[: needed - 1]), list(secret)), "BF_TOO_FEW_SHARDS")
-        for other in (0, 0x1B, 0x11C, 0x1011B, (1 << 64) - 1):
-            yield refused(with_argument(split, 0, before=[other], after=[other]), "BF_CODE")
-            yield refused(case("secret_combine", other, needed, few, b"", list(secret)), "BF_CODE")
-        for few_needed in (0, 1):
-            yield refused(case("secret_combine", modulus, few_needed, few, b"", list(secret)), "BF_CODE")
-            yield refused(with_argument(split, 1, before=[few_needed], after=[few_needed]), "BF_CODE")
-        for other in (needed - 1, 256, (1 << 64) - 1):
-            yield refused(with_argument(split, 2, before=[other], after=[other]), "BF_CODE")
-    yield refused(case("secret_combine", 0x11B, 2, [1 + it % 255 for it in range(256)], [7] * 256, [0]), "BF_CODE")
-    yield refused(case("secret_combine", 0x11B, 2, [1, 2], [], []), "BF_LENGTH")
-    yield refused(case("secret_split", 0x11B, 2, 3, [], [], []), "BF_LENGTH")
-    # The other shares of these bytes are those of SLIP-0039's field and of libgfshare's: 2 times 0x80 tells them apart.
-    for modulus, double in ((0x11B, 0x1B), (0x11D, 0x1D)):
-        yield case("secret_split", modulus, 2, 2, [0], [0x80], [0x80, double])
-
-
 def line_cases(draw):
     """Lines of text: every operation of every field, those that are worked out, and lines with something wrong; each with as much room as its
     answer takes, with more, and with less."""
@@ -602,21 +426,6 @@ def line_cases(draw):
             yield case("answer", line, answer + [UNWRITTEN & 255] * (room - len(answer)), [len(answer)])
         for room in {0, 1, len(answer) - 1}:
             yield refused(case("answer", line, [0] * room, [0]), "BF_LENGTH")
-
-
-def refused(it, status):
-    """The case with another status: everything is as before."""
-    arguments = [
-        dataclasses.replace(a, after=a.before if a.before is not None else a.after, cut=False) for a in it.arguments
-    ]
-    return dataclasses.replace(it, arguments=arguments, each=None, status=STATUS[status])
-
-
-def with_argument(it, place, **changes):
-    """The case with one argument changed."""
-    arguments = list(it.arguments)
-    arguments[place] = dataclasses.replace(arguments[place], **changes)
-    return dataclasses.replace(it, arguments=arguments)
 
 
 def of_length(it, place, length):
@@ -659,8 +468,8 @@ def length_cases(it):
             no_values = it.name == "g128_low_stages" and at == 0 and other == 0
             shards = it.name.startswith("rs_") and it.arguments[at].name == "shards"
             more_space = it.arguments[at].kind == "space" and other > length
-            whole_words = it.name == "code_encode" and other % it.arguments[1].after[0] == 0
-            no_flags = it.name == "code_correct" and at == 6 and other == 0
+            whole_words = it.name in ("code_encode", "code_encode_interleaved") and other % it.arguments[1].after[0] == 0
+            no_flags = it.name in ("code_correct", "code_correct_interleaved") and at == 6 and other == 0
             whole_shards = shards and other and other % (it.arguments[0].after[0] + it.arguments[1].after[0]) == 0
             if other >= 0 and not (power or longer_basis or no_values or more_space or whole_words or no_flags or whole_shards):
                 yield refused(of_length(it, at, other), "BF_LENGTH")
@@ -745,7 +554,7 @@ def empty_cases():
         for counts in itertools.product((0, 1 << 63, most), repeat=taken) if taken else ():
             refusing = ("rs_", "erasure_", "code_", "secret_")
             status = "BF_CODE" if name.startswith(refusing) else "BF_REDUCIBLE" if name == "field_init" else "BF_LENGTH"
-            if name == "secret_combine" and counts[0]:
+            if name.startswith("secret_combine") and counts[0]:
                 status = "BF_TOO_FEW_SHARDS"
             if own in EMPTY and EMPTY[own](*counts):
                 status = "BF_OK"
@@ -781,7 +590,7 @@ def all_cases():
         cases += field_cases(field, draw)
         cases += matrix_cases(field, draw)
     others = (
-        basis_cases, chosen_cases, bit_matrix_cases, stage_cases, tag_cases, code_cases, correcting_cases, correct_cases, erasure_cases, secret_cases, long_cases,
+        basis_cases, chosen_cases, bit_matrix_cases, stage_cases, tag_cases, code_cases, *correcting.CASES, erasure_cases, long_cases,
         line_cases,
     )
     for them in others:

@@ -13,6 +13,7 @@ import signal
 import sys
 import time
 
+import called
 import cases
 
 NARROW = {"u8": ctypes.c_uint8, "u16": ctypes.c_uint16, "u32": ctypes.c_uint32, "u64": ctypes.c_uint64}
@@ -26,7 +27,7 @@ class Buffer:
         self.content = content
         self.memory = ctypes.create_string_buffer(len(content) + 48)
         # An address that a word's own alignment divides and no larger one.
-        alignment = min(cases.SIZES[word], 8)
+        alignment = min(called.SIZES[word], 8)
         start = ctypes.addressof(self.memory) + 16
         start += -start % alignment
         self.address = start if start % (2 * alignment) else start + alignment
@@ -51,7 +52,7 @@ def call(library, it, is_null=False):
         # Of space nothing is said.
         buffers.append((a.name, buffer, None if a.kind == "space" else before if it.status else after))
         arguments.append(ctypes.c_void_p(None if is_null and not after else buffer.address))
-        if a.kind in cases.ARRAYS:
+        if a.kind in called.ARRAYS:
             arguments.append(ctypes.c_size_t(len(a.after)))
     function = library[f"bf_{it.name}"]
     function.restype = ctypes.c_uint32
@@ -117,7 +118,7 @@ def main():
             if said:
                 wrong += 1
                 if wrong < 30:
-                    print(f"check_functions: bf_{it.name}, lengths {[len(a.after) for a in one.arguments if a.kind in cases.ARRAYS]}: {said}")
+                    print(f"check_functions: bf_{it.name}, lengths {[len(a.after) for a in one.arguments if a.kind in called.ARRAYS]}: {said}")
         names.add(it.name)
     if library.bf_version() != cases.definitions.VERSION:
         wrong += 1

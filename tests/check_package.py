@@ -4,6 +4,7 @@ The package is the one that Python finds, as in PYTHONPATH=python BINARY_FIELD_L
 """
 
 import itertools
+import math
 import multiprocessing
 import operator
 import os
@@ -452,6 +453,44 @@ class CorrectingCodes(unittest.TestCase):
             words = sent ^ (np.arange(n) < n - k).astype(np.uint8)
             self.assertEqual(code.decode(words, "codeword", erasures=np.arange(n) < n - k).tolist(), sent.tolist())
 
+    def test_columns_are_words(self):
+        draw = random.Random(7)
+        for n, k, c, step, field in ((255, 223, 112, 11, 0x187), (26, 16, 0, 1, 0x11D), (9, 4, 1, 3, 0x11B)):
+            code = bf.CorrectingCode(n, k, c=c, root_step=step, field=field)
+            for shape in ((), (1,), (3, 2), (40,)):
+                data = np.frombuffer(draw.randbytes(k * math.prod(shape)), np.uint8).reshape(k, *shape)
+                turned = np.moveaxis(data, 0, -1)
+                words = code.encode(data, axis=0)
+                self.assertEqual(np.moveaxis(words, 0, -1).tolist(), code.encode(turned).tolist())
+                self.assertEqual(code.encode(data, "parity", axis=0).tolist(), words[k:].tolist())
+                self.assertFalse(np.any(code.detect(words, axis=0)))
+                received = words.copy()
+                for at in np.ndindex(shape):
+                    for place in draw.sample(range(n), draw.randrange((n - k) // 2 + 2)):
+                        received[(place, *at)] ^= draw.randrange(1, 256)
+                plain = np.moveaxis(received, 0, -1)
+                self.assertEqual(np.moveaxis(code.syndromes(received, axis=0), 0, -1).tolist(), code.syndromes(plain).tolist())
+                self.assertEqual(np.asarray(code.detect(received, axis=0)).tolist(), np.asarray(code.detect(plain)).tolist())
+                rows = np.arange(n) % 7 == 3
+                for erased in (None, rows):
+                    found, numbers = code.decode(received, "codeword", errors=True, erasures=erased, axis=0)
+                    wanted, counts = code.decode(plain, "codeword", errors=True, erasures=erased)
+                    self.assertEqual(np.moveaxis(found, 0, -1).tolist(), wanted.tolist())
+                    self.assertEqual(np.asarray(numbers).tolist(), np.asarray(counts).tolist())
+            self.assertRaises(ValueError, code.encode, data, axis=1)
+            self.assertRaises(ValueError, code.encode, data[:0], axis=0)
+            self.assertRaises(ValueError, code.decode, words, erasures=[True] * 2, axis=0)
+
+    def test_matrices_are_those_of_the_code(self):
+        for code in (bf.CorrectingCode(5, 3), bf.CorrectingCode(9, 4, c=7, root_step=3, field=0x11B)):
+            field = bf.GF(2**8, irreducible_poly=code.field)
+            self.assertFalse((field(code.G) @ field(code.H).T).any())
+            self.assertEqual(code.roots.tolist(), [int(field(code.alpha) ** e) for e in range(code.c, code.c + code.n - code.k)])
+            data = list(range(1, code.k + 1))
+            self.assertEqual((field([data]) @ field(code.G)).tolist(), [code.encode(data).tolist()])
+            word = list(range(code.n))
+            self.assertEqual((field(code.H) @ field([word]).T)[:, 0].tolist(), code.syndromes(word).tolist())
+
     def test_words_near_to_none_stay(self):
         code, words = bf.CorrectingCode(3, 1, c=0), [[2, 6, 4], [2, 6, 5], [9, 8, 7]]
         data, changed = code.decode(words, errors=True)
@@ -476,6 +515,25 @@ class CorrectingCodes(unittest.TestCase):
         self.assertRaises(ValueError, code.encode, [1], output="word")
         for words in ([1, 2], [0] * 6):
             self.assertRaises(ValueError, code.detect, words)
+
+
+class Secrets(unittest.TestCase):
+    """Shares of secrets."""
+
+    def test_wrong_shares_are_named(self):
+        draw = random.Random(8)
+        for field, count, needed in (("aes", 9, 3), ("gfshare", 4, 2), ("aes", 2, 2)):
+            shares = bf.split_secret(b"some secret", count, needed, field=field)
+            self.assertEqual(bf.correct_secret(shares, needed, field=field), (b"some secret", []))
+            wrong = sorted(draw.sample(range(1, count + 1), (count - needed) // 2))
+            given = [(it, bytes([1 ^ data[0]]) + data[1:] if it in wrong else data) for it, data in shares]
+            draw.shuffle(given)
+            secret, found = bf.correct_secret(given, needed, field=field)
+            self.assertEqual((secret, sorted(found)), (b"some secret", wrong))
+        one, other = (bf.split_secret(it, 4, 2) for it in (b"one secret", b"two secret"))
+        self.assertRaisesRegex(ValueError, "more shares are wrong", bf.correct_secret, one[:2] + other[2:], 2)
+        self.assertRaises(ValueError, bf.correct_secret, one[:1], 2)
+
 
 class Bytes(unittest.TestCase):
     """Tags and codes."""

@@ -10,6 +10,7 @@ words before and after the call in hexadecimal, `-` for none.
 import pathlib
 import sys
 
+import called
 import cases
 from definitions import c_library
 
@@ -20,7 +21,7 @@ def text_of(it):
     for a in it.arguments:
         after = a.bytes_of(a.after).hex() or "-"
         before = "-" if a.before is None else a.bytes_of(a.before).hex() or "-"
-        lines.append(f"{a.kind} {cases.SIZES[a.word]} {int(a.cut)} {len(a.after)} {before} {after}")
+        lines.append(f"{a.kind} {called.SIZES[a.word]} {int(a.cut)} {len(a.after)} {before} {after}")
     return "\n".join(lines) + "\n"
 
 
@@ -34,7 +35,7 @@ def caller(name, parameters):
         else:
             constant = "const " if kind in ("in", "scalar") else ""
             arguments.append(f"({constant}{c_word} *)b[{at}].data")
-            if kind in cases.ARRAYS:
+            if kind in called.ARRAYS:
                 arguments.append(f"b[{at}].length")
     return f"static uint32_t call_{name}(struct buffer *b)\n{{\n    return bf_{name}({', '.join(arguments)});\n}}\n"
 
@@ -43,8 +44,8 @@ def main():
     """Writes both files."""
     folder = pathlib.Path(sys.argv[1])
     (folder / "cases.txt").write_text("".join(map(text_of, cases.all_cases())), encoding="ascii")
-    rows = "".join(f'    {{"{name}", call_{name}}},\n' for name in cases.FUNCTIONS)
-    callers = "".join(caller(*it) for it in cases.FUNCTIONS.items())
+    rows = "".join(f'    {{"{name}", call_{name}}},\n' for name in called.FUNCTIONS)
+    callers = "".join(caller(*it) for it in called.FUNCTIONS.items())
     table = f"static const struct function functions[] = {{\n{rows}}};\n"
     (folder / "callers.h").write_text(f"/* Written by tests/write_cases.py. */\n{callers}{table}", encoding="ascii")
 

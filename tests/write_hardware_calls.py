@@ -6,7 +6,7 @@
 import pathlib
 import sys
 
-from cases import SIZES
+from called import SIZES
 from definitions import c_library
 from write_cases import caller
 

@@ -52,7 +52,7 @@ from ._functions import VERSION_TEXT as __version__
 from ._hardware import hardware
 from ._library import processor
 from ._poly import Poly, conway_poly, crt, egcd, gcd, irreducible_poly, lagrange_poly, lcm, primitive_poly
-from ._secrets import combine_secret, split_secret
+from ._secrets import combine_secret, correct_secret, split_secret
 from ._transforms import (
     butterfly_forward,
     butterfly_inverse,
@@ -74,7 +74,7 @@ __all__ = [
     "BinaryField128", "BinaryField16", "BinaryField2", "BinaryField32", "BinaryField4", "BinaryField64",
     "BinaryField8", "CorrectingCode", "FieldArray", "GF", "Gf2", "Ghash", "Ghash128", "Poly", "Poly192", "Poly64",
     "Polyval", "ReedSolomon", "Rijndael8b", "TransformCode", "answer", "butterfly_forward", "butterfly_inverse",
-    "combine_secret", "conway_poly", "crt", "egcd", "from_powers", "gcd", "gcm_ghash", "get_workers", "ghash",
+    "combine_secret", "conway_poly", "correct_secret", "crt", "egcd", "from_powers", "gcd", "gcm_ghash", "get_workers", "ghash",
     "hardware", "inverse_transform", "irreducible_poly", "lagrange_poly", "lcm", "linear_map", "low_stages",
     "polyval", "primitive_poly", "processor", "set_workers", "split_secret", "tags_are_equal", "to_powers",
     "transform", "transform_points",

@@ -32,6 +32,25 @@ def _symbols(value: Any) -> Words:
     return np.asarray(symbols, order="C")
 
 
+def _interleaved(axis: int) -> tuple[str, int]:
+    """What the names of calls end with for words in an axis, and the axis: the last, or the first for words that stand interleaved."""
+    axis = operator.index(axis)
+    if axis not in (-1, 0):
+        raise ValueError("words stand in the last axis, -1, or in the first, 0")
+    return "_interleaved" if axis == 0 else "", axis
+
+
+def _resized(shape: tuple[int, ...], axis: int, count: int) -> tuple[int, ...]:
+    """A shape with another length in the first or last axis."""
+    return (count, *shape[1:]) if axis == 0 else (*shape[:-1], count)
+
+
+def _front(axis: int, count: int, behind: bool = False) -> Any:
+    """What takes so many symbols of each word, or those behind them."""
+    taken = slice(count, None) if behind else slice(count)
+    return taken if axis == 0 else (..., taken)
+
+
 class CorrectingCode:
     """A Reed-Solomon code over bytes that corrects errors: words of `n` symbols, at most 255, of which the first `k` are data. `ReedSolomon`
     is another code, which restores what is known to be lost.
@@ -39,8 +58,9 @@ class CorrectingCode:
     The first symbol is the coefficient of the highest power, and a word is one of the code where its polynomial is 0 at each of n - k roots:
     the powers root_step * c, root_step * (c + 1), .. of the field's generator. The field is given by its modulus, as an integer whose bit i
     is that of x^i: 0x11d (QR codes, DVB) and 0x187 (CCSDS) with the generator 2, and 0x11b (AES) with 3. Instead of `k` there may be the
-    minimum distance `d`, which is n - k + 1. Calls take one word, or arrays of words in their last axis, and return bytes. A word may be
-    shortened: then it lacks symbols of data at its front.
+    minimum distance `d`, which is n - k + 1. Calls take one word, or arrays of words in their last axis, and return bytes; with axis=0 words
+    are the columns of an array, as they stand interleaved, which is faster for many words. A word may be shortened: then it lacks symbols of
+    data at its front.
 
     >>> code = bf.CorrectingCode(15, 9, c=1, field=0x11d)
     >>> code.n, code.k, code.d, code.t
@@ -158,53 +178,88 @@ class CorrectingCode:
         """
         return self.encode([1])
 
+    @property
+    def alpha(self) -> int:
+        """The element whose powers c, c + 1, .. are the roots.
+
+        >>> bf.CorrectingCode.ccsds_223().alpha
+        173
+        """
+        return int(CorrectingCode(2, 1, c=1, root_step=self._step, field=self._field).roots[0])
+
+    @property
+    def G(self) -> Words:
+        """The generator matrix: its rows are the words with one symbol of data that is 1, and data times it is their word.
+
+        >>> bf.CorrectingCode(5, 3).G.tolist()
+        [[1, 0, 0, 120, 224], [0, 1, 0, 28, 48], [0, 0, 1, 6, 8]]
+        """
+        return self.encode(np.eye(self._k, dtype=np.uint8))
+
+    @property
+    def H(self) -> Words:
+        """The parity-check matrix: a row for each root has its powers, and the matrix times a word is its syndromes.
+
+        >>> bf.CorrectingCode(5, 3).H.tolist()
+        [[16, 8, 4, 2, 1], [29, 64, 16, 4, 1]]
+        """
+        return np.ascontiguousarray(self.syndromes(np.eye(self._n, dtype=np.uint8)).T)
+
     def __repr__(self) -> str:
         return f"CorrectingCode({self.n}, {self.k}, c={self.c}, root_step={self.root_step}, field={self.field:#x})"
 
-    def encode(self, message: Any, output: str = "codeword") -> Words:
+    def encode(self, message: Any, output: str = "codeword", axis: int = -1) -> Words:
         """The words with these data, k symbols or fewer; with output="parity" only what stands behind the data.
 
         >>> bf.CorrectingCode(5, 3).encode([[1, 2, 3], [0, 0, 1]], output="parity").tolist()
         [[74, 152], [6, 8]]
+        >>> bf.CorrectingCode(5, 3).encode([[1, 0], [2, 0], [3, 1]], output="parity", axis=0).tolist()
+        [[74, 6], [152, 8]]
         """
         if output not in ("codeword", "parity"):
             raise ValueError('output is "codeword" or "parity"')
         data = _symbols(message)
-        if not data.ndim or not 0 < data.shape[-1] <= self._k:
-            raise ValueError(f"expected 1 to {self._k} symbols of data in the last axis")
-        words = np.zeros((*data.shape[:-1], data.shape[-1] + self._n - self._k), np.uint8)
-        words[..., : data.shape[-1]] = data
-        call("code_encode", *self._of(words.shape[-1]), words)
-        return words if output == "codeword" else words[..., data.shape[-1] :].copy()
+        name, axis = _interleaved(axis)
+        if not data.ndim or not 0 < data.shape[axis] <= self._k:
+            raise ValueError(f"expected 1 to {self._k} symbols of data in axis {axis}")
+        count = data.shape[axis]
+        words = np.zeros(_resized(data.shape, axis, count + self._n - self._k), np.uint8)
+        words[_front(axis, count)] = data
+        call(f"code_encode{name}", *self._of(words.shape[axis]), words)
+        return words if output == "codeword" else words[_front(axis, count, behind=True)].copy()
 
-    def syndromes(self, codeword: Any) -> Words:
-        """The values of words at the roots, in the last axis: all 0 for a word of the code.
+    def syndromes(self, codeword: Any, axis: int = -1) -> Words:
+        """The values of words at the roots, in the same axis: all 0 for a word of the code.
 
         >>> bf.CorrectingCode(5, 3).syndromes([0, 0, 0, 1, 0]).tolist()
         [2, 4]
         """
-        words = self._words(codeword)
-        values = np.empty((*words.shape[:-1], self._n - self._k), np.uint8)
-        call("code_syndromes", *self._of(words.shape[-1]), words, values)
+        name, axis = _interleaved(axis)
+        words = self._words(codeword, axis)
+        values = np.empty(_resized(words.shape, axis, self._n - self._k), np.uint8)
+        call(f"code_syndromes{name}", *self._of(words.shape[axis]), words, values)
         return values
 
-    def detect(self, codeword: Any) -> Any:
+    def detect(self, codeword: Any, axis: int = -1) -> Any:
         """Whether words have errors that are seen: those that are no words of the code. Fewer than d errors are always seen.
 
         >>> code = bf.CorrectingCode(5, 3)
         >>> code.detect(code.encode([1, 2, 3])), code.detect([1, 2, 3, 74, 153])
         (False, True)
         """
+        if _interleaved(axis)[0]:
+            seen = self.syndromes(codeword, axis=axis).any(axis=0)
+            return seen if seen.ndim else bool(seen)
         words = self._words(codeword)
         flags = np.empty(words.shape[:-1], np.uint8)
         call("code_are_words", *self._of(words.shape[-1]), words, flags)
         return flags == 0 if flags.ndim else not flags
 
-    def decode(self, codeword: Any, output: str = "message", errors: bool = False, erasures: Any = None) -> Any:
+    def decode(self, codeword: Any, output: str = "message", errors: bool = False, erasures: Any = None, axis: int = -1) -> Any:
         """The data of words, corrected where they are near enough to a word of the code: where they differ from one at t places beside e erased
         ones, and 2 t + e is at most n - k. With output="codeword" it is that word. `erasures` has True for each symbol that is erased, whatever
-        is read there. A word that is near to none stays as it is. With errors=True also how many symbols of each changed, and -1 where none is
-        near.
+        is read there; with axis=0 it is one for each row, which is erased in every word. A word that is near to none stays as it is. With
+        errors=True also how many symbols of each changed, and -1 where none is near.
 
         >>> code = bf.CorrectingCode(15, 9)
         >>> word = code.encode(b"some data")
@@ -219,25 +274,42 @@ class CorrectingCode:
         """
         if output not in ("codeword", "message"):
             raise ValueError('output is "message" or "codeword"')
-        words = np.array(self._words(codeword), order="C")
+        name, axis = _interleaved(axis)
+        words = np.array(self._words(codeword, axis), order="C")
+        numbers = self._corrected_columns(words, erasures) if name else self._corrected(words, erasures)
+        result = words if output == "codeword" else words[_front(axis, words.shape[axis] - (self._n - self._k))].copy()
+        if not errors:
+            return result
+        return result, numbers if numbers.ndim else int(numbers)
+
+    def _corrected(self, words: Words, erasures: Any) -> Words:
+        """Corrects words in their last axis, and tells how many symbols of each changed."""
         flags = np.zeros(0, np.uint8)
         if erasures is not None:
             flags = np.ascontiguousarray(np.broadcast_to(np.asarray(erasures, bool), words.shape)).view(np.uint8)
         counts = np.empty(words.shape[:-1], np.uint16)
         call("code_correct", *self._of(words.shape[-1]), words, flags, counts)
-        result = words if output == "codeword" else words[..., : words.shape[-1] - (self._n - self._k)].copy()
-        if not errors:
-            return result
         numbers = counts.astype(np.int64)
         numbers[numbers == _NOT_CORRECTED] = -1
-        return result, numbers if numbers.ndim else int(numbers)
+        return numbers
 
-    def _words(self, codeword: Any) -> Words:
+    def _corrected_columns(self, words: Words, erasures: Any) -> Words:
+        """Corrects words in their first axis, and tells how many symbols of each changed."""
+        flags = np.zeros(0, np.uint8)
+        if erasures is not None:
+            flags = np.ascontiguousarray(np.broadcast_to(np.asarray(erasures, bool), words.shape[:1])).view(np.uint8)
+        received = words.copy()
+        values = np.empty(_resized(words.shape, 0, self._n - self._k), np.uint8)
+        corrected = np.zeros(words.shape[1:], np.bool_)
+        call("code_correct_interleaved", *self._of(words.shape[0]), words, flags, values, corrected)
+        return np.where(corrected, (words != received).sum(axis=0), -1)
+
+    def _words(self, codeword: Any, axis: int = -1) -> Words:
         """Words, which may be shortened."""
         words = _symbols(codeword)
         checks = self._n - self._k
-        if not words.ndim or not checks < words.shape[-1] <= self._n:
-            raise ValueError(f"expected {checks + 1} to {self._n} symbols of a word in the last axis")
+        if not words.ndim or not checks < words.shape[axis] <= self._n:
+            raise ValueError(f"expected {checks + 1} to {self._n} symbols of a word in axis {axis}")
         return words
 
     def _of(self, symbols: int) -> tuple[int, int, int, int, int]:

@@ -29,6 +29,8 @@ WORDS |= {it: np.dtype([("words", "<u8", (STATE_WORDS,))], align=True) for it in
 WORDS["field"] = np.dtype([("words", "<u8", (FIELD_WORDS,))], align=True)
 # What the functions of a fixed field are for one that is chosen, by their names.
 CHOSEN: dict[str, Callable[..., None]] = {}
+# Whether a word was corrected.
+WORDS["bool"] = np.dtype(np.bool_)
 # A place in an array, as columns of matrices are told.
 WORDS["usize"] = PLACE = np.dtype(np.uintp)
 # The functions whose result at a place is made of what is at that place of the arrays, and of all of those that are taken whole.

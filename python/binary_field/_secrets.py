@@ -9,7 +9,7 @@ from typing import Any, Iterable
 import numpy as np
 
 from ._bytes import _bytes
-from ._library import call
+from ._library import Words, call
 
 # The fields of bytes by their moduli.
 _MODULI = {"aes": 0x11B, "gfshare": 0x11D}
@@ -47,7 +47,7 @@ def split_secret(secret: Any, shares: int, needed: int, *, field: str = "aes") -
 
 def combine_secret(shares: Iterable[tuple[int, Any]], needed: int, *, field: str = "aes") -> bytes:
     """The secret of shares, pairs of an index and bytes, of which `needed` are needed. Of more all have to be those of one secret, and it is
-    not told which is wrong; whether bytes of `needed` shares are right cannot be told.
+    not told which is wrong, as `correct_secret` does; whether bytes of `needed` shares are right cannot be told.
 
     >>> (one, first), *others = bf.split_secret(b"a key", shares=4, needed=2)
     >>> wrong = bytes([first[0] ^ 1]) + first[1:]
@@ -55,6 +55,34 @@ def combine_secret(shares: Iterable[tuple[int, Any]], needed: int, *, field: str
     Traceback (most recent call last):
     ValueError: a share is wrong, or is of another secret
     """
+    indexes, rows, secret = _given(shares, needed)
+    try:
+        call("secret_combine", _modulus(field), operator.index(needed), indexes, rows, secret)
+    except np.linalg.LinAlgError:
+        raise ValueError("a share is wrong, or is of another secret") from None
+    return secret.tobytes()
+
+
+def correct_secret(shares: Iterable[tuple[int, Any]], needed: int, *, field: str = "aes") -> tuple[bytes, list[int]]:
+    """The secret of shares some of which may be wrong, and the indexes of these. A share is wrong if any of its bytes is, and of n shares up
+    to (n - needed) // 2 may be. More are an error, unless they are as near to the shares of another secret.
+
+    >>> (one, first), *others = bf.split_secret(b"a key", shares=4, needed=2)
+    >>> wrong = bytes([first[0] ^ 1]) + first[1:]
+    >>> bf.correct_secret([(one, wrong), *others], needed=2)
+    (b'a key', [1])
+    """
+    indexes, rows, secret = _given(shares, needed)
+    wrong = np.zeros(indexes.size, np.uint8)
+    try:
+        call("secret_combine_correcting", _modulus(field), operator.index(needed), indexes, rows, secret, wrong)
+    except np.linalg.LinAlgError:
+        raise ValueError("more shares are wrong, or of another secret, than can be told") from None
+    return secret.tobytes(), indexes[wrong != 0].tolist()
+
+
+def _given(shares: Iterable[tuple[int, Any]], needed: int) -> tuple[Words, Words, Words]:
+    """Shares as a call takes them, of which so many are needed: their indexes, their bytes one after the other, and room for the secret."""
     given = [(operator.index(index), _bytes(it)) for index, it in shares]
     if any(not 1 <= index <= 255 for index, _ in given):
         raise ValueError("an index is a number from 1 to 255")
@@ -65,9 +93,4 @@ def combine_secret(shares: Iterable[tuple[int, Any]], needed: int, *, field: str
     if not 2 <= operator.index(needed) <= len(given):
         raise ValueError(f"expected from 2 to {len(given)} shares to be needed, since there are so many")
     indexes, rows = np.array([it for it, _ in given], np.uint8), np.concatenate([it for _, it in given])
-    secret = np.zeros(given[0][1].size, np.uint8)
-    try:
-        call("secret_combine", _modulus(field), operator.index(needed), indexes, rows, secret)
-    except np.linalg.LinAlgError:
-        raise ValueError("a share is wrong, or is of another secret") from None
-    return secret.tobytes()
+    return indexes, rows, np.zeros(given[0][1].size, np.uint8)

@@ -188,4 +188,57 @@ impl CorrectingCode {
             call!(bf_code_correct: self.modulus, self.symbols, self.data, self.first_root, self.root_step, [mut words], [erasures], [mut corrected]),
         )
     }
+
+    /// Writes the symbols behind the data of each word, of words that stand interleaved: the first symbols of all words, one after the other,
+    /// then the second symbols. It fails with `Error::Length` where the slice does not have whole words.
+    ///
+    /// ```
+    /// let mut words = [2, 0, 0, 0, 0, 0];
+    /// binary_field::CorrectingCode::qr(3, 1)?.encode_interleaved(&mut words)?;
+    /// assert_eq!(words, [2, 0, 6, 0, 4, 0]);
+    /// # Ok::<(), binary_field::Error>(())
+    /// ```
+    pub fn encode_interleaved(&self, words: &mut [u8]) -> Result<(), Error> {
+        Error::of(
+            call!(bf_code_encode_interleaved: self.modulus, self.symbols, self.data, self.first_root, self.root_step, [mut words]),
+        )
+    }
+
+    /// Writes the values of interleaved words at the roots: those of all words at a root stand one after the other. It fails with
+    /// `Error::Length` where a slice has another length.
+    ///
+    /// ```
+    /// let mut values = [0; 4];
+    /// binary_field::CorrectingCode::qr(3, 1)?.syndromes_interleaved(&[0, 2, 1, 6, 0, 4], &mut values)?;
+    /// assert_eq!(values, [1, 0, 2, 0]);
+    /// # Ok::<(), binary_field::Error>(())
+    /// ```
+    pub fn syndromes_interleaved(&self, words: &[u8], values: &mut [u8]) -> Result<(), Error> {
+        Error::of(
+            call!(bf_code_syndromes_interleaved: self.modulus, self.symbols, self.data, self.first_root, self.root_step, [words], [mut values]),
+        )
+    }
+
+    /// Corrects each of the interleaved words as [`CorrectingCode::correct`] does, and writes whether it could. `erasures` has a flag for the
+    /// symbols of all words at each place, as one packet has them, or is empty where none is erased. `values` becomes what
+    /// [`CorrectingCode::syndromes_interleaved`] writes of the received words. It fails with `Error::Length` where a slice has another length.
+    ///
+    /// ```
+    /// let code = binary_field::CorrectingCode::qr(3, 1)?;
+    /// let (mut words, mut values, mut corrected) = ([2, 9, 6, 8, 5, 7], [0; 4], [false; 2]);
+    /// code.correct_interleaved(&mut words, &[], &mut values, &mut corrected)?;
+    /// assert_eq!((words, corrected), ([2, 9, 6, 8, 4, 7], [true, false]));
+    /// # Ok::<(), binary_field::Error>(())
+    /// ```
+    pub fn correct_interleaved(
+        &self,
+        words: &mut [u8],
+        erasures: &[bool],
+        values: &mut [u8],
+        corrected: &mut [bool],
+    ) -> Result<(), Error> {
+        Error::of(
+            call!(bf_code_correct_interleaved: self.modulus, self.symbols, self.data, self.first_root, self.root_step, [mut words], [erasures], [mut values], [mut corrected]),
+        )
+    }
 }

@@ -3344,6 +3344,56 @@ unsafe extern "C" {
         corrected: *mut u16,
         corrected_length: usize,
     ) -> u32;
+    /// The same as bf_code_encode, of words that stand interleaved: the first symbols of all words, one after the
+    /// other, then the second symbols. BF_CODE if modulus is none of those above, data is 0 or not below symbols,
+    /// symbols is above 255, or a power of g^root_step with an exponent from 1 to symbols - 1 is 1. BF_LENGTH unless
+    /// words has a multiple of symbols.
+    pub fn bf_code_encode_interleaved(
+        modulus: u64,
+        symbols: usize,
+        data: usize,
+        first_root: u64,
+        root_step: u64,
+        words: *mut u8,
+        words_length: usize,
+    ) -> u32;
+    /// syndromes: the same as bf_code_syndromes, of words that stand interleaved, whose values do too: those of all
+    /// words at a root stand one after the other. BF_CODE if modulus is none of those above, data is 0 or not below
+    /// symbols, symbols is above 255, or a power of g^root_step with an exponent from 1 to symbols - 1 is 1.
+    /// BF_LENGTH unless words has a multiple of symbols, and syndromes symbols - data for each word.
+    pub fn bf_code_syndromes_interleaved(
+        modulus: u64,
+        symbols: usize,
+        data: usize,
+        first_root: u64,
+        root_step: u64,
+        words: *const u8,
+        words_length: usize,
+        syndromes: *mut u8,
+        syndromes_length: usize,
+    ) -> u32;
+    /// Corrects each word as bf_code_correct does, of words that stand interleaved, and writes to corrected whether
+    /// it could. Symbol i of every word is erased where byte i of erasures is not 0. To syndromes it writes the
+    /// values of the received words, as bf_code_syndromes_interleaved does. A bool is the byte 0 or 1, before the
+    /// call too. BF_CODE if modulus is none of those above, data is 0 or not below symbols, symbols is above 255, or
+    /// a power of g^root_step with an exponent from 1 to symbols - 1 is 1. BF_LENGTH unless words has a multiple of
+    /// symbols, erasures one byte for each symbol of a word or none, syndromes symbols - data for each word, and
+    /// corrected one for each.
+    pub fn bf_code_correct_interleaved(
+        modulus: u64,
+        symbols: usize,
+        data: usize,
+        first_root: u64,
+        root_step: u64,
+        words: *mut u8,
+        words_length: usize,
+        erasures: *const u8,
+        erasures_length: usize,
+        syndromes: *mut u8,
+        syndromes_length: usize,
+        corrected: *mut bool,
+        corrected_length: usize,
+    ) -> u32;
     /// length: how many words of space each call of the code takes: 40 times the least power of two that is at least
     /// data, counted up to a power of two, and parity together. BF_CODE if data and parity are not both at least 1,
     /// or data, counted up to a power of two, and parity are together more than 65536.
@@ -3432,6 +3482,24 @@ unsafe extern "C" {
         shares_length: usize,
         secret: *mut u8,
         secret_length: usize,
+    ) -> u32;
+    /// Restores a secret as bf_secret_combine does, of shares some of which may be wrong, and writes to wrong for
+    /// each share 1 where it is wrong, else 0. A share is wrong if any of its bytes is, and of n shares up to (n -
+    /// needed) / 2 may be. BF_CODE if modulus is another number. BF_LENGTH unless wrong has a byte for each of
+    /// indexes. BF_CODE if needed is below 2. BF_TOO_FEW_SHARDS unless there are at least needed indexes. BF_CODE if
+    /// there are more than 255 indexes, one is 0, or two are equal. BF_LENGTH unless secret has a byte or more, and
+    /// shares as many for each of indexes. BF_UNSOLVABLE unless so few shares are wrong.
+    pub fn bf_secret_combine_correcting(
+        modulus: u64,
+        needed: usize,
+        indexes: *const u8,
+        indexes_length: usize,
+        shares: *const u8,
+        shares_length: usize,
+        secret: *mut u8,
+        secret_length: usize,
+        wrong: *mut u8,
+        wrong_length: usize,
     ) -> u32;
     /// Writes to the front of answer what the program binfield answers to the line, as 41 to t8 mul 10 10, without a
     /// line feed; written is how many bytes that is, at most 48, and the bytes of answer behind them stay. BF_LENGTH

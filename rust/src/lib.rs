@@ -103,7 +103,7 @@ pub use prime::{Order, PrimeField, PrimeField32, PrimeField64, QuotientMap};
 pub use processor::processor;
 pub use raw_data::RawDataSerializable;
 pub use ring::{Powers, PrimeCharacteristicRing};
-pub use secrets::{ShareField, combine_secret, split_secret};
+pub use secrets::{ShareField, combine_secret, correct_secret, split_secret};
 pub use space::{
     Algebra, AlgebraIdentity, BasedVectorSpace, ExtensionField, HasFrobenius, HasSubfield,
     TowerLevel,

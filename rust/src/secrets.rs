@@ -56,7 +56,8 @@ pub fn split_secret(
 }
 
 /// Writes the secret of shares with these indexes, of which `needed` are needed; they stand one after the other. Of more all have to be
-/// those of one secret, and it is not told which is wrong; whether bytes of `needed` shares are right cannot be told.
+/// those of one secret, and it is not told which is wrong, as [`correct_secret`] does; whether bytes of `needed` shares are right cannot be
+/// told.
 ///
 /// `Error::TooFewShards` where there are fewer; `Error::Code` where `needed` is below 2, there are more than 255, an index is 0, or two
 /// are equal; `Error::Length` where `secret` is empty, or the shares do not have its length; `Error::Unsolvable` where they are not those
@@ -69,4 +70,36 @@ pub fn combine_secret(
     secret: &mut [u8],
 ) -> Result<(), Error> {
     Error::of(call!(bf_secret_combine: field.modulus(), needed, [indexes], [shares], [mut secret]))
+}
+
+/// Restores a secret as [`combine_secret`] does, from shares some of which may be wrong, and writes which: a share is wrong if any of its
+/// bytes is, and of n shares up to (n - `needed`) / 2 may be.
+///
+/// The errors are those of [`combine_secret`], and `Error::Length` also where there is not one flag for each share; it is
+/// `Error::Unsolvable` where more shares are wrong, unless they are as near to the shares of another secret.
+///
+/// ```
+/// use binary_field::{ShareField, correct_secret, split_secret};
+///
+/// // Here the draws are no secret.
+/// let (secret, draws) = (*b"key", [7, 77, 177]);
+/// let mut shares = [0; 12];
+/// split_secret(ShareField::Rijndael, 2, 4, &secret, &draws, &mut shares)?;
+/// shares[4] ^= 1;
+/// let (mut again, mut wrong) = ([0; 3], [false; 4]);
+/// correct_secret(ShareField::Rijndael, 2, &[1, 2, 3, 4], &shares, &mut again, &mut wrong)?;
+/// assert_eq!((again, wrong), (secret, [false, true, false, false]));
+/// # Ok::<(), binary_field::Error>(())
+/// ```
+pub fn correct_secret(
+    field: ShareField,
+    needed: usize,
+    indexes: &[u8],
+    shares: &[u8],
+    secret: &mut [u8],
+    wrong: &mut [bool],
+) -> Result<(), Error> {
+    Error::of(
+        call!(bf_secret_combine_correcting: field.modulus(), needed, [indexes], [shares], [mut secret], [mut wrong]),
+    )
 }

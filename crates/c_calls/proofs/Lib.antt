@@ -6,6 +6,7 @@ mod ErasureCounts
 mod ErasureRestored
 mod FactorsTold
 mod FlaggedPlaces
+mod InterleavedWords
 pub mod LowNumbers
 mod ManyWords
 mod PackedRows

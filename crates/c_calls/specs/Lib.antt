@@ -6,6 +6,7 @@ pub mod Codes
 pub mod Erasure
 pub mod Fields
 pub mod Fits
+pub mod InterleavedCodes
 pub mod Linear
 pub mod Lines
 pub mod Low

@@ -1,8 +1,10 @@
 -- Calls that share a secret. A number names the field of bytes whose modulus it is: 0x11b that of AES, and 0x11d that of libgfshare.
-use Rattle.std.specs.Prelude.{◌≡◌, ◌≢◌, ℕ, ◌-◌, ◌*◌, ◌<◌, ◌≤◌, List, length}
-use Rattle.secret_sharing.specs.Fields.{modulus_of}
-use Rattle.secret_sharing.specs.Refusals.{AreDistinct, AreNonzero}
+use Rattle.std.specs.Prelude.{◌≡◌, ◌≢◌, ℕ, ◌-◌, ◌*◌, ◌<◌, ◌≤◌, List, cond, length, slice_index}
+use Rattle.field_base.specs.Powers.{value_of}
+use Rattle.secret_sharing.specs.Fields.{modulus_of, product_in}
+use Rattle.secret_sharing.specs.Refusals.{AreDistinct, AreNonzero, AreShares}
 use Rattle.secret_sharing.specs.Sharing.{AreSplit, IsCombined, LieOnPolynomials}
+use Rattle.secret_sharing.specs.Wrong.{AreNearPolynomials, is_wrong_share}
 use Rattle.secret_sharing.specs.declared.field.ShareField.{ShareField}
 use Rattle.c_calls.specs.Bytes.{CallOfCode}
 use Rattle.c_calls.specs.declared.status.TheConstants.{OK, LENGTH, CODE, TOO_FEW_SHARDS, UNSOLVABLE}
@@ -53,3 +55,35 @@ pub record CombinesShares (modulus k : ℕ) (indexes shares old new : List ℕ) 
       → length shares ≡ length indexes * length old → Agree modulus k indexes (length old) shares
       → (status ≡ OK) × ((field : ShareField) → modulus_of field ≡ modulus → IsCombined field k indexes shares new) × (length new ≡ length old)
   pub kept : status ≢ OK → new ≡ old
+
+-- for the field of that modulus there are polynomials of k coefficients that few shares miss
+abbrev pub AreNear : ℕ → ℕ → List ℕ → ℕ → List ℕ → Type 0
+AreNear modulus k indexes size shares =
+    (field : ShareField) × (modulus_of field ≡ modulus) × (polynomials : ℕ → List ℕ)
+    × AreNearPolynomials field k indexes size shares polynomials
+
+-- a secret is the values at 0 of polynomials, and a byte for each share says whether it misses them
+pub record IsRightSecret (field : ShareField) (indexes shares : List ℕ) (polynomials : ℕ → List ℕ) (secret wrong : List ℕ) : Type 0 where
+  pub bytes : (j : ℕ) → j < length secret → slice_index secret j ≡ value_of 1 (product_in field) (λ c. c) (polynomials j) 0
+  pub named : (i : ℕ) → i < length indexes
+      → slice_index wrong i ≡ cond (is_wrong_share field indexes (length secret) shares polynomials i) 1 0
+
+-- a call that restores a secret from shares, some of which may be wrong, and says which: that there is no such field is told first, then that
+-- there is not one answer for each share, and then what `CombinesShares` tells
+pub record CorrectsShares (modulus k : ℕ) (indexes shares old old_wrong new new_wrong : List ℕ) (status : ℕ) : Type 0 where
+  pub code : ¬ IsShareModulus modulus → status ≡ CODE
+  pub answers : IsShareModulus modulus → length old_wrong ≢ length indexes → status ≡ LENGTH
+  pub needed : IsShareModulus modulus → length old_wrong ≡ length indexes → k < 2 → status ≡ CODE
+  pub few : IsShareModulus modulus → length old_wrong ≡ length indexes → 2 ≤ k → length indexes < k → status ≡ TOO_FEW_SHARDS
+  pub wrong_indexes : IsShareModulus modulus → length old_wrong ≡ length indexes → 2 ≤ k → k ≤ length indexes → ¬ AreIndexes indexes
+      → status ≡ CODE
+  pub wrong_lengths : IsShareModulus modulus → length old_wrong ≡ length indexes → 2 ≤ k → k ≤ length indexes → AreIndexes indexes
+      → ¬ ((length old ≢ 0) × (length shares ≡ length indexes * length old)) → status ≡ LENGTH
+  pub far : IsShareModulus modulus → length old_wrong ≡ length indexes → AreShares k indexes (length old) (length shares)
+      → ¬ AreNear modulus k indexes (length old) shares → status ≡ UNSOLVABLE
+  pub ok : IsShareModulus modulus → length old_wrong ≡ length indexes → AreShares k indexes (length old) (length shares)
+      → AreNear modulus k indexes (length old) shares
+      → (status ≡ OK) × (length new ≡ length old) × (length new_wrong ≡ length old_wrong)
+      × ((field : ShareField) (polynomials : ℕ → List ℕ) → modulus_of field ≡ modulus
+      → AreNearPolynomials field k indexes (length old) shares polynomials → IsRightSecret field indexes shares polynomials new new_wrong)
+  pub kept : status ≢ OK → (new ≡ old) × (new_wrong ≡ old_wrong)

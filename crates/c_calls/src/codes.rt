@@ -27,9 +27,8 @@ pub fn encode(
 ) -> u32
     ensures { EncodesWords modulus word_length dimension first_root root_step words.old words.new result }
 {
-    let code = match code_of(modulus, word_length, dimension, first_root, root_step) {
-        Some(code) => code,
-        None => return status::CODE,
+    let Some(code) = code_of(modulus, word_length, dimension, first_root, root_step) else {
+        return status::CODE;
     };
     if words.len() % code.word_length() != 0 {
         return status::LENGTH;
@@ -51,9 +50,8 @@ pub fn syndromes(
 ) -> u32
     ensures { WritesSyndromes modulus word_length dimension first_root root_step words.now values.old values.new result }
 {
-    let code = match code_of(modulus, word_length, dimension, first_root, root_step) {
-        Some(code) => code,
-        None => return status::CODE,
+    let Some(code) = code_of(modulus, word_length, dimension, first_root, root_step) else {
+        return status::CODE;
     };
     let count = words.len() / code.word_length();
     let checks = code.word_length() - code.dimension();
@@ -77,9 +75,8 @@ pub fn are_words(
 ) -> u32
     ensures { TellsCodeWords modulus word_length dimension first_root root_step words.now flags.old flags.new result }
 {
-    let code = match code_of(modulus, word_length, dimension, first_root, root_step) {
-        Some(code) => code,
-        None => return status::CODE,
+    let Some(code) = code_of(modulus, word_length, dimension, first_root, root_step) else {
+        return status::CODE;
     };
     if words.len() % code.word_length() != 0 || flags.len() != words.len() / code.word_length() {
         return status::LENGTH;
@@ -105,9 +102,8 @@ pub fn correct(
     ensures { CorrectsWords modulus word_length dimension first_root root_step erasures.now words.old corrected.old words.new corrected.new
         result }
 {
-    let code = match code_of(modulus, word_length, dimension, first_root, root_step) {
-        Some(code) => code,
-        None => return status::CODE,
+    let Some(code) = code_of(modulus, word_length, dimension, first_root, root_step) else {
+        return status::CODE;
     };
     if words.len() % code.word_length() != 0
         || corrected.len() != words.len() / code.word_length()
@@ -210,7 +206,7 @@ fn correct_word(code: &CorrectingCode, word: &mut [u8], flags: &[u8]) -> u16
 }
 
 // Writes the places of the flags that are not 0, and says how many there are.
-fn list_places(flags: &[u8], places: &mut [usize; 256]) -> usize
+pub(crate) fn list_places(flags: &[u8], places: &mut [usize; 256]) -> usize
     requires { length flags.now ≤ 256 }
     ensures few { result ≤ length flags.now }
     ensures listed { (i : ℕ) → is_listed (take result places.new) i ≡ is_flagged flags.now i }
@@ -226,7 +222,7 @@ fn list_places(flags: &[u8], places: &mut [usize; 256]) -> usize
 }
 
 // The code with these numbers.
-fn code_of(
+pub(crate) fn code_of(
     modulus: u64,
     word_length: u64,
     dimension: u64,
@@ -238,9 +234,8 @@ fn code_of(
         × (code.root ≡ code_root code.field root_step)) }
     ensures none { IsNone result → ¬ HasCorrectingCode modulus word_length dimension root_step }
 {
-    let field = match field_with(modulus) {
-        Some(field) => field,
-        None => return None,
+    let Some(field) = field_with(modulus) else {
+        return None;
     };
     match CorrectingCode::new(
         field,

@@ -1,8 +1,8 @@
 //! The calls of other languages: on slices of words over any field, over words of 128 bits in the field of GHASH, the values of transforms
 //! and linear maps, messages, shards, shares of secrets and lines of text, in the module `fields` over fields that the caller chooses, in
-//! `matrices` and `bit_matrices` on matrices of words and of packed bits, and in `codes` on words of codes that correct errors. A call
-//! compares the lengths, refuses words that are no elements, and returns a status. On every status but `OK` what it would have written is
-//! as before; what it works in is lost. None takes memory.
+//! `matrices` and `bit_matrices` on matrices of words and of packed bits, and in `codes` and `interleaved_codes` on words of codes that
+//! correct errors. A call compares the lengths, refuses words that are no elements, and returns a status. On every status but `OK` what it
+//! would have written is as before; what it works in is lost. None takes memory.
 #![tactic(auto)]
 
 pub mod bit_matrices;
@@ -12,6 +12,7 @@ mod field_operations;
 mod field_words;
 pub mod fields;
 pub mod in_place;
+pub mod interleaved_codes;
 mod linear;
 mod lines;
 mod many;
@@ -41,7 +42,7 @@ pub use crate::messages::{
     gcm_ghash, gcm_hash_end, hash, hash_begin, hash_end, hash_pad, hash_update, tags_are_equal,
 };
 pub use crate::scalars::{Words, truncate_all, truncated};
-pub use crate::secrets::{combine_shares, split_secret};
+pub use crate::secrets::{combine_shares, correct_shares, split_secret};
 pub use crate::shards::{
     add_multiple, add_shard, encode, encode_prepared, factors_of, prepare, reconstruct,
     reconstruct_data, tables_length, verify, verify_prepared,
