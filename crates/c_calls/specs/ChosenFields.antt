@@ -1,12 +1,13 @@
 -- What calls over a field that the caller chooses do: fields modulo any irreducible polynomial of degree 1 to 128, by words that the caller keeps.
-use Rattle.std.specs.Prelude.{◌≡◌, ◌≢◌, ℕ, ◌^◌, ◌<◌, List}
+use Rattle.std.specs.Prelude.{◌≡◌, ◌≢◌, ℕ, ◌%◌, ◌^◌, ◌<◌, List}
 use Rattle.field_base.specs.Powers.{sum_of_squarings}
-use Rattle.any_field.specs.Contexts.{IsFieldModulus, field_product}
+use Rattle.any_field.specs.Contexts.{IsFieldModulus, field_product, with_top}
+use Rattle.any_field.specs.Values.{IsEmbeddingOf, binary_value}
 use Rattle.many_words.specs.Fields.{WordField, field_of}
 use Rattle.c_calls.specs.Calls.{CallOnEach, CallOnTwo}
 use Rattle.c_calls.specs.Fields.{wide_number}
 use Rattle.c_calls.specs.declared.field_words.ChosenField.{ChosenField}
-use Rattle.c_calls.specs.declared.status.TheConstants.{OK, REDUCIBLE}
+use Rattle.c_calls.specs.declared.status.TheConstants.{OK, REDUCIBLE, UNSOLVABLE}
 use Rattle.c_calls.specs.declared.wide.Wide.{Wide}
 
 -- the polynomials modulo x^degree + tail, in words of 128 bits; no generator of theirs is named
@@ -42,3 +43,39 @@ TakesTraces field xs old new status = CallOnEach field (λ x y. y ≡ sum_of_squ
 abbrev pub TakesQuotients : WordField Wide → List Wide → List Wide → List Wide → List Wide → ℕ → Type 0
 TakesQuotients field xs ys old new status =
     CallOnTwo field (λ x y q. (q < 2 ^ field.width) × (y ≢ 0 → field.times q y ≡ x) × (y ≡ 0 → q ≡ 0)) xs ys old new status
+
+-- the value at a point of the field modulo x^degree + tail of the polynomial that a number is
+abbrev pub value_in : ℕ → ℕ → Wide → ℕ → ℕ
+value_in degree tail point = binary_value (field_product degree tail) (wide_number point)
+
+module _ (source_degree source_tail degree tail : ℕ) where
+  -- the point of the second field is a root of the modulus of the first
+  abbrev pub IsRootIn : Wide → Type 0
+  IsRootIn point = value_in degree tail point (with_top source_degree source_tail) ≡ 0
+
+  -- a call that writes a root of the modulus of the first field in the second, an element of that: exactly where the degree of the first
+  -- divides that of the second
+  pub record FindsARoot (old new : Wide) (status : ℕ) : Type 0 where
+    pub found : degree % source_degree ≡ 0 → (status ≡ OK) × IsRootIn new × (wide_number new < 2 ^ degree)
+    pub none : degree % source_degree ≢ 0 → status ≡ UNSOLVABLE
+    pub kept : status ≢ OK → new ≡ old
+
+  -- a call that writes the values at a root of the polynomials that elements of the first field are: their images in the second by an
+  -- embedding. A point that is no root is told first
+  pub record Embeds (root : Wide) (xs old new : List Wide) (status : ℕ) : Type 0 where
+    pub images : IsRootIn root → CallOnEach (residue_field source_degree source_tail) (λ x y. y ≡ value_in degree tail root x) xs old new status
+    pub embedding : IsRootIn root → IsEmbeddingOf source_degree degree (field_product source_degree source_tail) (field_product degree tail)
+        (value_in degree tail root)
+    pub other : ¬ IsRootIn root → status ≡ UNSOLVABLE
+    pub kept : status ≢ OK → new ≡ old
+
+-- the same over two fields by their words
+abbrev pub FindsARootOver : ChosenField → ChosenField → Wide → Wide → ℕ → Type 0
+FindsARootOver source target old new status =
+    OverField source (OverField target (FindsARoot source.degree (wide_number source.tail) target.degree (wide_number target.tail) old new status)
+    old new status) old new status
+
+abbrev pub EmbedsOver : ChosenField → ChosenField → Wide → List Wide → List Wide → List Wide → ℕ → Type 0
+EmbedsOver source target root xs old new status =
+    OverField source (OverField target (Embeds source.degree (wide_number source.tail) target.degree (wide_number target.tail) root xs old new status)
+    old new status) old new status

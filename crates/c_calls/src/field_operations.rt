@@ -3,8 +3,9 @@ ghost use Rattle.std.specs.Prelude.{◌≡◌, ◌≢◌, ◌<◌, ◌^◌, ℕ,
 ghost use Rattle.field_base.specs.Field.{IsInverseOrZero};
 ghost use Rattle.field_base.specs.Powers.{power, sum_of_squarings};
 ghost use Rattle.any_field.specs.Contexts.{field_product};
+ghost use Rattle.any_field.specs.Values.{binary_value};
 
-use any_field::BinaryExtension;
+use any_field::{BinaryExtension, Embedding};
 
 /// An operation on one element.
 pub(crate) trait AtOne {
@@ -47,6 +48,23 @@ impl AtOne for Multiple {
 
     fn at(&self, x: u128) -> u128 {
         self.field.multiply(x, self.scalar)
+    }
+}
+
+/// The image by an embedding.
+#[derive(Drop)]
+pub(crate) struct Embedded {
+    pub(crate) map: Embedding,
+}
+
+impl AtOne for Embedded {
+    ghost width = { λ operation. operation.map.source.degree };
+
+    ghost gives = { λ operation x y. y ≡ binary_value (field_product operation.map.target.degree operation.map.target.tail)
+        operation.map.root x };
+
+    fn at(&self, x: u128) -> u128 {
+        self.map.image(x)
     }
 }
 

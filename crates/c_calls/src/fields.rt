@@ -5,17 +5,19 @@ ghost use Rattle.any_field.specs.Contexts.{IsFieldModulus, field_product};
 ghost use Rattle.many_words.specs.Words.{AreElements};
 ghost use Rattle.c_calls.specs.Calls.{Adds, CallOnEach, CallOnTwo, Evaluates, Inverts, Multiplies, MultipliesBy};
 ghost use Rattle.c_calls.specs.Calls.{RaisesTo, Squares, TakesDotProduct, TakesRoots};
-ghost use Rattle.c_calls.specs.ChosenFields.{NamesAField, OverField, PreparesField, TakesQuotients, TakesTraces};
+ghost use Rattle.c_calls.specs.ChosenFields.{Embeds, EmbedsOver, FindsARoot, FindsARootOver, NamesAField, OverField, PreparesField};
+ghost use Rattle.c_calls.specs.ChosenFields.{TakesQuotients, TakesTraces};
 ghost use Rattle.c_calls.specs.ChosenFields.{chosen_field, residue_field};
 ghost use Rattle.c_calls.specs.Fields.{wide_number};
 
 use crate::field_operations::{
-    AtOne, AtTwo, Inverted, Multiple, Quotient, Raised, Rooted, Squared, Times, Together, Traced,
+    AtOne, AtTwo, Embedded, Inverted, Multiple, Quotient, Raised, Rooted, Squared, Times, Together,
+    Traced,
 };
 use crate::field_words::ChosenField;
 use crate::status;
 use crate::wide::Wide;
-use any_field::BinaryExtension;
+use any_field::{BinaryExtension, Embedding};
 use field_base::{Holds, Reads};
 
 /// Writes the words of the field modulo x^degree + tail.
@@ -328,5 +330,93 @@ pub fn trace(field: ChosenField, words: &[Wide], traces: &mut [Wide]) -> u32
     match field_of_words(field) {
         None => status::REDUCIBLE,
         Some(found) => write_at_each(found, words, traces, &Traced { field: found }),
+    }
+}
+
+/// Writes a root of the modulus of `source` in `target`, by which `embed` takes elements of the first to the second; `UNSOLVABLE` exactly
+/// where the degree of the first does not divide that of the second.
+pub fn embedding(source: ChosenField, target: ChosenField, root: &mut Wide) -> u32
+    ensures { FindsARootOver source target root.old root.new result }
+{
+    match field_of_words(source) {
+        None => status::REDUCIBLE,
+        Some(found) => root_in_field_of(found, target, root),
+    }
+}
+
+// Writes a root of the modulus of one field in the field of the words.
+fn root_in_field_of(source: BinaryExtension, target: ChosenField, root: &mut Wide) -> u32
+    ensures { OverField target (FindsARoot source.degree source.tail target.degree (wide_number target.tail) root.old root.new result)
+        root.old root.new result }
+{
+    match field_of_words(target) {
+        None => status::REDUCIBLE,
+        Some(found) => write_root(source, found, root),
+    }
+}
+
+// Writes a root of the modulus of one field in another.
+fn write_root(source: BinaryExtension, target: BinaryExtension, root: &mut Wide) -> u32
+    ensures { FindsARoot source.degree source.tail target.degree target.tail root.old root.new result }
+{
+    match Embedding::find(source, target) {
+        None => status::UNSOLVABLE,
+        Some(map) => {
+            *root = Wide::of_stored(map.root());
+            status::OK
+        }
+    }
+}
+
+/// Writes the image in `target` of each element of `source` by the embedding that takes x to `root`; `UNSOLVABLE` exactly where that is no
+/// root of the modulus of `source`, as `embedding` writes one.
+pub fn embed(
+    source: ChosenField,
+    target: ChosenField,
+    root: Wide,
+    words: &[Wide],
+    images: &mut [Wide],
+) -> u32
+    ensures { EmbedsOver source target root words.now images.old images.new result }
+{
+    match field_of_words(source) {
+        None => status::REDUCIBLE,
+        Some(found) => embed_in_field_of(found, target, root, words, images),
+    }
+}
+
+// Writes the images in the field of the words.
+fn embed_in_field_of(
+    source: BinaryExtension,
+    target: ChosenField,
+    root: Wide,
+    words: &[Wide],
+    images: &mut [Wide],
+) -> u32
+    ensures { OverField target (Embeds source.degree source.tail target.degree (wide_number target.tail) root words.now
+        images.old images.new result) images.old images.new result }
+{
+    match field_of_words(target) {
+        None => status::REDUCIBLE,
+        Some(found) => write_images(source, found, root, words, images),
+    }
+}
+
+// Writes the images by the embedding that takes x to the root.
+fn write_images(
+    source: BinaryExtension,
+    target: BinaryExtension,
+    root: Wide,
+    words: &[Wide],
+    images: &mut [Wide],
+) -> u32
+    ensures { Embeds source.degree source.tail target.degree target.tail root words.now images.old images.new result }
+{
+    match Embedding::new(source, target, root.stored()) {
+        None => status::UNSOLVABLE,
+        Some(map) => {
+            map.is_embedding();
+            write_at_each(source, words, images, &Embedded { map })
+        }
     }
 }

@@ -18,7 +18,7 @@ pub const CODE: u32 = 4;
 /// Fewer shards are present than the data have, or fewer shares than are needed.
 pub const TOO_FEW_SHARDS: u32 = 5;
 
-/// The equations have no solution, the matrix no inverse, or the shares no secret.
+/// The equations have no solution, the matrix no inverse, or there is no secret or root.
 pub const UNSOLVABLE: u32 = 6;
 
 /// No field has the modulus: it is no irreducible polynomial of degree 1 to 128.
