@@ -5,7 +5,7 @@ use native.Mathlib.Nat.{mod-lt}
 use Rattle.any_field.specs.Contexts.{field_product, with_top}
 use Rattle.any_field.specs.Values.{IsEmbeddingOf, binary_value}
 use Rattle.many_words.specs.Fields.{WordField}
-use Rattle.c_calls.specs.Calls.{CallOf, CallOnEach}
+use Rattle.c_calls.specs.Calls.{CallOf, CallOnEach, MultipliesBy}
 use Rattle.c_calls.specs.ChosenFields.{Embeds, FindsARoot, NamesAField, OverField, residue_field}
 use Rattle.c_calls.specs.Fields.{wide_number}
 use Rattle.c_calls.specs.declared.field_words.ChosenField.{ChosenField}
@@ -38,6 +38,24 @@ beside-elements is call =
       ok = λ fit both. call.ok fit both.1;
       kept = call.kept;
     }
+
+-- the products by a number are those by the word that holds it, once that is known to be an element
+pub multiples-written : (degree tail : ℕ) (scalar : Wide) (number : ℕ) (xs old new : List Wide) (status : ℕ)
+    → number ≡ wide_number scalar → number < 2 ^ degree
+    → CallOnEach (residue_field degree tail) (λ x y. y ≡ field_product degree tail x number) xs old new status
+    → MultipliesBy (residue_field degree tail) scalar xs old new status
+multiples-written degree tail scalar number xs old new status is fits call =
+    beside-elements (subst (λ (n : ℕ). n < 2 ^ degree) is fits)
+    (subst (λ (n : ℕ). CallOnEach (residue_field degree tail) (λ x y. y ≡ field_product degree tail x n) xs old new status) is call)
+
+-- the same numbers under other names
+pub multiples-named : (degree tail number d t n : ℕ) (field : WordField Wide) (xs old new : List Wide) (status : ℕ)
+    → d ≡ degree → t ≡ tail → n ≡ number → CallOnEach field (λ x y. y ≡ field_product d t x n) xs old new status
+    → CallOnEach field (λ x y. y ≡ field_product degree tail x number) xs old new status
+multiples-named degree tail number d t n field xs old new status same_degree same_tail same_number call =
+    subst (λ (z : ℕ). CallOnEach field (λ x y. y ≡ field_product degree tail x z) xs old new status) same_number
+    (subst (λ (z : ℕ). CallOnEach field (λ x y. y ≡ field_product degree z x n) xs old new status) same_tail
+    (subst (λ (z : ℕ). CallOnEach field (λ x y. y ≡ field_product z t x n) xs old new status) same_degree call))
 
 -- ---- roots, and images by them
 

@@ -5,7 +5,7 @@ ghost use Rattle.field_base.specs.Powers.{power, sum_of_squarings};
 ghost use Rattle.any_field.specs.Contexts.{field_product};
 ghost use Rattle.any_field.specs.Values.{binary_value};
 
-use any_field::{BinaryExtension, Embedding};
+use any_field::{BinaryExtension, Embedding, Multiples};
 
 /// An operation on one element.
 pub(crate) trait AtOne {
@@ -48,6 +48,24 @@ impl AtOne for Multiple {
 
     fn at(&self, x: u128) -> u128 {
         self.field.multiply(x, self.scalar)
+    }
+}
+
+/// The product by a scalar, by tables.
+#[derive(Drop)]
+pub(crate) struct Mapped {
+    pub(crate) multiples: Multiples,
+}
+
+impl AtOne for Mapped {
+    ghost width = { λ operation. operation.multiples.field.degree };
+
+    ghost gives = { λ operation x y. y ≡ field_product operation.multiples.field.degree operation.multiples.field.tail x
+        operation.multiples.scalar };
+
+    #[inline]
+    fn at(&self, x: u128) -> u128 {
+        self.multiples.of(x)
     }
 }
 

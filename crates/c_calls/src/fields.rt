@@ -11,14 +11,17 @@ ghost use Rattle.c_calls.specs.ChosenFields.{chosen_field, residue_field};
 ghost use Rattle.c_calls.specs.Fields.{wide_number};
 
 use crate::field_operations::{
-    AtOne, AtTwo, Embedded, Inverted, Multiple, Quotient, Raised, Rooted, Squared, Times, Together,
-    Traced,
+    AtOne, AtTwo, Embedded, Inverted, Mapped, Multiple, Quotient, Raised, Rooted, Squared, Times,
+    Together, Traced,
 };
 use crate::field_words::ChosenField;
 use crate::status;
 use crate::wide::Wide;
 use any_field::{BinaryExtension, Embedding};
 use field_base::{Holds, Reads};
+
+// From so many words on tables of the products by a scalar pay.
+const MAPPED: usize = 32;
 
 /// Writes the words of the field modulo x^degree + tail.
 pub fn init(field: &mut ChosenField, degree: u64, tail: Wide) -> u32
@@ -172,9 +175,28 @@ fn write_multiples(
     if !field.is_element(number) {
         return status::NOT_AN_ELEMENT;
     }
-    let operation = Multiple {
-        field,
-        scalar: number,
+    if words.len() < MAPPED {
+        let operation = Multiple {
+            field,
+            scalar: number,
+        };
+        return write_at_each(field, words, products, &operation);
+    }
+    write_by_tables(field, words, number, products)
+}
+
+// Writes the product of each element and the number, by tables.
+fn write_by_tables(
+    field: BinaryExtension,
+    words: &[Wide],
+    number: u128,
+    products: &mut [Wide],
+) -> u32
+    ensures { CallOnEach (residue_field field.degree field.tail) (λ x y. y ≡ field_product field.degree field.tail x number)
+        words.now products.old products.new result }
+{
+    let operation = Mapped {
+        multiples: field.multiples(number),
     };
     write_at_each(field, words, products, &operation)
 }

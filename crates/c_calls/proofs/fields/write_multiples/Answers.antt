@@ -1,8 +1,5 @@
-use Rattle.std.proofs.Common.{◌≡◌, ℕ, ◌^◌, ◌<◌, sym, subst}
-use Rattle.any_field.specs.Contexts.{field_product}
-use Rattle.c_calls.specs.Calls.{CallOnEach}
-use Rattle.c_calls.specs.ChosenFields.{residue_field}
-use Rattle.c_calls.proofs.ChosenCalls.{beside-elements}
+use Rattle.std.proofs.Common.{ℕ, ◌^◌, ◌<◌, sym, subst}
+use Rattle.c_calls.proofs.ChosenCalls.{multiples-written}
 use Rattle.c_calls.proofs.Endings.{call_misfit, call_no_elements, refuted}
 use Rattle.c_calls.proofs.fields.write_multiples.Goals as goal
 
@@ -15,11 +12,14 @@ returns-then-not-is_element c =
     (λ both. refuted c.if-not-is_element.true
     (c.is_element.ensures.1 (subst (λ (n : ℕ). n < 2 ^ c.args.field.degree) (sym c.stored-number.ensures) both.0)))
 
+pub returns-then-words-lt-MAPPED : goal.returns-then-words-lt-MAPPED
+returns-then-words-lt-MAPPED c =
+    multiples-written c.args.field.degree c.args.field.tail c.args.scalar c.stored-number.result c.args.words.now c.args.products.now
+    c.write_at_each.new.results c.write_at_each.result c.stored-number.ensures (c.is_element.ensures.0 c.if-not-is_element.false)
+    c.write_at_each.ensures
+
 pub returns : goal.returns
 returns c =
-    beside-elements (subst (λ (n : ℕ). n < 2 ^ c.args.field.degree) c.stored-number.ensures (c.is_element.ensures.0 c.if-not-is_element.false))
-    (subst
-    (λ (n : ℕ).
-    CallOnEach (residue_field c.args.field.degree c.args.field.tail) (λ x y. y ≡ field_product c.args.field.degree c.args.field.tail x n)
-    c.args.words.now c.args.products.now c.write_at_each.new.results c.write_at_each.result)
-    c.stored-number.ensures c.write_at_each.ensures)
+    multiples-written c.args.field.degree c.args.field.tail c.args.scalar c.stored-number.result c.args.words.now c.args.products.now
+    c.write_by_tables.new.products c.write_by_tables.result c.stored-number.ensures (c.is_element.ensures.0 c.if-not-is_element.false)
+    c.write_by_tables.ensures
