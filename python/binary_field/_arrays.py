@@ -231,14 +231,17 @@ class FieldArray(Matrices):
     def __truediv__(self: A, other: A | _Integers) -> A:
         if _is_left_to(other):
             return NotImplemented
-        return self._elementwise("multiply", self._other(other).reciprocal())
+        return self._over(self._other(other))
 
     def __rtruediv__(self: A, other: A | _Integers) -> A:
-        inverses = self.reciprocal()
-        return inverses if isinstance(other, int) and other == 1 else self._other(other)._elementwise("multiply", inverses)
+        return self.reciprocal() if isinstance(other, int) and other == 1 else self._other(other)._over(self)
 
     def __itruediv__(self: A, other: A | _Integers) -> A:
-        return self._elementwise("multiply", self._other(other).reciprocal(), self)
+        return self._over(self._other(other), self)
+
+    def _over(self: A, divisor: A, out: A | None = None) -> A:
+        """The quotients, after broadcasting; ZeroDivisionError where a divisor is 0."""
+        return self._elementwise("multiply", divisor.reciprocal(), out)
 
     def __pow__(self: A, exponent: Any) -> A:
         """Each element to the power of an integer, of any size, or of the one at its place in an array of integers; a negative one is a
@@ -339,9 +342,13 @@ class FieldArray(Matrices):
         >>> bf.Rijndael8b([2]).reciprocal()
         Rijndael8b([0x8d])
         """
+        self._refuse_zero()
+        return self.inverse_or_zero(out, workers)
+
+    def _refuse_zero(self) -> None:
+        """ZeroDivisionError where an element is 0."""
         if not (self._truths().all() if self._words.ndim else int(self)):
             raise ZeroDivisionError(f"0 of {type(self).__name__} has no inverse")
-        return self.inverse_or_zero(out, workers)
 
     # ---- polynomials
 

@@ -65,6 +65,12 @@ class ChosenField(FieldArray, metaclass=_Chosen):
         result._parts()[0][...] = elements._words
         return result
 
+    def _over(self, divisor: Any, out: Any = None) -> Any:
+        if not divisor.ndim:
+            return super()._over(divisor, out)
+        divisor._refuse_zero()
+        return self._elementwise("divide", divisor, out)
+
     def _restricted(self, subfield: Any) -> Any:
         return self if subfield._name == self._name else self._narrowed(subfield)
 
@@ -112,6 +118,9 @@ class _Functions:
 
     def multiply(self, left: Words, right: Words, products: Words) -> None:
         self._written("multiply", products, _wide(left), _wide(right))
+
+    def divide(self, left: Words, right: Words, quotients: Words) -> None:
+        self._written("divide", quotients, _wide(left), _wide(right))
 
     def multiply_by(self, values: Words, scalar: Any, products: Words) -> None:
         self._written("multiply_by", products, _wide(values), _wide(scalar))
