@@ -1,4 +1,4 @@
-use Rattle.std.proofs.Common.{◌≡◌, ◌<◌, ℕ, refl, sym, ◌∙◌, arith, ◌%◌, ◌^◌, lit<, subst}
+use Rattle.std.proofs.Common.{◌≡◌, ◌<◌, ℕ, refl, sym, ◌∙◌, arith, ◌%◌, ◌^◌, subst}
 use Rattle.std.proofs.lemmas.Nat.{pow_below}
 use Rattle.field_base.proofs.PowerLemmas.{power_start, power_step, power_skip, power_end}
 use Rattle.error_codes.proofs.field_code.power_of.Goals as goal

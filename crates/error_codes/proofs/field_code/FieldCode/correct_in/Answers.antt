@@ -1,6 +1,6 @@
-use Rattle.std.proofs.Common.{◌≡◌, ◌-◌, ◌/◌, ◌<◌, ℕ, List, true, false, take, length, slice_index, refl, sym, ◌∙◌, ap, subst, arith}
+use Rattle.std.proofs.Common.{◌≡◌, ◌-◌, ◌/◌, ◌<◌, ℕ, slice_index, refl, sym, ◌∙◌, ap, subst, arith}
 use Rattle.proximity.specs.Marks.{marked_below}
-use Rattle.error_codes.specs.Correcting.{HasRoots, IsMeantIn}
+use Rattle.error_codes.specs.Correcting.{IsMeantIn}
 use Rattle.error_codes.specs.Filling.{is_marked}
 use Rattle.error_codes.proofs.FieldMeanings.{meant-accepts, accepts-meant}
 use Rattle.error_codes.proofs.Meanings.{meant-few, meant-sent, on-ok, on-ok-then}

@@ -1,4 +1,4 @@
-use Rattle.std.proofs.Common.{◌≡◌, ◌<◌, ◌+◌, ◌-◌, ◌^◌, ℕ, Bool, List, slice_index, refl, sym, ◌∙◌, ap, ap₂, subst, arith}
+use Rattle.std.proofs.Common.{◌<◌, ◌+◌, ◌-◌, ◌^◌, ℕ, Bool, List, slice_index, refl, sym, ◌∙◌, ap, ap₂, subst, arith}
 use Rattle.std.specs.Prelude.{nat_eq, ◌||◌}
 use Rattle.field_base.specs.Powers.{power}
 use Rattle.error_codes.specs.Filling.{falling_point, falling_scale, is_marked, is_other, marked_product}

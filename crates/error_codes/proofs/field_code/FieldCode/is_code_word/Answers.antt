@@ -1,4 +1,4 @@
-use Rattle.std.proofs.Common.{◌≡◌, ◌+◌, ◌-◌, ℕ, true, false, length, slice_index, refl, sym, ◌∙◌, ap, arith, below_more}
+use Rattle.std.proofs.Common.{◌≡◌, ◌+◌, ℕ, true, false, length, slice_index, refl, sym, ◌∙◌, ap, arith, below_more}
 use Rattle.field_base.specs.Powers.{power}
 use Rattle.error_codes.specs.Correcting.{code_value}
 use Rattle.error_codes.proofs.FieldPowers.{next-root}

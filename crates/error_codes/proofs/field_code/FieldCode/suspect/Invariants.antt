@@ -1,4 +1,4 @@
-use Rattle.std.proofs.Common.{ℕ, length, slice_index}
+use Rattle.std.proofs.Common.{length, slice_index}
 use Rattle.std.specs.Prelude.{nat_eq, ◌||◌}
 use Rattle.error_codes.specs.Correcting.{code_value}
 use Rattle.error_codes.specs.Filling.{falling_point, is_marked}

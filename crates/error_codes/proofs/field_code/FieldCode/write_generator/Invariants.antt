@@ -1,4 +1,4 @@
-use Rattle.std.proofs.Common.{◌≡◌, ◌+◌, ℕ, length}
+use Rattle.std.proofs.Common.{◌≡◌, ◌+◌, length}
 use Rattle.field_base.specs.Powers.{power}
 use Rattle.error_codes.proofs.FieldEncoding.{HasFirstRoots}
 use Rattle.error_codes.proofs.field_code.FieldCode.write_generator.Given as goal

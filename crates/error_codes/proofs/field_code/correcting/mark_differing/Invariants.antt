@@ -1,4 +1,4 @@
-use Rattle.std.proofs.Common.{ℕ, length, slice_index}
+use Rattle.std.proofs.Common.{length, slice_index}
 use Rattle.std.specs.Prelude.{nat_eq, not}
 use Rattle.error_codes.specs.Filling.{is_marked}
 use Rattle.error_codes.proofs.Marking.{IsWritten}

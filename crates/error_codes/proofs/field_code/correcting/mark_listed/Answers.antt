@@ -1,4 +1,4 @@
-use Rattle.std.proofs.Common.{◌≡◌, ◌+◌, List, length, drop, Bool, refl, ◌∙◌, ap, arith}
+use Rattle.std.proofs.Common.{◌+◌, List, length, drop, Bool, refl, ◌∙◌, ap, arith}
 use Rattle.std.specs.Prelude.{slice_index, ◌||◌}
 use Rattle.std.proofs.lemmas.List.{length-set}
 use Rattle.error_codes.specs.Correcting.{is_listed}

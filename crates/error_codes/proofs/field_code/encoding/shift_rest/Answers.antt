@@ -1,4 +1,4 @@
-use Rattle.std.proofs.Common.{◌≡◌, ◌+◌, ℕ, slice_index, ◌∙◌, ap, ap₂, arith}
+use Rattle.std.proofs.Common.{◌≡◌, ◌+◌, slice_index, ◌∙◌, ap, ap₂, arith}
 use Rattle.std.specs.Prelude.{bit_xor}
 use Rattle.error_codes.proofs.FieldRows.{behind-more, behind-starts}
 use Rattle.error_codes.proofs.field_code.encoding.shift_rest.Goals as goal

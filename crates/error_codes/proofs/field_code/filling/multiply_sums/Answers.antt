@@ -1,4 +1,4 @@
-use Rattle.std.proofs.Common.{◌+◌, ℕ, slice_index, ◌∙◌, ap, ap₂, arith}
+use Rattle.std.proofs.Common.{◌+◌, slice_index, ◌∙◌, ap, ap₂, arith}
 use Rattle.std.specs.Prelude.{bit_xor}
 use Rattle.error_codes.proofs.CodeValues.{entry-over}
 use Rattle.std.proofs.lemmas.List.{length-set}

@@ -1,4 +1,4 @@
-use Rattle.std.proofs.Common.{◌+◌, ℕ, slice_index}
+use Rattle.std.proofs.Common.{◌+◌, slice_index}
 use Rattle.std.specs.Prelude.{bit_xor}
 use Rattle.error_codes.proofs.FieldRows.{AreBehind}
 use Rattle.error_codes.proofs.field_code.registers.add_shifted.Given as goal

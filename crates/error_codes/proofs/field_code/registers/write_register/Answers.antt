@@ -1,4 +1,4 @@
-use Rattle.std.proofs.Common.{◌≡◌, ◌≢◌, suc, ◌<◌, ◌+◌, ◌-◌, ◌^◌, ℕ, List, length, slice_index, set, refl, sym, ◌∙◌, ap, subst, arith}
+use Rattle.std.proofs.Common.{◌≡◌, ◌≢◌, suc, ◌<◌, ◌+◌, ◌-◌, ◌^◌, ℕ, List, length, slice_index, set, sym, ◌∙◌, ap, subst, arith}
 use Rattle.std.proofs.lemmas.List.{get_or-set_other, get_or-set_same, get_or_past, length-set}
 use Rattle.field_base.specs.Field.{IsField}
 use Rattle.error_codes.specs.Registers.{IsShortest}
