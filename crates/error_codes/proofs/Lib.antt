@@ -40,3 +40,4 @@ pub mod FieldMeanings
 pub mod FieldRegisters
 pub mod FieldEncoding
 pub mod FieldPowers
+pub mod BinaryCodes

@@ -31,16 +31,16 @@ use Rattle.error_codes.proofs.Registers.{sum-reversed}
 use Rattle.error_codes.proofs.ShortRegisters.{registers_are_short}
 
 -- c (k - 1), .., c 1, c 0
-unfoldable reversed : (ℕ → ℕ) → ℕ → List ℕ
+unfoldable pub reversed : (ℕ → ℕ) → ℕ → List ℕ
 reversed c zero = []
 reversed c (suc k) = c k ∷ reversed c k
 
-reversed-count : (c : ℕ → ℕ) (k : ℕ) → length (reversed c k) ≡ k
+pub reversed-count : (c : ℕ → ℕ) (k : ℕ) → length (reversed c k) ≡ k
 unfolding reversed
 reversed-count c zero = refl
 reversed-count c (suc k) = ap suc (reversed-count c k)
 
-reversed-at : (c : ℕ → ℕ) (k j : ℕ) → j ≤ k → slice_index (reversed c (suc k)) j ≡ c (k - j)
+pub reversed-at : (c : ℕ → ℕ) (k j : ℕ) → j ≤ k → slice_index (reversed c (suc k)) j ≡ c (k - j)
 unfolding reversed
 reversed-at c k zero most = ap c (whole k)
   where
@@ -76,7 +76,7 @@ module _ (width : ℕ) (times : ℕ → ℕ → ℕ) (wide : 0 < width) (field :
   one_fits = pow_below 0 width wide
 
   -- the reverse has the values of Horner's rule
-  reversed-value : (c : ℕ → ℕ) (k x : ℕ) → at times (reversed c k) x ≡ code_value times k c x
+  pub reversed-value : (c : ℕ → ℕ) (k x : ℕ) → at times (reversed c k) x ≡ code_value times k c x
   unfolding reversed terms_from sum_below
   reversed-value c zero x = refl
   reversed-value c (suc k) x =

@@ -1,4 +1,4 @@
--- Words that are sent interleaved (CCSDS 131.0-B, section 4, symbol interleaving): the first symbols of all words, one after the
+-- Words that are sent interleaved (CCSDS 131.0-B, symbol interleaving): the first symbols of all words, one after the
 -- other, then the second symbols, so that the words are the columns of a matrix. The depth is how many words there are.
 use Rattle.std.specs.Prelude.{◌≡◌, ℕ, ◌+◌, ◌*◌, ◌<◌, List, map, slice_index, Bool, true, false}
 use Rattle.std.specs.List.{range_with_len}

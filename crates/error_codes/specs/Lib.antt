@@ -1,3 +1,4 @@
+pub mod BinaryBch
 pub mod Words
 pub mod Decoding
 pub mod Checks

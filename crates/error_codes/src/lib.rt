@@ -1,8 +1,9 @@
 //! Reed-Solomon codes that correct errors: their laws, their encoder and decoder over bytes, over the field of 16 elements and over any
-//! field of up to 65,536 elements, of one word and of many that stand interleaved, the shortest shift registers of sequences, and what
-//! shares of a secret hide.
+//! field of up to 65,536 elements, of one word and of many that stand interleaved, binary BCH codes, the shortest shift registers of
+//! sequences, and what shares of a secret hide.
 #![tactic(auto)]
 
+mod binary_bch;
 mod byte_field;
 mod code;
 mod correcting;
@@ -20,6 +21,7 @@ mod symbols;
 #[cfg(test)]
 mod tests;
 
+pub use crate::binary_bch::BinaryBch;
 pub use crate::byte_field::{ByteField, bytes_are_fields};
 pub use crate::code::CorrectingCode;
 pub use crate::correcting::Corrected;

@@ -1,4 +1,5 @@
 // Words that are published or come from another library, and words that are none.
+use crate::binary_bch::BinaryBch;
 use crate::byte_field::ByteField;
 use crate::code::CorrectingCode;
 use crate::dual_basis::{from_dual_basis, to_dual_basis};
@@ -187,7 +188,8 @@ fn interleaved_words_are_corrected(rt: HostRuntime) -> Result<(), Fail> {
     Ok(())
 }
 
-// The mode message of a compact Aztec symbol of 4 layers and 64 words of data, as the encoder of ZXing writes it.
+// The mode message of a compact Aztec symbol of 4 layers and 64 words of data (ISO/IEC 24778): both less one, in
+// 2 bits and in 6, and 5 symbols that make it a word of the code.
 const MODE_MESSAGE: [u8; 7] = [15, 15, 4, 1, 3, 4, 12];
 
 // Whether it is encoded, and corrected: of two errors, one of which is no element, and of one error and two erasures, but not of three.
@@ -218,5 +220,75 @@ fn words_of_nibbles_are_corrected(rt: HostRuntime) -> Result<(), Fail> {
     let code = NibbleCode::new(7, 2, 1, 1)?;
     assert!(rt; corrects_mode_message(&code));
     assert!(rt; NibbleCode::new(16, 2, 1, 1).is_err() && NibbleCode::new(6, 2, 0, 3).is_err());
+    Ok(())
+}
+
+// The format information of a QR code with the level M and the mask 101, before it is masked (ISO/IEC 18004, annex C).
+const FORMAT_INFORMATION: [u8; 15] = [0, 0, 1, 0, 1, 0, 0, 1, 1, 0, 1, 1, 1, 0, 0];
+
+// Whether it is encoded, and corrected: of three errors, one of which is no bit, and of six erasures, but not of four errors; and whether a word
+// that is nearest to one with other symbols than bits is left.
+fn corrects_format_information(code: &BinaryBch) -> bool {
+    let mut word = [0, 0, 1, 0, 1, 7, 7, 7, 7, 7, 7, 7, 7, 7, 7];
+    code.encode(&mut word);
+    if word != FORMAT_INFORMATION || !code.is_code_word(&word) {
+        return false;
+    }
+    word[0] ^= 1;
+    word[7] ^= 1;
+    word[14] = 200;
+    if code.is_code_word(&word)
+        || code.correct(&mut word, &[]).is_err()
+        || word != FORMAT_INFORMATION
+    {
+        return false;
+    }
+    for i in 3..9 {
+        word[i] = 0;
+    }
+    if code.correct(&mut word, &[3, 4, 5, 6, 7, 8]).is_err() || word != FORMAT_INFORMATION {
+        return false;
+    }
+    for i in 3..7 {
+        word[i] ^= 1;
+    }
+    let received = word;
+    code.correct(&mut word, &[]).is_err() && word == received
+}
+
+// How many errors are corrected in words of 255 bits, and how many of these are data: all but as many as the cyclotomic cosets of 1 to 2 t modulo
+// 255 have exponents.
+const DIMENSIONS: [(usize, usize); 6] = [
+    (1, 247),
+    (2, 239),
+    (9, 187),
+    (18, 131),
+    (30, 63),
+    (63, 9),
+];
+
+fn has_dimension(errors: usize, dimension: usize) -> bool {
+    match BinaryBch::new(ByteField::Qr, 255, errors, 1) {
+        Ok(code) => code.dimension() == dimension && code.word_length() == 255,
+        Err(_) => false,
+    }
+}
+
+#[test]
+fn words_of_bits_are_corrected(rt: HostRuntime) -> Result<(), Fail> {
+    let code = BinaryBch::new(ByteField::Qr, 15, 3, 17)?;
+    assert!(rt; code.dimension() == 5 && corrects_format_information(&code));
+    for (errors, dimension) in DIMENSIONS {
+        assert!(rt; has_dimension(errors, dimension));
+    }
+    for (word_length, errors, root_step) in [
+        (15, 0, 17),
+        (15, 8, 17),
+        (256, 2, 1),
+        (16, 2, 17),
+        (10, 3, 17),
+    ] {
+        assert!(rt; BinaryBch::new(ByteField::Qr, word_length, errors, root_step).is_err());
+    }
     Ok(())
 }
