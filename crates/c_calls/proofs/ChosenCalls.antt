@@ -1,12 +1,14 @@
 -- Calls over a field by its words, once these were read.
-use Rattle.std.proofs.Common.{◌≡◌, ◌≢◌, ℕ, ◌%◌, ◌^◌, ◌<◌, List, ap, refl, sym, ◌∙◌, subst}
+use Rattle.std.proofs.Common.{◌≡◌, ◌≢◌, ℕ, ◌%◌, ◌^◌, ◌<◌, List, ap, arith, refl, sym, ◌∙◌, subst}
 use Rattle.std.proofs.lemmas.Nat.{pow_pos}
 use native.Mathlib.Nat.{mod-lt}
+use Rattle.field_base.specs.Orders.{HasFullOrder}
 use Rattle.any_field.specs.Contexts.{field_product, with_top}
+use Rattle.any_field.specs.Orders.{TableIsPrime}
 use Rattle.any_field.specs.Values.{IsEmbeddingOf, binary_value}
 use Rattle.many_words.specs.Fields.{WordField}
 use Rattle.c_calls.specs.Calls.{CallOf, CallOnEach, MultipliesBy}
-use Rattle.c_calls.specs.ChosenFields.{Embeds, FindsARoot, NamesAField, OverField, residue_field}
+use Rattle.c_calls.specs.ChosenFields.{Embeds, FindsARoot, NamesAField, OverField, TakesPrimitive, residue_field}
 use Rattle.c_calls.specs.Fields.{wide_number}
 use Rattle.c_calls.specs.declared.field_words.ChosenField.{ChosenField}
 use Rattle.c_calls.specs.declared.status.TheConstants.{OK, REDUCIBLE, UNSOLVABLE}
@@ -135,3 +137,29 @@ pub root-none : (source_degree source_tail degree tail : ℕ) {old : Wide} → d
     → FindsARoot source_degree source_tail degree tail old old UNSOLVABLE
 root-none source_degree source_tail degree tail other =
     record { found = λ divides. absurd (other divides); none = λ _. refl; kept = λ _. refl }
+
+-- ---- primitive elements
+
+pub primitive-none : (degree tail : ℕ) {old : Wide} → ((y : ℕ) → y < 65536 → HasFullOrder degree (field_product degree tail) y → ⊥)
+    → TakesPrimitive (residue_field degree tail) old old UNSOLVABLE
+primitive-none degree tail none =
+    record {
+      primitive = λ e. absurd (unlike UNSOLVABLE OK refl refl e);
+      least = λ e. absurd (unlike UNSOLVABLE OK refl refl e);
+      none = λ _. (refl, none);
+      kept = λ _. refl;
+    }
+  where
+    unlike : (a b : ℕ) → a ≡ 6 → b ≡ 0 → a ≡ b → ⊥
+    unlike a b six zero e = absurd (omega (arith, six, zero, e))
+
+pub primitive-found : (degree tail found : ℕ) {old : Wide} (new : Wide) → wide_number new ≡ found
+    → (TableIsPrime → HasFullOrder degree (field_product degree tail) found)
+    → ((y : ℕ) → y < found → HasFullOrder degree (field_product degree tail) y → ⊥) → TakesPrimitive (residue_field degree tail) old new OK
+primitive-found degree tail found new is full least =
+    record {
+      primitive = λ _ prime. subst (λ (z : ℕ). HasFullOrder degree (field_product degree tail) z) (sym is) (full prime);
+      least = λ _ y less. least y (subst (λ (z : ℕ). y < z) is less);
+      none = λ other. absurd (other refl);
+      kept = λ other. absurd (other refl);
+    }

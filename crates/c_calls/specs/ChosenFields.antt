@@ -1,7 +1,9 @@
 -- What calls over a field that the caller chooses do: fields modulo any irreducible polynomial of degree 1 to 128, by words that the caller keeps.
 use Rattle.std.specs.Prelude.{◌≡◌, ◌≢◌, ℕ, ◌%◌, ◌^◌, ◌<◌, List}
+use Rattle.field_base.specs.Orders.{HasFullOrder}
 use Rattle.field_base.specs.Powers.{sum_of_squarings}
 use Rattle.any_field.specs.Contexts.{IsFieldModulus, field_product, with_top}
+use Rattle.any_field.specs.Orders.{TableIsPrime}
 use Rattle.any_field.specs.Values.{IsEmbeddingOf, binary_value}
 use Rattle.many_words.specs.Fields.{WordField, field_of}
 use Rattle.c_calls.specs.Calls.{CallOnEach, CallOnTwo}
@@ -43,6 +45,14 @@ TakesTraces field xs old new status = CallOnEach field (λ x y. y ≡ sum_of_squ
 abbrev pub TakesQuotients : WordField Wide → List Wide → List Wide → List Wide → List Wide → ℕ → Type 0
 TakesQuotients field xs ys old new status =
     CallOnTwo field (λ x y q. (q < 2 ^ field.width) × (y ≢ 0 → field.times q y ≡ x) × (y ≡ 0 → q ≡ 0)) xs ys old new status
+
+-- a call that writes the least primitive element of a field, where one is below 65,536. That it is primitive rests on the primality of the
+-- numbers of a table
+pub record TakesPrimitive (field : WordField Wide) (old new : Wide) (status : ℕ) : Type 0 where
+  pub primitive : status ≡ OK → TableIsPrime → HasFullOrder field.width field.times (wide_number new)
+  pub least : status ≡ OK → (y : ℕ) → y < wide_number new → HasFullOrder field.width field.times y → ⊥
+  pub none : status ≢ OK → (status ≡ UNSOLVABLE) × ((y : ℕ) → y < 65536 → HasFullOrder field.width field.times y → ⊥)
+  pub kept : status ≢ OK → new ≡ old
 
 -- the value at a point of the field modulo x^degree + tail of the polynomial that a number is
 abbrev pub value_in : ℕ → ℕ → Wide → ℕ → ℕ

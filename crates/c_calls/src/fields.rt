@@ -6,7 +6,7 @@ ghost use Rattle.many_words.specs.Words.{AreElements};
 ghost use Rattle.c_calls.specs.Calls.{Adds, CallOnEach, CallOnTwo, Evaluates, Inverts, Multiplies, MultipliesBy};
 ghost use Rattle.c_calls.specs.Calls.{RaisesTo, Squares, TakesDotProduct, TakesRoots};
 ghost use Rattle.c_calls.specs.ChosenFields.{Embeds, EmbedsOver, FindsARoot, FindsARootOver, NamesAField, OverField, PreparesField};
-ghost use Rattle.c_calls.specs.ChosenFields.{TakesQuotients, TakesTraces};
+ghost use Rattle.c_calls.specs.ChosenFields.{TakesPrimitive, TakesQuotients, TakesTraces};
 ghost use Rattle.c_calls.specs.ChosenFields.{chosen_field, residue_field};
 ghost use Rattle.c_calls.specs.Fields.{wide_number};
 
@@ -352,6 +352,29 @@ pub fn trace(field: ChosenField, words: &[Wide], traces: &mut [Wide]) -> u32
     match field_of_words(field) {
         None => status::REDUCIBLE,
         Some(found) => write_at_each(found, words, traces, &Traced { field: found }),
+    }
+}
+
+/// Writes the least primitive element, which is below 65,536 in every field that has been looked at; `UNSOLVABLE` where none is.
+pub fn primitive_element(field: ChosenField, element: &mut Wide) -> u32
+    ensures { OverField field (TakesPrimitive (chosen_field field) element.old element.new result) element.old element.new result }
+{
+    match field_of_words(field) {
+        None => status::REDUCIBLE,
+        Some(found) => write_primitive(found, element),
+    }
+}
+
+// Writes the least primitive element.
+fn write_primitive(field: BinaryExtension, element: &mut Wide) -> u32
+    ensures { TakesPrimitive (residue_field field.degree field.tail) element.old element.new result }
+{
+    match field.primitive_element() {
+        None => status::UNSOLVABLE,
+        Some(found) => {
+            *element = Wide::of_stored(found);
+            status::OK
+        }
     }
 }
 
