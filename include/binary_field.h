@@ -94,7 +94,7 @@ typedef struct bf_field {
 #define BF_CODE 4u
 /* Too few shards or shares are present. */
 #define BF_TOO_FEW_SHARDS 5u
-/* The equations have no solution, the matrix no inverse, or the shares no secret. */
+/* The equations have no solution, the matrix no inverse, or there is no secret or root. */
 #define BF_UNSOLVABLE 6u
 /* The modulus is no irreducible polynomial of degree 1 to 128. */
 #define BF_REDUCIBLE 7u
@@ -109,7 +109,7 @@ static inline const char *bf_status_text(uint32_t status)
     case BF_MEMORY: return "out of memory, which no function of this version returns";
     case BF_CODE: return "no code or shares have these numbers";
     case BF_TOO_FEW_SHARDS: return "too few shards or shares are present";
-    case BF_UNSOLVABLE: return "the equations have no solution, the matrix no inverse, or the shares no secret";
+    case BF_UNSOLVABLE: return "the equations have no solution, the matrix no inverse, or there is no secret or root";
     case BF_REDUCIBLE: return "the modulus is no irreducible polynomial of degree 1 to 128";
     default: return "unknown status";
     }
@@ -1739,6 +1739,22 @@ uint32_t bf_field_dot_product(const bf_field *field, const bf_u128 *left, size_t
  * 2^degree. */
 uint32_t bf_field_evaluate(const bf_field *field, const bf_u128 *coefficients, size_t coefficients_length,
     const bf_u128 *points, size_t points_length, bf_u128 *values, size_t values_length) BF_CHECKED BF_NONNULL(1);
+
+/* element: the least primitive element, whose powers are all elements but 0. BF_UNSOLVABLE unless there is one below
+ * 65536, as in every field that has been looked at. */
+uint32_t bf_field_primitive_element(const bf_field *field, bf_u128 *element) BF_CHECKED BF_NONNULL(1) BF_NONNULL(2);
+
+/* root: an element of target that is a root of the modulus of source, by which bf_field_embed takes elements of
+ * source to target. BF_UNSOLVABLE unless the degree of source divides that of target. */
+uint32_t bf_field_embedding(const bf_field *source, const bf_field *target,
+    bf_u128 *root) BF_CHECKED BF_NONNULL(1) BF_NONNULL(2) BF_NONNULL(3);
+
+/* images: the image in target of each element of source: the value at the root of the polynomial that it is, so that
+ * sums and products are kept. BF_UNSOLVABLE unless root is a root of the modulus of source in target. BF_LENGTH
+ * unless values and images have one length. BF_NOT_AN_ELEMENT unless each word that is read is below 2^degree. */
+uint32_t bf_field_embed(const bf_field *source, const bf_field *target, const bf_u128 *root,
+    const bf_u128 *values, size_t values_length,
+    bf_u128 *images, size_t images_length) BF_CHECKED BF_NONNULL(1) BF_NONNULL(2) BF_NONNULL(3);
 
 /* ------------------------------------------------------------------------------------------------------------------ */
 /* Stages of additive transforms over g128, and the whole transform over g128 and levels of the tower. s_0(x) = x,

@@ -18,7 +18,7 @@ export const STATUSES = {
   3: ["BF_MEMORY", "out of memory, which no function of this version returns"],
   4: ["BF_CODE", "no code or shares have these numbers"],
   5: ["BF_TOO_FEW_SHARDS", "too few shards or shares are present"],
-  6: ["BF_UNSOLVABLE", "the equations have no solution, the matrix no inverse, or the shares no secret"],
+  6: ["BF_UNSOLVABLE", "the equations have no solution, the matrix no inverse, or there is no secret or root"],
   7: ["BF_REDUCIBLE", "the modulus is no irreducible polynomial of degree 1 to 128"],
 };
 
@@ -360,6 +360,9 @@ export const FUNCTIONS = {
   field_divide: [["scalar", "field", "field"], ["in", "left", "u128"], ["in", "right", "u128"], ["out", "quotients", "u128"]],
   field_dot_product: [["scalar", "field", "field"], ["in", "left", "u128"], ["in", "right", "u128"], ["result", "sum", "u128"]],
   field_evaluate: [["scalar", "field", "field"], ["in", "coefficients", "u128"], ["in", "points", "u128"], ["out", "values", "u128"]],
+  field_primitive_element: [["scalar", "field", "field"], ["result", "element", "u128"]],
+  field_embedding: [["scalar", "source", "field"], ["scalar", "target", "field"], ["result", "root", "u128"]],
+  field_embed: [["scalar", "source", "field"], ["scalar", "target", "field"], ["scalar", "root", "u128"], ["in", "values", "u128"], ["out", "images", "u128"]],
   g128_butterfly_forward: [["inout", "low", "u128"], ["inout", "high", "u128"], ["scalar", "scalar", "u128"]],
   g128_butterfly_inverse: [["inout", "low", "u128"], ["inout", "high", "u128"], ["scalar", "scalar", "u128"]],
   g128_low_stages: [["inout", "values", "u128"], ["in", "shifts", "u128"], ["in", "basis", "u128"], ["count", "first_run", "u64"]],

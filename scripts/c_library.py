@@ -22,7 +22,7 @@ STATUSES = [
     ("BF_MEMORY", 3, "out of memory, which no function of this version returns"),
     ("BF_CODE", 4, "no code or shares have these numbers"),
     ("BF_TOO_FEW_SHARDS", 5, "too few shards or shares are present"),
-    ("BF_UNSOLVABLE", 6, "the equations have no solution, the matrix no inverse, or the shares no secret"),
+    ("BF_UNSOLVABLE", 6, "the equations have no solution, the matrix no inverse, or there is no secret or root"),
     ("BF_REDUCIBLE", 7, "the modulus is no irreducible polynomial of degree 1 to 128"),
 ]
 
@@ -146,7 +146,13 @@ OTHER_FUNCTIONS = [
          "the sum of the products of the elements at each place, which is 0 of none"),
         ("evaluate", [("in", "coefficients", "u128"), ("in", "points", "u128"), ("out", "values", "u128")],
          "the value at each point of the polynomial with these coefficients, the constant one first; of none it is 0"),
+        ("primitive_element", [("result", "element", "u128")], "the least primitive element, whose powers are all elements but 0"),
     ]],
+    ("field_embedding", [("scalar", "source", "field"), ("scalar", "target", "field"), ("result", "root", "u128")],
+     "an element of target that is a root of the modulus of source, by which field_embed takes elements of source to target"),
+    ("field_embed", [("scalar", "source", "field"), ("scalar", "target", "field"), ("scalar", "root", "u128"), ("in", "values", "u128"),
+                     ("out", "images", "u128")],
+     "the image in target of each element of source: the value at the root of the polynomial that it is, so that sums and products are kept"),
     ("g128_butterfly_forward", [("inout", "low", "u128"), ("inout", "high", "u128"), ("scalar", "scalar", "u128")],
      "low += scalar * high, and then high += low, at each place"),
     ("g128_butterfly_inverse", [("inout", "low", "u128"), ("inout", "high", "u128"), ("scalar", "scalar", "u128")],

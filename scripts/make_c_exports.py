@@ -87,6 +87,10 @@ field_trace  chosen  fields::trace  OverField field.now (TakesTraces (chosen_fie
 traces.old traces.new result
 field_divide  chosen  fields::divide  OverField field.now (TakesQuotients (chosen_field field.now) left.now right.now quotients.old quotients.new \
 result) quotients.old quotients.new result
+field_primitive_element  chosen  fields::primitive_element  OverField field.now (TakesPrimitive (chosen_field field.now) element.old element.new \
+result) element.old element.new result
+field_embedding  chosen  fields::embedding  FindsARootOver source.now target.now root.old root.new result
+field_embed  chosen  fields::embed  EmbedsOver source.now target.now root.now values.now images.old images.new result
 field_dot_product  chosen  fields::dot_product  OverField field.now (TakesDotProduct (chosen_field field.now) left.now right.now sum.old sum.new \
 result) sum.old sum.new result
 field_evaluate  chosen  fields::evaluate  OverField field.now (Evaluates (chosen_field field.now) coefficients.now points.now values.old values.new \
@@ -211,7 +215,9 @@ HOMES = {
     ],
     "c_calls.specs.Codes": ["CorrectsWords", "EncodesWords", "TellsCodeWords", "WritesSyndromes"],
     "c_calls.specs.InterleavedCodes": ["CorrectsInterleaved", "EncodesInterleaved", "WritesInterleavedSyndromes"],
-    "c_calls.specs.ChosenFields": ["OverField", "PreparesField", "TakesQuotients", "TakesTraces", "chosen_field"],
+    "c_calls.specs.ChosenFields": [
+        "EmbedsOver", "FindsARootOver", "OverField", "PreparesField", "TakesPrimitive", "TakesQuotients", "TakesTraces", "chosen_field",
+    ],
     "c_calls.specs.Erasure": ["EncodesErasure", "ReconstructsErasure", "TellsSpace", "VerifiesErasure"],
     "c_calls.specs.Linear": ["MapsLinearly"],
     "c_calls.specs.Lines": ["AnswersLine"],

@@ -145,6 +145,12 @@ def statuses_of(name, parameters, bits):
 
 def field_statuses(name, parameters):
     """Those of a function over a field that the caller chooses."""
+    if name == "field_primitive_element":
+        yield "BF_UNSOLVABLE", "there is one below 65536, as in every field that has been looked at"
+    if name == "field_embedding":
+        yield "BF_UNSOLVABLE", "the degree of source divides that of target"
+    if name == "field_embed":
+        yield "BF_UNSOLVABLE", "root is a root of the modulus of source in target"
     if lengths := lengths_of(name, parameters):
         yield "BF_LENGTH", lengths
     if any(it[0] == "in" for it in parameters):

@@ -11,6 +11,7 @@ import random
 
 import correcting
 import definitions
+import embeddings
 import published
 from called import ARRAYS, FUNCTIONS, case, refused, with_argument
 from definitions import FIELDS
@@ -174,6 +175,8 @@ def chosen_cases(draw):
         yield case("field_trace", words, left, [definitions.total(power(a, 1 << i) for i in range(degree)) for a in left], each=size)
         quotients = [times(a, power(b, (1 << degree) - 2)) if b else 0 for a, b in zip(left, right)]
         yield case("field_divide", words, left, right, quotients, each=size)
+        is_primitive = lambda a: a and all(power(a, ((1 << degree) - 1) // p) != 1 for p in definitions.group_primes(degree))
+        yield case("field_primitive_element", words, [next(it for it in range(1 << degree) if is_primitive(it))])
         dot = lambda a, b: definitions.total(times(x, y) for x, y in zip(a, b))
         value = lambda coefficients, x: definitions.total(times(c, power(x, i)) for i, c in enumerate(coefficients))
         for count in (0, 1, size):
@@ -193,6 +196,8 @@ def chosen_cases(draw):
             yield refused(case("field_multiply_by", words, left, 1 << degree, [0] * size), "BF_NOT_AN_ELEMENT")
     for degree, tail in ((0, 0), (0, 1), (129, 3), ((1 << 64) - 1, 1), (4, 0b101), (8, 0x11B), (8, 1), (8, 0), (2, 0), (128, 0), (64, 1 << 64 | 0x1B)):
         yield refused(case("field_init", [0], degree, tail), "BF_REDUCIBLE")
+    for name, values, each, status in embeddings.rows(draw):
+        yield refused(case(name, *values), status) if status else case(name, *values, each=each)
 
 
 def bit_matrix_cases(draw):

@@ -63,6 +63,17 @@ class Chosen(unittest.TestCase):
             self.assertEqual(field(bf.Gf2([0, 1])).tolist(), [0, 1])
             self.assertRaises(TypeError, field, bf.BinaryField8([1]))
 
+    def test_embeddings(self):
+        for degree, width in ((2, 8), (3, 12), (8, 16), (8, 64), (31, 31), (16, 64)):
+            small, large, draw = bf.GF(2**degree), bf.GF(2**width), random.Random(degree)
+            a, b = (small([draw.getrandbits(degree) for _ in range(20)]) for _ in range(2))
+            image = large.embedded
+            self.assertEqual(image(a + b).tolist(), (image(a) + image(b)).tolist())
+            self.assertEqual(image(a * b).tolist(), (image(a) * image(b)).tolist())
+            self.assertEqual(image(small([0, 1])).tolist(), [0, 1])
+            self.assertEqual(len(set(image(a).tolist())), len(set(a.tolist())))
+        self.assertRaises(ValueError, bf.GF(2**5).embedded, bf.GF(2**3)([1]))
+
     def test_matrices_and_polynomials(self):
         for field, _, draw in self.fields():
             matrix = field([[draw.getrandbits(field.degree) for _ in range(3)] for _ in range(3)])

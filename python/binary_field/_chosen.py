@@ -51,6 +51,7 @@ class ChosenField(FieldArray, metaclass=_Chosen):
     __slots__ = ()
     _modulus: int
     _primitive: int
+    _field: Words
 
     @classmethod
     def _group_primes(cls) -> tuple[int, ...]:
@@ -70,6 +71,23 @@ class ChosenField(FieldArray, metaclass=_Chosen):
             return super()._over(divisor, out)
         divisor._refuse_zero()
         return self._elementwise("divide", divisor, out)
+
+    @classmethod
+    def embedded(cls, elements: Any) -> Any:
+        """The images in this field of elements of another chosen one, whose degree divides that of this: by the embedding that takes x to
+        the root of its modulus that the library finds, the same in each call. ValueError where no embedding is.
+
+        >>> bf.GF(2**4).embedded(bf.GF(2**2)([1, 2])) ** 3
+        GF_4_13([0x1, 0x1])
+        """
+        if not isinstance(elements, ChosenField) or cls.degree % elements.degree:
+            raise ValueError(f"no embedding takes {type(elements).__name__} to {cls.__name__}")
+        root, images = np.zeros((), _WIDE), np.empty(elements.shape, _WIDE)
+        call("field_embedding", elements._field, cls._field, root)
+        call("field_embed", elements._field, cls._field, root, _wide(elements._words), images)
+        result = cls.zeros(elements.shape)
+        result._words[...] = _narrow(images, result._words.dtype)
+        return result
 
     def _restricted(self, subfield: Any) -> Any:
         return self if subfield._name == self._name else self._narrowed(subfield)
@@ -97,6 +115,11 @@ def _wide(words: Any) -> Words:
     return result
 
 
+def _narrow(words: Words, dtype: np.dtype[Any]) -> Words:
+    """What words of 128 bits have in as many as a word of such a type."""
+    return words if dtype == _WIDE else words["words"][..., 0]
+
+
 class _Functions:
     """What the library's functions of a fixed field are for a chosen one, by its words."""
 
@@ -107,7 +130,7 @@ class _Functions:
         """Calls a function and leaves what it writes in an array."""
         made = np.empty(np.shape(result), _WIDE)
         call(f"field_{name}", self.words, *operands, made)
-        result[...] = made if result.dtype == _WIDE else made["words"][..., 0]
+        result[...] = _narrow(made, result.dtype)
 
     def add(self, left: Words, right: Words, sums: Words) -> None:
         made = left["words"] ^ right["words"] if sums.dtype == _WIDE else left ^ right
@@ -273,6 +296,7 @@ def _made(degree: int, modulus: int, primitive: int | None) -> type[ChosenField]
     functions = _Functions(words, lambda: _least_primitive(field) if primitive is None else primitive)
     body = {
         "__slots__": (), "__module__": __name__, "degree": degree, "_name": name, "_word": word, "_modulus": modulus, "_primitive": primitive,
+        "_field": words,
         "__doc__": f"Arrays over GF(2)[x] modulo {Poly.Int(modulus)}.",
     }
     field: Any = _Chosen(name, (ChosenField,), body)
@@ -289,7 +313,9 @@ def _made(degree: int, modulus: int, primitive: int | None) -> type[ChosenField]
 @functools.cache
 def _least_primitive(field: Any) -> int:
     """The primitive element with the least representation."""
-    return next(it for it in range(1, field.order) if field.is_primitive_element(it))
+    found = np.zeros((), _WIDE)
+    call("field_primitive_element", field._field, found)
+    return int.from_bytes(found.tobytes(), "little")
 
 
 def _again(degree: int, modulus: int, primitive: int | None) -> type[ChosenField]:

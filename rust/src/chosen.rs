@@ -207,4 +207,56 @@ impl ChosenField {
             |made| call!(bf_field_evaluate: &raw const self.words, [coefficients], [points], [mut made]),
         )
     }
+
+    /// The least primitive element, whose powers are all elements but 0: `Error::Unsolvable` where none is below 65,536, as in no field that
+    /// has been looked at.
+    ///
+    /// ```
+    /// use binary_field::chosen::ChosenField;
+    ///
+    /// assert_eq!(ChosenField::new(8, 0x1b)?.primitive_element(), Ok(3));
+    /// # Ok::<(), binary_field::Error>(())
+    /// ```
+    pub fn primitive_element(&self) -> Result<u128, Error> {
+        let mut element = [0; 2];
+        Error::of(call!(bf_field_primitive_element: &raw const self.words, &raw mut element))?;
+        Ok(whole(element))
+    }
+
+    /// An element of `target` that is a root of the modulus of this field, by which `embed` takes elements there: `Error::Unsolvable` exactly
+    /// where the degree of this field does not divide that of the target.
+    pub fn embedding(&self, target: &ChosenField) -> Result<u128, Error> {
+        let mut root = [0; 2];
+        Error::of(
+            call!(bf_field_embedding: &raw const self.words, &raw const target.words, &raw mut root),
+        )?;
+        Ok(whole(root))
+    }
+
+    /// Writes the image in `target` of each element of this field, its value at the root as a polynomial: `Error::Unsolvable` exactly where
+    /// that is no root of the modulus of this field.
+    ///
+    /// ```
+    /// use binary_field::chosen::ChosenField;
+    ///
+    /// let (small, large) = (ChosenField::new(2, 3)?, ChosenField::new(8, 0x1d)?);
+    /// let (mut images, mut squares) = ([0; 1], [0; 1]);
+    /// small.embed(&large, small.embedding(&large)?, &[2], &mut images)?;
+    /// large.square(&images, &mut squares)?;
+    /// assert_eq!(squares[0], images[0] ^ 1);
+    /// # Ok::<(), binary_field::Error>(())
+    /// ```
+    pub fn embed(
+        &self,
+        target: &ChosenField,
+        root: u128,
+        values: &[u128],
+        images: &mut [u128],
+    ) -> Result<(), Error> {
+        let (values, root) = (words_of(values), halves(root));
+        self.written(
+            images,
+            |made| call!(bf_field_embed: &raw const self.words, &raw const target.words, &raw const root, [values], [mut made]),
+        )
+    }
 }

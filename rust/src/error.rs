@@ -23,7 +23,7 @@ pub enum Error {
     Code,
     /// Too few shards or shares are present.
     TooFewShards,
-    /// The equations have no solution, the matrix no inverse, or the shares no secret.
+    /// The equations have no solution, the matrix no inverse, or there is no secret or root.
     Unsolvable,
     /// The modulus is no irreducible polynomial of degree 1 to 128.
     Reducible,

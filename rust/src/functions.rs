@@ -18,7 +18,7 @@ pub const BF_MEMORY: u32 = 3;
 pub const BF_CODE: u32 = 4;
 /// Too few shards or shares are present.
 pub const BF_TOO_FEW_SHARDS: u32 = 5;
-/// The equations have no solution, the matrix no inverse, or the shares no secret.
+/// The equations have no solution, the matrix no inverse, or there is no secret or root.
 pub const BF_UNSOLVABLE: u32 = 6;
 /// The modulus is no irreducible polynomial of degree 1 to 128.
 pub const BF_REDUCIBLE: u32 = 7;
@@ -2960,6 +2960,32 @@ unsafe extern "C" {
         points_length: usize,
         values: *mut [u64; 2],
         values_length: usize,
+    ) -> u32;
+    /// element: the least primitive element, whose powers are all elements but 0. BF_UNSOLVABLE unless there is one
+    /// below 65536, as in every field that has been looked at.
+    pub fn bf_field_primitive_element(
+        field: *const [u64; 5],
+        element: *mut [u64; 2],
+    ) -> u32;
+    /// root: an element of target that is a root of the modulus of source, by which bf_field_embed takes elements of
+    /// source to target. BF_UNSOLVABLE unless the degree of source divides that of target.
+    pub fn bf_field_embedding(
+        source: *const [u64; 5],
+        target: *const [u64; 5],
+        root: *mut [u64; 2],
+    ) -> u32;
+    /// images: the image in target of each element of source: the value at the root of the polynomial that it is, so
+    /// that sums and products are kept. BF_UNSOLVABLE unless root is a root of the modulus of source in target.
+    /// BF_LENGTH unless values and images have one length. BF_NOT_AN_ELEMENT unless each word that is read is below
+    /// 2^degree.
+    pub fn bf_field_embed(
+        source: *const [u64; 5],
+        target: *const [u64; 5],
+        root: *const [u64; 2],
+        values: *const [u64; 2],
+        values_length: usize,
+        images: *mut [u64; 2],
+        images_length: usize,
     ) -> u32;
     /// low += scalar * high, and then high += low, at each place. BF_LENGTH unless low and high have one length.
     pub fn bf_g128_butterfly_forward(

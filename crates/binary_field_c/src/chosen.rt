@@ -1,6 +1,7 @@
 // Calls over slices of elements of a field that the caller chooses.
 // Written by scripts/make_c_exports.py; do not edit.
-ghost use Rattle.c_calls.specs.ChosenFields.{OverField, PreparesField, TakesQuotients, TakesTraces, chosen_field};
+ghost use Rattle.c_calls.specs.ChosenFields.{EmbedsOver, FindsARootOver, OverField, PreparesField, TakesPrimitive, TakesQuotients};
+ghost use Rattle.c_calls.specs.ChosenFields.{TakesTraces, chosen_field};
 ghost use Rattle.c_calls.specs.Calls.{Adds, Evaluates, Inverts, Multiplies, MultipliesBy, RaisesTo, Squares, TakesDotProduct};
 ghost use Rattle.c_calls.specs.Calls.{TakesRoots};
 ghost use Rattle.c_calls.specs.Fields.{wide_number};
@@ -153,4 +154,38 @@ pub extern "C" fn bf_field_evaluate(
         values.old values.new result) values.old values.new result }
 {
     c_calls::fields::evaluate(*field, coefficients, points, values)
+}
+
+/// The least primitive element, whose powers are all elements but 0.
+#[unsafe(no_mangle)]
+pub extern "C" fn bf_field_primitive_element(field: &ChosenField, element: &mut Wide) -> u32
+    ensures { OverField field.now (TakesPrimitive (chosen_field field.now) element.old element.new result) element.old element.new result }
+{
+    c_calls::fields::primitive_element(*field, element)
+}
+
+/// An element of target that is a root of the modulus of source, by which field_embed takes elements of source to target.
+#[unsafe(no_mangle)]
+pub extern "C" fn bf_field_embedding(
+    source: &ChosenField,
+    target: &ChosenField,
+    root: &mut Wide,
+) -> u32
+    ensures { FindsARootOver source.now target.now root.old root.new result }
+{
+    c_calls::fields::embedding(*source, *target, root)
+}
+
+/// The image in target of each element of source: the value at the root of the polynomial that it is, so that sums and products are kept.
+#[unsafe(no_mangle)]
+pub extern "C" fn bf_field_embed(
+    source: &ChosenField,
+    target: &ChosenField,
+    root: &Wide,
+    values: &[Wide],
+    images: &mut [Wide],
+) -> u32
+    ensures { EmbedsOver source.now target.now root.now values.now images.old images.new result }
+{
+    c_calls::fields::embed(*source, *target, *root, values, images)
 }
