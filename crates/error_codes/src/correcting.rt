@@ -24,22 +24,31 @@ pub struct Corrected {
     pub changed: [bool; 256],
 }
 
+// Marks the places that are listed, and no others. Those behind the marks are left out.
+pub(crate) fn mark_listed(places: &[usize], marks: &mut [bool])
+    ensures long { length marks.new ≡ length marks.old }
+    ensures listed { (i : ℕ) → i < length marks.old → is_marked marks.new i ≡ is_listed places.now i }
+{
+    marks.fill(false);
+    for place in places {
+        if *place < marks.len() {
+            marks[*place] = true;
+        }
+    }
+}
+
 // The places that are listed. Those from 256 on are left out.
 pub(crate) fn listed_places(places: &[usize]) -> [bool; 256]
     ensures { (i : ℕ) → i < 256 → is_marked result i ≡ is_listed places.now i }
 {
     let mut marks = [false; 256];
-    for place in places {
-        if *place < 256 {
-            marks[*place] = true;
-        }
-    }
+    mark_listed(places, &mut marks);
     marks
 }
 
 // How many of the first places are marked.
-pub(crate) fn count_marks(marks: &[bool; 256], count: usize) -> usize
-    requires { count ≤ 256 }
+pub(crate) fn count_marks(marks: &[bool], count: usize) -> usize
+    requires { count ≤ length marks.now }
     ensures { result ≡ marked_below (is_marked marks.now) count }
 {
     let mut marked = 0;
@@ -52,8 +61,9 @@ pub(crate) fn count_marks(marks: &[bool; 256], count: usize) -> usize
 }
 
 // How many of the first places have a first mark and no second.
-fn count_others(marks: &[bool; 256], left_out: &[bool; 256], count: usize) -> usize
-    requires { count ≤ 256 }
+pub(crate) fn count_others(marks: &[bool], left_out: &[bool], count: usize) -> usize
+    requires marks { count ≤ length marks.now }
+    requires left_out { count ≤ length left_out.now }
     ensures { result ≡ marked_below (λ i. not (is_marked left_out.now i) && is_marked marks.now i) count }
 {
     let mut marked = 0;

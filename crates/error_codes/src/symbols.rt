@@ -72,7 +72,8 @@ impl SymbolField for WordField {
 
     ghost wide_law = { λ words. words.field.context.wide };
 
-    ghost field_law = { λ words. field-at words.field.degree words.field.tail words.field.ratio words.field.context words.field.irreducible };
+    ghost field_law = { λ words. field-at words.field.degree words.field.tail words.field.ratio words.field.context
+        words.field.irreducible };
 
     ghost narrow_law = { λ words. words.narrow };
 }

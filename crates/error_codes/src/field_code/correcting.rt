@@ -8,52 +8,11 @@ ghost use Rattle.error_codes.specs.FieldCodes.{AreSymbols, AreFallingPoints};
 ghost use Rattle.error_codes.specs.Filling.{falling_point, falling_scale, is_marked};
 ghost use Rattle.error_codes.specs.Words.{is_wrong};
 
+use crate::correcting::{count_marks, count_others, mark_listed};
 use crate::error::TooManyErrors;
 use crate::field_code::registers::write_register;
 use crate::field_code::{FieldCode, value_at};
 use crate::symbols::SymbolField;
-
-// Marks the places that are listed, and no others. Those behind the marks are left out.
-fn mark_listed(places: &[usize], marks: &mut [bool])
-    ensures long { length marks.new ≡ length marks.old }
-    ensures listed { (i : ℕ) → i < length marks.old → is_marked marks.new i ≡ is_listed places.now i }
-{
-    marks.fill(false);
-    for place in places {
-        if *place < marks.len() {
-            marks[*place] = true;
-        }
-    }
-}
-
-// How many of the first places are marked.
-fn count_marks(marks: &[bool], count: usize) -> usize
-    requires { count ≤ length marks.now }
-    ensures { result ≡ marked_below (is_marked marks.now) count }
-{
-    let mut marked = 0;
-    for i in 0..count {
-        if marks[i] {
-            marked += 1;
-        }
-    }
-    marked
-}
-
-// How many of the first places have a first mark and no second.
-fn count_others(marks: &[bool], left_out: &[bool], count: usize) -> usize
-    requires marks { count ≤ length marks.now }
-    requires left_out { count ≤ length left_out.now }
-    ensures { result ≡ marked_below (λ i. not (is_marked left_out.now i) && is_marked marks.now i) count }
-{
-    let mut marked = 0;
-    for i in 0..count {
-        if !left_out[i] && marks[i] {
-            marked += 1;
-        }
-    }
-    marked
-}
 
 // Marks where two words differ.
 fn mark_differing(word: &[u16], other: &[u16], marks: &mut [bool])

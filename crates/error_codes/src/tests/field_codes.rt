@@ -95,6 +95,7 @@ fn words_of_16_bits_are_corrected(rt: HostRuntime) -> Result<(), Fail> {
     word[7] ^= 1;
     word[19] = 0;
     word[11] ^= 0x8000;
+    assert!(rt; code.are_elements(&word));
     let count = code.correct(
         &mut word,
         &[11, 3, 11, 300],
@@ -109,6 +110,7 @@ fn words_of_16_bits_are_corrected(rt: HostRuntime) -> Result<(), Fail> {
         word[i] ^= 0x77;
     }
     let before = word;
+    assert!(rt; code.are_elements(&word));
     assert!(rt;
         code.correct(&mut word, &[], &mut room, &mut erased, &mut changed)
             .is_err()
