@@ -4,6 +4,7 @@ pub mod CodeDistances
 pub mod CombinedLists
 pub mod CommitmentScheme
 pub mod HonestColumns
+pub mod HonestPairs
 pub mod JointOpenings
 pub mod OpenedColumns
 pub mod OpenedTables

@@ -2,18 +2,21 @@
 // two: a challenge combines both. The sizes are those of `commitment_scheme`.
 ghost use Rattle.std.specs.Prelude.{◌≡◌, ◌↔◌, ◌+◌, ◌*◌, ◌^◌, ◌<◌, ◌≤◌, ◌∷◌, ◌++◌, [], ℕ, false, length, map, take, drop};
 ghost use Rattle.std.specs.Prelude.{IfErr, IfOk, IsTrue, OnOk};
+ghost use Rattle.std.specs.List.{range_with_len};
 ghost use Rattle.field_slices.specs.Multilinear.{multilinear_value};
+ghost use Rattle.merkle_trees.specs.Commitments.{row_at};
+ghost use Rattle.transcripts.specs.Grinding.{MayGrind};
 ghost use Rattle.sum_checks.specs.Sumcheck.{IsTurn};
 ghost use Rattle.sum_checks.specs.declared.error.ProtocolError.TheVariants.{Memory};
 ghost use Rattle.protocols.specs.CommitmentScheme.{matrix_rows, row_levels, word_levels};
-ghost use Rattle.protocols.specs.JointOpenings.{OpensBytes, OpensPair, VerifiesPair};
+ghost use Rattle.protocols.specs.JointOpenings.{IsHonestPair, OpensBytes, OpensPair, VerifiesPair};
 ghost use Rattle.protocols.specs.JointOpenings.{combined, combined_column, sent_table};
 ghost use Rattle.protocols.specs.Tables.{AgreesAt};
 
-use crate::commitment_scheme::{EXPANSION, Parameters, draw_places};
+use crate::commitment_scheme::{EXPANSION, Parameters, draw_places, grind_places};
 use crate::extension::extend;
 use crate::proof_bytes::encode;
-use crate::tables::agree_at;
+use crate::tables::{OpenedColumns, TableColumns, agree_at, column_values, open_columns};
 use field_base::traits::Field;
 use field_bytes::ShortElement;
 use field_slices::evaluate_multilinear;
@@ -25,6 +28,23 @@ use sum_checks::sumcheck::has_length;
 use transcripts::{
     ByteHasher32, CanObserve, CanSample, CanSampleUniformBits, GrindingChallenger, both,
 };
+
+/// What a prover sends of two tables.
+#[derive(Drop)]
+pub struct OpenedPair<F: Field, A: Allocator> {
+    /// The value of the first table.
+    pub value: F,
+    /// The value of the second.
+    pub other_value: F,
+    /// The values at the first coordinates of the columns of the table that the challenge combines them to.
+    pub row: Vec<F, A>,
+    /// The witness of the work.
+    pub witness: F,
+    /// The columns of the first table that are opened.
+    pub one: OpenedColumns<F, A>,
+    /// Those of the second.
+    pub other: OpenedColumns<F, A>,
+}
 
 /// What a verifier is sent of one of two tables, and the root under which it is.
 #[derive(Clone, Copy)]
@@ -89,7 +109,28 @@ fn sample_challenge<F: Field, C: CanObserve<F> + CanSample<F>, A: Allocator>(
     Ok(challenge)
 }
 
-// The value of a row at the other coordinates.
+// The row of a table's columns' values at the first coordinates.
+fn row_of_values<F: ShortElement, A: Allocator + Copy>(
+    alloc: A,
+    parameters: &Parameters,
+    held: &TableColumns<F, A>,
+    point: &[F],
+) -> Result<Vec<F, A>, AllocError>
+    requires coordinates { length point.now ≡ parameters.now.variables }
+    requires count { length held.now.columns.items ≡ 2 ^ 2 * 2 ^ row_levels parameters.now.queries parameters.now.variables
+        * 2 ^ matrix_rows parameters.now.queries parameters.now.variables }
+    ensures { IfOk result (λ row. map F.repr row.items ≡ map (λ p. multilinear_value F.product
+        (map F.repr (row_at (2 ^ matrix_rows parameters.now.queries parameters.now.variables) held.now.columns.items p))
+        (map F.repr (take (matrix_rows parameters.now.queries parameters.now.variables) point.now)))
+        (range_with_len 0 (2 ^ row_levels parameters.now.queries parameters.now.variables))) }
+{
+    let (first, _) = point.split_at(parameters.rows);
+    let size = power_of_two(parameters.levels);
+    let row = column_values(alloc, held.columns.as_slice(), size, first)?;
+    Ok(row)
+}
+
+// The value of such a row at the other coordinates.
 fn value_of_row<F: Field>(parameters: &Parameters, row: &[F], point: &[F]) -> F
     requires coordinates { length point.now ≡ parameters.now.variables }
     requires row { length row.now ≡ 2 ^ row_levels parameters.now.queries parameters.now.variables }
@@ -98,6 +139,56 @@ fn value_of_row<F: Field>(parameters: &Parameters, row: &[F], point: &[F]) -> F
 {
     let (_, others) = point.split_at(parameters.rows);
     evaluate_multilinear(row, others)
+}
+
+/// Opens the values of two tables that `commitment_scheme::commit` has committed to with these sizes, at a point of `variables` coordinates,
+/// in a transcript that may grind 16 bits: over a field of 24 bits or more. The point and both values are observed, a challenge is sampled,
+/// the row of the table that it combines them to is observed, and then places are drawn, at which the columns of both are opened. The
+/// caller's transcript begins with its statement, the sizes and both roots, and the point is drawn behind them. A verifier in a transcript
+/// of the same state accepts what is sent (`laws::pair_verdicts_agree`). It fails where the challenger does, if no witness is found,
+/// or if memory was refused.
+pub fn open_pair<
+    F: ShortElement,
+    C: CanObserve<F> + CanSample<F> + GrindingChallenger<Witness = F> + CanSampleUniformBits<F>,
+    A: Allocator + Copy,
+>(
+    alloc: A,
+    challenger: &mut C,
+    parameters: &Parameters,
+    one: &TableColumns<F, A>,
+    other: &TableColumns<F, A>,
+    point: &[F],
+) -> Result<OpenedPair<F, A>, ProtocolError>
+    requires work { MayGrind C.witness_bits 16 }
+    requires coordinates { length point.now ≡ parameters.now.variables }
+    requires depth { one.now.tree.depth ≡ word_levels parameters.now.queries parameters.now.variables }
+    requires other_depth { other.now.tree.depth ≡ word_levels parameters.now.queries parameters.now.variables }
+    requires count { length one.now.columns.items ≡ 2 ^ 2 * 2 ^ row_levels parameters.now.queries parameters.now.variables
+        * 2 ^ matrix_rows parameters.now.queries parameters.now.variables }
+    requires other_count { length other.now.columns.items ≡ 2 ^ 2 * 2 ^ row_levels parameters.now.queries parameters.now.variables
+        * 2 ^ matrix_rows parameters.now.queries parameters.now.variables }
+    ensures { IfOk result (λ opened. IsHonestPair C.observes C.gives C.passing C.checks C.gives_bits F.repr F.NUM_BYTES F.width
+        F.product (λ i. F.basis (F.cantor i)) parameters.now.queries parameters.now.variables one.now.columns.items one.now.tree
+        other.now.columns.items other.now.tree point.now opened.row.items (C.number opened.witness) opened.value opened.one.columns.items
+        opened.one.nodes.items opened.other_value opened.other.columns.items opened.other.nodes.items challenger.old) }
+{
+    let one_row = row_of_values(alloc, parameters, one, point)?;
+    let other_row = row_of_values(alloc, parameters, other, point)?;
+    let value = value_of_row(parameters, one_row.as_slice(), point);
+    let other_value = value_of_row(parameters, other_row.as_slice(), point);
+    let challenge = sample_challenge(alloc, challenger, point, value, other_value)?;
+    let row = combine(alloc, challenge, one_row.as_slice(), other_row.as_slice())?;
+    let (witness, places) = grind_places(alloc, challenger, parameters, row.as_slice())?;
+    let one_opened = open_columns(alloc, one, parameters.rows, places.as_slice())?;
+    let other_opened = open_columns(alloc, other, parameters.rows, places.as_slice())?;
+    Ok(OpenedPair {
+        value,
+        other_value,
+        row,
+        witness,
+        one: one_opened,
+        other: other_opened,
+    })
 }
 
 // Whether there are columns for these places, and nodes open their bytes under the root.

@@ -113,7 +113,8 @@ pub fn pairs_are_bound<
     roots_hold_columns();
 }
 
-/// States that the verdict on one opening of two tables is the same in transcripts of the same state.
+/// States completeness of openings of two tables with what `joint_openings::open_pair` says: in transcripts of the same state the verdict
+/// on one opening is the same. So a verifier accepts what a prover has opened.
 pub fn pair_verdicts_agree<
     F: ShortElement,
     C: CanObserve<F> + CanSample<F> + GrindingChallenger<Witness = F> + CanSampleUniformBits<F>,
