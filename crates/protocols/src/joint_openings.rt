@@ -78,7 +78,8 @@ fn combine<F: Field, A: Allocator>(
     other: &[F],
 ) -> Result<Vec<F, A>, AllocError>
     requires { length other.now ≡ length one.now }
-    ensures { IfOk result (λ list. map F.repr list.items ≡ combined F.product (F.repr challenge) (map F.repr one.now) (map F.repr other.now)) }
+    ensures { IfOk result (λ list. map F.repr list.items
+        ≡ combined F.product (F.repr challenge) (map F.repr one.now) (map F.repr other.now)) }
 {
     let mut list = Vec::new(alloc);
     'elements: for index in 0..one.len() {
