@@ -1,7 +1,7 @@
 -- What an honest prover sends of two tables is accepted.
-use Rattle.std.proofs.Common.{◌≡◌, ◌↔◌, ℕ, suc, ◌+◌, ◌-◌, ◌*◌, ◌/◌, ◌%◌, ◌^◌, ◌<◌, ◌≤◌, Bool, true, List, [], ◌∷◌, ◌++◌, length, map, take, drop, get_or}
+use Rattle.std.proofs.Common.{◌≡◌, ℕ, ◌+◌, ◌-◌, ◌*◌, ◌/◌, ◌%◌, ◌^◌, ◌<◌, ◌≤◌, Bool, true, List, [], ◌∷◌, ◌++◌, length, map, take, drop}
 use Rattle.std.proofs.Common.{append_assoc, refl, sym, ◌∙◌, ap, ap₂, subst, arith}
-use Rattle.std.specs.Prelude.{IsTrue, slice_index}
+use Rattle.std.specs.Prelude.{slice_index}
 use Rattle.std.specs.List.{range_with_len}
 use Rattle.std.specs.declared.alloc.Global.{Global}
 use Rattle.std.proofs.Math.Seq.{drop-append_seam, take-append_seam}
@@ -12,13 +12,13 @@ use Rattle.transcripts.specs.States.{GivesByState, LeadsByState}
 use Rattle.field_base.proofs.Places.{numbers-lt}
 use Rattle.field_bytes.specs.Streams.{joined_bytes}
 use Rattle.field_slices.specs.Multilinear.{multilinear_value}
-use Rattle.merkle_trees.specs.Commitments.{IsTreeOver, root_of, row_at}
+use Rattle.merkle_trees.specs.Commitments.{root_of, row_at}
 use Rattle.merkle_trees.specs.Openings.{AreAscending, OpeningsHaveOneCount, OpensRows}
 use Rattle.merkle_trees.specs.declared.merkle_tree.MerkleTree.{MerkleTree}
 use Rattle.sum_checks.specs.Sumcheck.{IsRunOf, messages_of}
 use Rattle.sum_checks.specs.SumcheckClaims.{AreHonestMessages, HonestReduces, IsClaimShape, reduced_claim}
 use Rattle.sum_checks.specs.Terms.{cube_sum}
-use Rattle.protocols.specs.CommitmentScheme.{ArePlacesDrawn, HoldsColumns, block_places, matrix_rows, place_bits, place_count, row_levels, word_levels}
+use Rattle.protocols.specs.CommitmentScheme.{ArePlacesDrawn, HoldsColumns, matrix_rows, place_bits, place_count, row_levels, word_levels}
 use Rattle.protocols.specs.Tables.{AreColumnsAt, OpensColumns, OpensPlaces}
 use Rattle.protocols.proofs.BlockPlaces.{ascending, blocks-whole}
 use Rattle.protocols.proofs.CommitmentScheme.{value-opened}

@@ -1,33 +1,24 @@
 -- What accepted proofs of a sum of products of two tables show.
-use Rattle.std.proofs.Common.{◌≡◌, ◌⊎◌, inl, inr, ℕ, zero, suc, ◌+◌, ◌-◌, ◌*◌, ◌/◌, ◌^◌, ◌<◌, ◌≤◌, List, [], ◌∷◌, ◌++◌, length, map, take, drop, get_or, refl, sym, ◌∙◌, ap, ap₂, subst, arith, lit<, lit≤}
+use Rattle.std.proofs.Common.{◌≡◌, ◌⊎◌, inl, inr, ℕ, zero, suc, ◌+◌, ◌-◌, ◌*◌, ◌/◌, ◌^◌, ◌<◌, ◌≤◌, List, [], ◌∷◌, ◌++◌, length, map, take, drop, get_or, refl, sym, ◌∙◌, ap, ap₂, subst, arith, lit≤}
 use Rattle.std.specs.Prelude.{Bool, slice_index}
-use Rattle.std.proofs.Math.Nat.{pow-le-pow_right}
 use Rattle.std.proofs.lemmas.Bool.Decides.{eqb_tells}
 use Rattle.std.proofs.lemmas.List.{drop-map, get_or-drop, get_or-take, length-append, length-drop, length-map, length-take, length-take-le, map-append, take-append-drop, take-map}
-use Rattle.std.proofs.lemmas.Nat.{pow-add, pow_pos}
-use native.Mathlib.Nat.{mod-eq_of_lt}
-use lib.Bits.{xor_zero_r}
-use Rattle.field_base.specs.Basis.{product_below}
-use Rattle.field_base.specs.Ring.{IsRing}
-use Rattle.field_base.proofs.BasisSums.{sum_below-same}
+use Rattle.std.proofs.lemmas.Nat.{pow-add}
 use Rattle.field_base.proofs.Places.{numbers-lt}
-use Rattle.field_base.proofs.RingLemmas.{mod-times}
-use Rattle.field_bytes.specs.Bytes.{low_bytes}
-use Rattle.field_bytes.specs.Streams.{joined_bytes}
-use Rattle.field_slices.specs.Multilinear.{eq_corner, multilinear_value}
+use Rattle.field_slices.specs.Multilinear.{multilinear_value}
 use Rattle.merkle_trees.specs.Commitments.{row_at}
 use Rattle.merkle_trees.specs.MerkleTrees.{HaveDigestSize}
 use Rattle.sum_checks.specs.Sumcheck.{messages_of}
 use Rattle.sum_checks.specs.SumcheckClaims.{AreMessages, FalseClaimsNeedLuck, IsClaimShape, IsSaved, reduced_claim}
-use Rattle.sum_checks.specs.Terms.{HaveFactors, cube_sum, table_value, terms_value}
+use Rattle.sum_checks.specs.Terms.{cube_sum}
 use Rattle.protocols.specs.OpenedTables.{AreColumnsOf, CommitsTo, OpenedValuesNeedLuck, ShowsTable}
-use Rattle.protocols.specs.RootColumns.{AreAccepted, HasSent, HaveOtherColumns, RootsHoldColumns, SentColumns, column_bytes}
+use Rattle.protocols.specs.RootColumns.{AreAccepted, HasSent, HaveOtherColumns, RootsHoldColumns, SentColumns}
 use Rattle.protocols.specs.SoundnessErrors.{sent_messages}
 use Rattle.protocols.specs.Tables.{AgreesAt}
 use Rattle.protocols.proofs.OpenedColumns.{opened-accepted, opened-agrees}
 use Rattle.protocols.proofs.ProofBytes.{length-proof}
 use Rattle.protocols.specs.CommitmentScheme.{matrix_rows, row_levels, word_levels}
-use Rattle.prove_sums.specs.Shapes.{columns_in, columns_size, element_count, messages_in, nodes_in, row_in, row_size, sum_in}
+use Rattle.prove_sums.specs.Shapes.{columns_in, columns_size, element_count, messages_in, row_in, row_size, sum_in}
 use Rattle.prove_sums.specs.ProofFiles.{file_bytes}
 use Rattle.prove_sums.specs.Soundness.{AcceptedFile, AcceptedProof, ElementsAreRun, ElementsShowSum, FilesShowSums, HasPoints, HaveColumns, RootsShowSums, ShowsSum, SumsAreProved, SumsNeedLuck, sent_columns}
 use Rattle.prove_sums.specs.Verdicts.{OpensTable, checks_number, gives_number, interleaved, observes_number, passes_number, product_terms, samples_bits, word_times, word_vector}

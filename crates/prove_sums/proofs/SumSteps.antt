@@ -1,5 +1,5 @@
 -- The terms of a sum of products of two tables, and what their proofs say.
-use Rattle.std.proofs.Common.{◌≡◌, ◌↔◌, ℕ, zero, suc, ◌*◌, ◌<◌, Bool, true, false, List, [], ◌∷◌, ◌++◌, append_assoc, length, map, drop, get_or, refl, sym, ◌∙◌, ap, subst, arith}
+use Rattle.std.proofs.Common.{◌≡◌, ◌↔◌, ℕ, zero, suc, ◌*◌, ◌<◌, Bool, true, false, List, [], ◌∷◌, ◌++◌, append_assoc, length, map, drop, get_or, refl, ◌∙◌, ap, subst, arith}
 use Rattle.std.specs.Prelude.{IsTrue, None, Option, Some, is_some, slice_index}
 use Rattle.sum_checks.specs.Sumcheck.{AreTurns, IsRunOf, messages_of, statement_of}
 use Rattle.sum_checks.specs.SumcheckClaims.{AreHonestMessages, reduced_claim}
