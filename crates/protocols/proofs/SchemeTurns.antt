@@ -1,21 +1,13 @@
 -- Runs, draws of places, and two verdicts on one opening, in transcripts of the same state.
-use Rattle.std.proofs.Common.{◌≡◌, ℕ, Bool, true, false, List, [], ◌∷◌, ◌++◌, length, map, drop, refl, sym, ◌∙◌, ap, ap₂, subst, arith}
-use Rattle.std.specs.Prelude.{IsTrue, slice_index}
+use Rattle.std.proofs.Common.{◌≡◌, ℕ, Bool, true, false, List, [], ◌∷◌, ◌++◌, length, refl, sym, ◌∙◌, ap, ap₂, subst, arith}
+use Rattle.std.specs.Prelude.{IsTrue}
 use Rattle.std.proofs.lemmas.Bool.{true≢false}
 use Rattle.transcripts.specs.Lists.{InTurn}
 use Rattle.transcripts.specs.States.{GivesByState, LeadsByState}
-use Rattle.sum_checks.specs.Sumcheck.{AreTurns, IsRunOf, IsTurn, Statement}
+use Rattle.sum_checks.specs.Sumcheck.{IsRunOf, Statement}
+use Rattle.sum_checks.proofs.Runs.{elements-same, observed-same, turn-same, turns-same}
 use Rattle.protocols.specs.CommitmentScheme.{ArePlacesDrawn, OpensValue, VerdictsAgree, block_places, opening_work, place_bits}
 use Rattle.protocols.specs.JointOpenings.{OpensPair, PairVerdictsAgree}
-
--- elements with the same numbers are the same
-elements-same : {F : Type 0} (repr : F → ℕ) → ((x y : F) → repr x ≡ repr y → x ≡ y) → (xs ys : List F) → map repr xs ≡ map repr ys → xs ≡ ys
-elements-same repr same [] [] are = refl
-elements-same repr same [] (y ∷ ys) are = let none = ap length are in absurd (omega (arith, none))
-elements-same repr same (x ∷ xs) [] are = let none = ap length are in absurd (omega (arith, none))
-elements-same repr same (x ∷ xs) (y ∷ ys) are =
-    ap₂ (λ (z : _) (zs : List _). z ∷ zs) (same x y (ap (λ (ns : List ℕ). slice_index ns 0) are))
-    (elements-same repr same xs ys (ap (λ (ns : List ℕ). drop 1 ns) are))
 
 -- tests that follow from each other
 same-tests : (one other : Bool) → (IsTrue one → IsTrue other) → (IsTrue other → IsTrue one) → one ≡ other
@@ -31,47 +23,14 @@ module _ {C S F : Type 0} (state : C → S) (observes gives : C → F → C → 
     (passing_law : (one other : C) (bits n : ℕ) → state one ≡ state other → passing one bits n ≡ passing other bits n)
     (checks_law : (bits n : ℕ) → LeadsByState state (λ old new. checks old bits n new))
     (bits_law : (bits : ℕ) → GivesByState state (λ (old : C) (number : ℕ) (new : C). gives_bits old bits number new)) where
-  -- what is observed leads to the same state
-  led : (values : List F) (old new other_old other_new : C) → state old ≡ state other_old → InTurn observes values old new
-      → InTurn observes values other_old other_new → state new ≡ state other_new
-  unfolding InTurn
-  led [] old new other_old other_new same one other = ap state one ∙ same ∙ sym (ap state other)
-  led (value ∷ values) old new other_old other_new same one other =
-      led values one.0 new other.0 other_new (observes_law value old one.0 other_old other.0 same one.1 other.1) one.2 other.2
-
-  -- a turn with the same message has the same challenge
-  turn-same : (message : List F) (challenge other_challenge : F) (old new other_old other_new : C) → state old ≡ state other_old
-      → IsTurn observes gives old message challenge new → IsTurn observes gives other_old message other_challenge other_new
-      → (challenge ≡ other_challenge) × (state new ≡ state other_new)
-  turn-same message challenge other_challenge old new other_old other_new same one other =
-      let observed = led message old one.0 other_old other.0 same one.1 other.1 in
-      let drawn = gives_law one.0 new other.0 other_new challenge other_challenge observed one.2 other.2 in
-      (drawn.0, drawn.1)
-
-  -- turns with the same messages have the same challenges
-  turns-led : (messages : List (List F)) (point other_point : List F) (old new other_old other_new : C) → state old ≡ state other_old
-      → AreTurns observes gives old messages point new → AreTurns observes gives other_old messages other_point other_new
-      → (point ≡ other_point) × (state new ≡ state other_new)
-  unfolding AreTurns
-  turns-led [] [] [] old new other_old other_new same one other = (refl, ap state (sym one) ∙ same ∙ ap state other)
-  turns-led [] [] (s ∷ ss) old new other_old other_new same one other = absurd other
-  turns-led [] (r ∷ rs) ss old new other_old other_new same one other = absurd one
-  turns-led (g ∷ gs) [] ss old new other_old other_new same one other = absurd one
-  turns-led (g ∷ gs) (r ∷ rs) [] old new other_old other_new same one other = absurd other
-  turns-led (g ∷ gs) (r ∷ rs) (s ∷ ss) old new other_old other_new same one other =
-      let observed = led g old one.1.0 other_old other.1.0 same one.1.1 other.1.1 in
-      let first = gives_law one.1.0 one.0 other.1.0 other.0 r s observed one.1.2 other.1.2 in
-      let later = turns-led gs rs ss one.0 new other.0 other_new first.1 one.2 other.2 in
-      (ap₂ (λ (x : F) (xs : List F). x ∷ xs) first.0 later.0, later.1)
-
-  -- and so have runs of the same statement
+  -- runs of the same statement have the same challenges, and end in the same state
   pub runs-same : (repr : F → ℕ) → ((x y : F) → repr x ≡ repr y → x ≡ y) → (statement : Statement) (messages : List (List F))
       {point other_point : List F} {old new other_old other_new : C} → state old ≡ state other_old
       → IsRunOf observes gives repr old statement messages point new → IsRunOf observes gives repr other_old statement messages other_point other_new
       → (point ≡ other_point) × (state new ≡ state other_new)
   runs-same repr same_law statement messages {point} {other_point} {old} {new} {other_old} {other_new} same one two =
-      turns-led messages point other_point one.1 new two.1 other_new
-      (led one.0 old one.1 other_old two.1 same one.3
+      turns-same observes gives state observes_law gives_law messages point other_point one.1 new two.1 other_new
+      (observed-same observes gives state observes_law gives_law one.0 old one.1 other_old two.1 same one.3
       (subst (λ (xs : List F). InTurn observes xs other_old two.1) (elements-same repr same_law two.0 one.0 (two.2 ∙ sym one.2)) two.3)) one.4
       two.4
 
@@ -99,7 +58,8 @@ module _ {C S F : Type 0} (state : C → S) (observes gives : C → F → C → 
   )
     where
       between : state first.turn.0 ≡ state second.turn.0
-      between = led sent old first.turn.0 other_old second.turn.0 same first.turn.1 second.turn.1
+      between =
+          observed-same observes gives state observes_law gives_law sent old first.turn.0 other_old second.turn.0 same first.turn.1 second.turn.1
 
       turned : state first.turned ≡ state second.turned
       turned =
@@ -141,7 +101,8 @@ module _ {C S F : Type 0} (state : C → S) (observes gives : C → F → C → 
     where
       turn : (a.challenge ≡ b.challenge) × (state a.between ≡ state b.between)
       turn =
-          turn-same (point ++ one.value ∷ other.value ∷ []) a.challenge b.challenge prover a.between verifier b.between same a.turn b.turn
+          turn-same observes gives state observes_law gives_law prover a.between verifier b.between (point ++ one.value ∷ other.value ∷ [])
+          a.challenge b.challenge same a.turn b.turn
 
       drawn : (a.works ≡ b.works) × (a.places ≡ b.places)
       drawn = places-same turn.1 a.drawn b.drawn

@@ -11,6 +11,7 @@ use Rattle.merkle_trees.specs.MerkleTrees.{HaveDigestSize}
 use Rattle.sum_checks.specs.Sumcheck.{messages_of}
 use Rattle.sum_checks.specs.SumcheckClaims.{AreMessages, FalseClaimsNeedLuck, IsClaimShape, IsSaved, reduced_claim}
 use Rattle.sum_checks.specs.Terms.{cube_sum}
+use Rattle.sum_checks.proofs.Runs.{messages-length}
 use Rattle.protocols.specs.OpenedTables.{AreColumnsOf, CommitsTo, OpenedValuesNeedLuck, ShowsTable}
 use Rattle.protocols.specs.RootColumns.{AreAccepted, HasSent, HaveOtherColumns, RootsHoldColumns, SentColumns}
 use Rattle.protocols.specs.SoundnessErrors.{sent_messages}
@@ -22,7 +23,6 @@ use Rattle.prove_sums.specs.Shapes.{columns_in, columns_size, element_count, mes
 use Rattle.prove_sums.specs.ProofFiles.{file_bytes}
 use Rattle.prove_sums.specs.Soundness.{AcceptedFile, AcceptedProof, ElementsAreRun, ElementsShowSum, FilesShowSums, HasPoints, HaveColumns, RootsShowSums, ShowsSum, SumsAreProved, SumsNeedLuck, sent_columns}
 use Rattle.prove_sums.specs.Verdicts.{OpensTable, checks_number, gives_number, interleaved, observes_number, passes_number, product_terms, samples_bits, word_times, word_vector}
-use Rattle.prove_sums.proofs.SumSteps.{messages-length}
 use Rattle.prove_sums.proofs.TwoTables.{tables-shape, values-product}
 
 -- ---- of columns

@@ -1,9 +1,10 @@
 -- The terms of a sum of products of two tables, and what their proofs say.
-use Rattle.std.proofs.Common.{◌≡◌, ◌↔◌, ℕ, zero, suc, ◌*◌, ◌<◌, Bool, true, false, List, [], ◌∷◌, ◌++◌, append_assoc, length, map, drop, get_or, refl, ◌∙◌, ap, subst, arith}
+use Rattle.std.proofs.Common.{◌≡◌, ◌↔◌, ℕ, zero, suc, ◌*◌, ◌<◌, Bool, true, false, List, [], ◌∷◌, ◌++◌, append_assoc, length, map, get_or, refl, ◌∙◌, ap, subst, arith}
 use Rattle.std.specs.Prelude.{IsTrue, None, Option, Some, is_some, slice_index}
 use Rattle.sum_checks.specs.Sumcheck.{AreTurns, IsRunOf, messages_of, statement_of}
 use Rattle.sum_checks.specs.SumcheckClaims.{AreHonestMessages, reduced_claim}
 use Rattle.sum_checks.specs.Terms.{AreWithin, Product, cube_sum, degree_of}
+use Rattle.sum_checks.proofs.Runs.{messages-length, turns-length}
 use Rattle.prove_sums.specs.Verdicts.{interleaved, product_terms, sum_statement}
 
 -- ---- the terms
@@ -45,20 +46,6 @@ number-at repr (y ∷ ys) zero x inside read = ap repr read
 number-at repr (y ∷ ys) (suc place) x inside read = number-at repr ys place x (omega (arith, inside)) read
 
 -- ---- runs
-
--- there is a challenge for each message
-turns-length : {C F : Type 0} (observes gives : C → F → C → Type 0) (messages : List (List F)) (challenges : List F) (old new : C)
-    → AreTurns observes gives old messages challenges new → length challenges ≡ length messages
-unfolding AreTurns
-turns-length observes gives [] [] old new same = refl
-turns-length observes gives [] (r ∷ rs) old new none = absurd none
-turns-length observes gives (m ∷ ms) [] old new none = absurd none
-turns-length observes gives (m ∷ ms) (r ∷ rs) old new turns = ap suc (turns-length observes gives ms rs turns.0 new turns.2)
-
-pub messages-length : {F : Type 0} (d n : ℕ) (values : List F) → length (messages_of d n values) ≡ n
-unfolding messages_of
-messages-length d zero values = refl
-messages-length d (suc n) values = ap suc (messages-length d n (drop d values))
 
 module _ {C F : Type 0} (observes : C → F → C → Type 0) (gives : C → F → C → Type 0) (repr : F → ℕ) (width : ℕ) (times : ℕ → ℕ → ℕ)
     (rounds : ℕ) (old new : C) (terms : List Product) (same : terms ≡ product_terms) where

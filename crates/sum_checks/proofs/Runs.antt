@@ -35,7 +35,7 @@ module _ {C F : Type 0} (observes : C → F → C → Type 0) (gives : C → F �
         observed-same xs is.0 new are.0 other_new (observes_law x old is.0 other_old are.0 same is.1 are.1) is.2 are.2
 
     -- and one message to the same challenge
-    turn-same : (old new other_old other_new : C) (g : List F) (r s : F) → state old ≡ state other_old
+    pub turn-same : (old new other_old other_new : C) (g : List F) (r s : F) → state old ≡ state other_old
         → IsTurn observes gives old g r new → IsTurn observes gives other_old g s other_new → (r ≡ s) × (state new ≡ state other_new)
     turn-same old new other_old other_new g r s same is are =
         gives_law is.0 new are.0 other_new r s (observed-same g old is.0 other_old are.0 same is.1 are.1) is.2 are.2
