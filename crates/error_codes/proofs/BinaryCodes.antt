@@ -344,7 +344,7 @@ module _ (times : ℕ → ℕ → ℕ) (field : IsField 8 times) where
 
   pub conjugates-none : (root : ℕ) → MarkConjugates times root 0 (is_marked (replicate {A = Bool} 256 false))
   conjugates-none root b below = (
-    λ marked. (let none : false ≡ true = sym (none-marked b) ∙ marked in absurd (cc)),
+    λ marked. (let none : false ≡ true = sym (none-marked 256 b) ∙ marked in absurd (cc)),
     λ of. (let within = of.within in absurd (omega (arith, within))),
   )
 
