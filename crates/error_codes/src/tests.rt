@@ -230,6 +230,9 @@ const FORMAT_INFORMATION: [u8; 15] = [0, 0, 1, 0, 1, 0, 0, 1, 1, 0, 1, 1, 1, 0, 
 // that is nearest to one with other symbols than bits is left.
 fn corrects_format_information(code: &BinaryBch) -> bool {
     let mut word = [0, 0, 1, 0, 1, 7, 7, 7, 7, 7, 7, 7, 7, 7, 7];
+    if code.word_length() != 15 || code.dimension() != 5 {
+        return false;
+    }
     code.encode(&mut word);
     if word != FORMAT_INFORMATION || !code.is_code_word(&word) {
         return false;
@@ -277,7 +280,7 @@ fn has_dimension(errors: usize, dimension: usize) -> bool {
 #[test]
 fn words_of_bits_are_corrected(rt: HostRuntime) -> Result<(), Fail> {
     let code = BinaryBch::new(ByteField::Qr, 15, 3, 17)?;
-    assert!(rt; code.dimension() == 5 && corrects_format_information(&code));
+    assert!(rt; corrects_format_information(&code));
     for (errors, dimension) in DIMENSIONS {
         assert!(rt; has_dimension(errors, dimension));
     }

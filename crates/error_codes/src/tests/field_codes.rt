@@ -1,5 +1,5 @@
 // Words of codes over fields of 2^16 and 2^12 elements, as another library writes them.
-use crate::error::CodeError;
+use crate::error::{CodeError, TooManyErrors};
 use crate::field_code::FieldCode;
 use crate::symbols::{SymbolField, WordField};
 use any_field::BinaryExtension;
@@ -83,38 +83,44 @@ fn codes_that_no_field_has(rt: HostRuntime) -> Result<(), Fail> {
     Ok(())
 }
 
+// Corrects a word of a code of 20 symbols, 12 of which are data. `None` of another code, and where a symbol is no element.
+fn corrected(
+    code: &FieldCode<WordField>,
+    word: &mut [u16],
+    erasures: &[usize],
+    changed: &mut [bool; 20],
+) -> Option<Result<usize, TooManyErrors>> {
+    if code.word_length() != 20 || code.dimension() != 12 || word.len() != 20 {
+        return None;
+    }
+    if !code.are_elements(word) {
+        return None;
+    }
+    let mut room = [9; 83];
+    let mut erased = [true; 20];
+    Some(code.correct(word, erasures, &mut room, &mut erased, changed))
+}
+
 #[test]
 fn words_of_16_bits_are_corrected(rt: HostRuntime) -> Result<(), Fail> {
     let code = FieldCode::new(words(16, 0x100b)?, 20, 12, 0, 2)?;
-    let mut room = [9; 83];
     assert_eq!(rt; code.room(), 83);
-    let mut erased = [true; 20];
     let mut changed = [true; 20];
     let mut word = WORD;
     word[0] ^= 0xffff;
     word[7] ^= 1;
     word[19] = 0;
     word[11] ^= 0x8000;
-    assert!(rt; code.are_elements(&word));
-    let count = code.correct(
-        &mut word,
-        &[11, 3, 11, 300],
-        &mut room,
-        &mut erased,
-        &mut changed,
-    )?;
+    let count = corrected(&code, &mut word, &[11, 3, 11, 300], &mut changed);
+    assert!(rt; matches!(count, Some(Ok(4))));
     assert_eq!(rt; word, WORD);
-    assert_eq!(rt; count, 4);
     assert!(rt; changed[19] && !changed[3]);
     for i in 0..5 {
         word[i] ^= 0x77;
     }
     let before = word;
-    assert!(rt; code.are_elements(&word));
-    assert!(rt;
-        code.correct(&mut word, &[], &mut room, &mut erased, &mut changed)
-            .is_err()
-    );
+    let refused = corrected(&code, &mut word, &[], &mut changed);
+    assert!(rt; matches!(refused, Some(Err(TooManyErrors))));
     assert_eq!(rt; word, before);
     Ok(())
 }
