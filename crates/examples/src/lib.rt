@@ -1,6 +1,7 @@
 //! Examples of programs over `binary_field`: contracts of their own over any ring and at a field by its name, secret sharing over
 //! any field, elements as keys of a hash map, one product in both bases, a linear map of a few elements, generic code over
-//! packings and over elements as data, elements as JSON, and the errors of a transcript in one of the program's own.
+//! packings and over elements as data, elements as JSON, the errors of a transcript in one of the program's own, and a proof system of
+//! committed tables and a zero-check.
 //!
 //! All of it is for tests alone: a crate that names `binary_field` loads every crate below it, once for its functions and once more for
 //! its tests.
@@ -17,6 +18,8 @@ mod logarithms;
 #[cfg(test)]
 mod packings;
 #[cfg(test)]
+mod proof_system;
+#[cfg(test)]
 mod sharing;
 #[cfg(test)]
 mod texts;
@@ -27,3 +30,5 @@ mod witnesses;
 pub use crate::contracts::{product_of_slice, sum_of_slice, value_on_line};
 #[cfg(test)]
 pub use crate::packings::{front_packing, packed_dot_product};
+#[cfg(test)]
+pub use crate::proof_system::{Proof, Roots, prove, verify, verify_in};
