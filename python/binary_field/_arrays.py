@@ -231,15 +231,15 @@ class FieldArray(Matrices):
     def __truediv__(self: A, other: A | _Integers) -> A:
         if _is_left_to(other):
             return NotImplemented
-        return self._over(self._other(other))
+        return self._quotient(self._other(other))
 
     def __rtruediv__(self: A, other: A | _Integers) -> A:
-        return self.reciprocal() if isinstance(other, int) and other == 1 else self._other(other)._over(self)
+        return self.reciprocal() if isinstance(other, int) and other == 1 else self._other(other)._quotient(self)
 
     def __itruediv__(self: A, other: A | _Integers) -> A:
-        return self._over(self._other(other), self)
+        return self._quotient(self._other(other), self)
 
-    def _over(self: A, divisor: A, out: A | None = None) -> A:
+    def _quotient(self: A, divisor: A, out: A | None = None) -> A:
         """The quotients, after broadcasting; ZeroDivisionError where a divisor is 0."""
         return self._elementwise("multiply", divisor.reciprocal(), out)
 

@@ -66,9 +66,9 @@ class ChosenField(FieldArray, metaclass=_Chosen):
         result._parts()[0][...] = elements._words
         return result
 
-    def _over(self, divisor: Any, out: Any = None) -> Any:
+    def _quotient(self, divisor: Any, out: Any = None) -> Any:
         if not divisor.ndim:
-            return super()._over(divisor, out)
+            return super()._quotient(divisor, out)
         divisor._refuse_zero()
         return self._elementwise("divide", divisor, out)
 

@@ -131,7 +131,7 @@ def _multiply(left: FieldArray, right: FieldArray, out: FieldArray | None = None
 
 
 def _divide(left: FieldArray, right: FieldArray, out: FieldArray | None = None) -> FieldArray:
-    return left._over(right, out)
+    return left._quotient(right, out)
 
 
 def _same(values: FieldArray, out: FieldArray | None = None) -> FieldArray:
