@@ -226,7 +226,9 @@ class CorrectingCode:
         words = np.zeros(_resized(data.shape, axis, count + self._n - self._k), np.uint8)
         words[_front(axis, count)] = data
         call(f"code_encode{name}", *self._of(words.shape[axis]), words)
-        return words if output == "codeword" else words[_front(axis, count, behind=True)].copy()
+        if output == "codeword":
+            return words
+        return np.array(words[_front(axis, count, behind=True)])
 
     def syndromes(self, codeword: Any, axis: int = -1) -> Words:
         """The values of words at the roots, in the same axis: all 0 for a word of the code.
