@@ -19,7 +19,7 @@ const BYTES = {
   polyval_state: 8 * STATE_WORDS,
   field: 8 * FIELD_WORDS
 };
-const ARRAY_OF = { u8: "Uint8Array", u16: "Uint16Array", u32: "Uint32Array" };
+const ARRAY_OF = { u8: "Uint8Array", bool: "Uint8Array", u16: "Uint16Array", u32: "Uint32Array" };
 const PAGE = 65536;
 const ALIGNMENT = 16;
 const ARRAYS = new Set(["in", "inout", "out", "space"]);
