@@ -85,6 +85,7 @@ FindsARootOver source target old new status =
     OverField source (OverField target (FindsARoot source.degree (wide_number source.tail) target.degree (wide_number target.tail) old new status)
     old new status) old new status
 
+-- and the call that writes images: refused where the words of one of the two name no field, those of the first told first
 abbrev pub EmbedsOver : ChosenField → ChosenField → Wide → List Wide → List Wide → List Wide → ℕ → Type 0
 EmbedsOver source target root xs old new status =
     OverField source (OverField target (Embeds source.degree (wide_number source.tail) target.degree (wide_number target.tail) root xs old new status)

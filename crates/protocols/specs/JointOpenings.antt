@@ -38,6 +38,7 @@ pub record SentTable (F : Type 0) : Type 0 where
   pub columns : List F
   pub nodes : List (List ℕ)
 
+-- such a record of these four
 abbrev pub sent_table : {F : Type 0} → List ℕ → F → List F → List (List ℕ) → SentTable F
 sent_table root value columns nodes = record { root = root; value = value; columns = columns; nodes = nodes }
 
