@@ -26,3 +26,6 @@ pub mod ScalarMaps
 pub mod ByteModuli
 pub mod SearchSteps
 pub mod FoundOptions
+pub mod ShiftAndAdd
+pub mod AlignedBytes
+pub mod BlockSteps

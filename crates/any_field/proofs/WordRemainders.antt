@@ -21,7 +21,7 @@ pub power-split : (w : ℕ) → w ≤ 128 → 2 ^ 128 ≡ 2 ^ w * 2 ^ (128 - w)
 power-split w narrow = let sum : 128 ≡ w + (128 - w) = omega arith in ap (λ (n : ℕ). 2 ^ n) sum ∙ pow-add 2 w (128 - w)
 
 -- a common factor of a number and of what divides it
-scaled-mod : (x n k : ℕ) → 0 < n → 0 < k → x * k % (n * k) ≡ x % n * k
+pub scaled-mod : (x n k : ℕ) → 0 < n → 0 < k → x * k % (n * k) ≡ x % n * k
 scaled-mod x n k n_some k_some =
     let less : x % n * k < n * k = mul-lt_right (x % n) n k k_some (mod-lt x n_some) in
     ap (λ (z : ℕ). z * k % (n * k)) (sym (div-add-mod' x n))

@@ -3,6 +3,7 @@ ghost use Rattle.std.specs.Prelude.{◌≡◌, ◌%◌, ◌^◌, ◌<◌, ◌↔
 ghost use Rattle.field_base.specs.Field.{IsField};
 ghost use Rattle.any_field.specs.Contexts.{HasNoFactors, IsContext, IsFieldModulus, field_product, with_top};
 
+mod bytes;
 mod embeddings;
 mod factored_logarithms;
 mod inverses;

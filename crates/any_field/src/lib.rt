@@ -2,6 +2,7 @@
 //! the tests are exact, and why such a field is one.
 #![tactic(auto)]
 
+mod byte_lanes;
 mod extension;
 mod irreducible;
 pub mod laws;

@@ -8,6 +8,7 @@ ghost use Rattle.any_field.specs.Contexts.{field_product};
 
 use crate::extension::BinaryExtension;
 use crate::reduction::{low_bits, reduce};
+use field_base::Holds;
 use word_carryless::multiply_128;
 
 // From so many words on tables of the products by an element pay.
@@ -19,8 +20,27 @@ impl BinaryExtension {
         requires { length others.now ≡ length words.old }
         ensures { words.new ≡ zip2 (field_product self.degree self.tail) words.old others.now }
     {
-        for place in 0..words.len() {
-            words[place] = self.multiply(words[place], others[place]);
+        self.multiply_words(words, others);
+    }
+
+    /// The same of words that hold numbers of 128 bits, as those of other languages do. Up to degree 8 it is thirty-two words at once.
+    pub fn multiply_words<W: Holds<u128>>(self, words: &mut [W], others: &[W])
+        requires { length others.now ≡ length words.old }
+        ensures long { length words.new ≡ length words.old }
+        ensures products { map W.number words.new
+            ≡ zip2 (field_product self.degree self.tail) (map W.number words.old) (map W.number others.now) }
+    {
+        let blocks = self.byte_blocks(words.len());
+        for block in 0..blocks {
+            let start = 32 * block;
+            let products = self.products_by_bytes(words, others, start);
+            for lane in 0..32usize {
+                words[start + lane] = W::of_stored(products[lane] as u128);
+            }
+        }
+        for place in 32 * blocks..words.len() {
+            let product = self.multiply(words[place].stored(), others[place].stored());
+            words[place] = W::of_stored(product);
         }
     }
 
