@@ -30,6 +30,7 @@ pub mod Meanings
 pub mod Candidates
 pub mod DualBytes
 pub mod WordColumns
+pub mod LaneRegisters
 pub mod CleanWords
 pub mod NibbleFields
 pub mod NibbleWords

@@ -27,3 +27,8 @@ module _ (times : ℕ → ℕ → ℕ) (root first n checks : ℕ) where
     pub found : (sent : List ℕ) → IsMeant times root first n checks received erasures sent → (said ≡ true) × (left ≡ sent)
     pub right : said ≡ true → IsMeant times root first n checks received erasures left
     pub kept : said ≡ false → left ≡ received
+
+-- tables of the first scalars, 32 entries for each: its products by 0, .., 15, and then by 0, 16, .., 240
+pub record HaveProducts (times : ℕ → ℕ → ℕ) (scalars : List ℕ) (count : ℕ) (tables : List ℕ) : Type 0 where
+  pub low : (j n : ℕ) → j < count → n < 16 → slice_index tables (32 * j + n) ≡ times n (slice_index scalars j)
+  pub high : (j n : ℕ) → j < count → n < 16 → slice_index tables (32 * j + 16 + n) ≡ times (16 * n) (slice_index scalars j)

@@ -120,15 +120,12 @@ impl CorrectingCode {
             (power 1 (byte_times self.now.field) self.now.root (self.now.first_root + m)) }
         ensures zeros { (m : ℕ) → self.now.word_length - self.now.dimension ≤ m → slice_index result m ≡ 0 }
     {
-        let mut values = [0; 256];
-        let mut found = [0; 8];
-        for m in 0..self.word_length - self.dimension {
-            if m % 8 == 0 {
-                found = values_at_eight(self.field, word, &self.roots, m);
-            }
-            values[m] = found[m % 8];
-        }
-        values
+        values_at(
+            self.field,
+            word,
+            &self.roots,
+            self.word_length - self.dimension,
+        )
     }
 
     /// Whether a word has the code's length, and the polynomial whose coefficients are its symbols is 0 at every root.
@@ -172,6 +169,29 @@ fn values_at_eight(field: ByteField, word: &[u8], roots: &[u8; 256], first: usiz
     let mut values = [0; 8];
     for symbol in word {
         add_symbol(field, &mut values, roots, first, *symbol);
+    }
+    values
+}
+
+// The values at the first points, and zeros behind them.
+pub(crate) fn values_at(
+    field: ByteField,
+    word: &[u8],
+    points: &[u8; 256],
+    count: usize,
+) -> [u8; 256]
+    requires { count ≤ 256 }
+    ensures values { (m : ℕ) → m < count → slice_index result m
+        ≡ code_value (byte_times field) (length word.now) (slice_index word.now) (slice_index points.now m) }
+    ensures zeros { (m : ℕ) → count ≤ m → slice_index result m ≡ 0 }
+{
+    let mut values = [0; 256];
+    let mut found = [0; 8];
+    for m in 0..count {
+        if m % 8 == 0 {
+            found = values_at_eight(field, word, points, m);
+        }
+        values[m] = found[m % 8];
     }
     values
 }

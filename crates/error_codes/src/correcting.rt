@@ -10,8 +10,7 @@ ghost use Rattle.error_codes.specs.Correcting.{HasRoots, IsMeant, code_value, is
 ghost use Rattle.error_codes.specs.Filling.{falling_point, falling_scale, is_marked};
 ghost use Rattle.error_codes.specs.Words.{is_wrong};
 
-use crate::byte_field::{ByteField, multiply};
-use crate::code::CorrectingCode;
+use crate::code::{CorrectingCode, values_at};
 use crate::error::TooManyErrors;
 use crate::shift_registers::{Register, shortest_register};
 
@@ -75,18 +74,6 @@ pub(crate) fn count_others(marks: &[bool], left_out: &[bool], count: usize) -> u
     marked
 }
 
-// The value at x of the polynomial with the coefficients of a register, the first that of the highest power.
-fn reverse_value(field: ByteField, register: &Register, x: u8) -> u8
-    requires { register.now.size < 256 }
-    ensures { result ≡ code_value (byte_times field) (register.now.size + 1) (slice_index register.now.coefficients) x }
-{
-    let mut value = 0;
-    for i in 0..register.size + 1 {
-        value = multiply(field, value, x) ^ register.coefficients[i];
-    }
-    value
-}
-
 // Where two words differ.
 fn differing_places(word: &[u8], other: &[u8; 256]) -> [bool; 256]
     requires { length word.now ≤ 256 }
@@ -109,9 +96,11 @@ impl CorrectingCode {
             → is_marked result i ≡ (is_marked erased.now i || nat_eq (code_value times (register.now.size + 1)
             (slice_index register.now.coefficients) (falling_point times self.now.root n i)) 0) }
     {
+        let coefficients = &register.coefficients[..register.size + 1];
+        let values = values_at(self.field, coefficients, &self.points, self.word_length);
         let mut marks = *erased;
         for i in 0..self.word_length {
-            let value = reverse_value(self.field, register, self.points[i]);
+            let value = values[i];
             if value == 0 {
                 marks[i] = true;
             }
@@ -129,7 +118,8 @@ impl CorrectingCode {
             (falling_scale times self.now.root self.now.first_root n) (slice_index word.now) (is_marked erased.now) sent
             → IsSomeAnd result (λ fixed. (i : ℕ) → i < n → slice_index fixed i ≡ sent i) }
     {
-        let mut sums = self.syndromes(word);
+        let syndromes = self.syndromes(word);
+        let mut sums = syndromes;
         let left = self.sift(&mut sums, erased, self.word_length);
         let register = shortest_register(self.field, &sums, left);
         let size = register.size;
@@ -142,7 +132,7 @@ impl CorrectingCode {
         if count > checks {
             return None;
         }
-        Some(self.filled(word, &suspected))
+        Some(self.filled(word, &syndromes, &suspected))
     }
 
     // Takes another word in place of the received one, if it is a code word and differs at no more than `most` places

@@ -94,8 +94,17 @@ impl CorrectingCode {
     }
 
     // The code word that has the symbols of a word at all places that are not marked, where there is one.
-    pub(crate) fn filled(&self, word: &[u8], marked: &[bool; 256]) -> [u8; 256]
+    pub(crate) fn filled(
+        &self,
+        word: &[u8],
+        syndromes: &[u8; 256],
+        marked: &[bool; 256],
+    ) -> [u8; 256]
         requires long { length word.now ≡ self.now.word_length }
+        requires values { let times = byte_times self.now.field in let n = self.now.word_length in
+            (m : ℕ) → m < n - self.now.dimension → slice_index syndromes.now m
+            ≡ syndrome times n (falling_point times self.now.root n)
+            (falling_scale times self.now.root self.now.first_root n) (slice_index word.now) m }
         requires few { marked_below (is_marked marked.now) self.now.word_length
             ≤ self.now.word_length - self.now.dimension }
         ensures { let times = byte_times self.now.field in let n = self.now.word_length in (sent : ℕ → ℕ)
@@ -104,12 +113,11 @@ impl CorrectingCode {
             → ((i : ℕ) → i < n → is_marked marked.now i ≡ false → slice_index word.now i ≡ sent i)
             → (i : ℕ) → i < n → slice_index result i ≡ sent i }
     {
-        let syndromes = self.syndromes(word);
         let mut symbols = [0; 256];
         for i in 0..self.word_length {
             let mut symbol = word[i];
             if marked[i] {
-                symbol = symbol ^ self.difference(&syndromes, marked, i);
+                symbol = symbol ^ self.difference(syndromes, marked, i);
             }
             symbols[i] = symbol;
         }

@@ -17,6 +17,9 @@ use word_tables::map_bytes;
 // From so many words on, a row of symbols is multiplied by a scalar faster than each word apart.
 const LEAST_ROW: usize = 16;
 
+// From so many words on they are encoded in lanes faster than each word apart.
+const LEAST_LANES: usize = 4;
+
 // Writes word c, as many symbols of it as there is room for.
 fn read_word(symbols: &[u8], depth: usize, c: usize, word: &mut [u8])
     requires whole { length word.old * depth ≤ length symbols.now }
@@ -180,8 +183,12 @@ impl CorrectingCode {
         ensures encoded { AreEncoded (byte_times self.now.field) self.now.root self.now.first_root self.now.word_length
             (self.now.word_length - self.now.dimension) depth self.now.dimension words.old words.new }
     {
-        for c in 0..depth {
-            self.encode_word(words, depth, c);
+        if depth < LEAST_LANES {
+            for c in 0..depth {
+                self.encode_word(words, depth, c);
+            }
+        } else {
+            self.encode_lanes(words, depth);
         }
     }
 

@@ -13,6 +13,7 @@ mod error;
 mod field_code;
 mod filling;
 mod interleaved;
+mod lanes;
 pub mod laws;
 mod nibble_code;
 mod shift_registers;

@@ -144,10 +144,10 @@ fn a_word_is_sent_in_the_dual_basis(rt: HostRuntime) -> Result<(), Fail> {
 // Whether so many words side by side are encoded, and corrected where they lack two symbols and the second has one error more; the
 // third has more than can be.
 fn corrects_side_by_side(code: &CorrectingCode, depth: usize) -> bool {
-    let mut sent = [0; 442];
-    let mut values = [7; 170];
-    let mut corrected = [false; 17];
-    if depth < 3 || depth > 17 || code.word_length() != 26 || code.dimension() != 16 {
+    let mut sent = [0; 858];
+    let mut values = [7; 330];
+    let mut corrected = [false; 33];
+    if depth < 3 || depth > 33 || code.word_length() != 26 || code.dimension() != 16 {
         return false;
     }
     for i in 0..16 * depth {
@@ -184,7 +184,7 @@ fn corrects_side_by_side(code: &CorrectingCode, depth: usize) -> bool {
 #[test]
 fn interleaved_words_are_corrected(rt: HostRuntime) -> Result<(), Fail> {
     let code = CorrectingCode::qr(26, 16)?;
-    assert!(rt; corrects_side_by_side(&code, 3) && corrects_side_by_side(&code, 17));
+    assert!(rt; corrects_side_by_side(&code, 3) && corrects_side_by_side(&code, 33));
     Ok(())
 }
 

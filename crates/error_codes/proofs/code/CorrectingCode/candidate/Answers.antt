@@ -10,6 +10,12 @@ pub sift-left-requires : goal.sift-left-requires
 sift-left-requires c =
     let same = all-marked c.args.erased.now c.args.self.now.word_length in omega (arith, same, c.requires.few)
 
+pub filled-requires-clause-values : goal.filled-requires-clause-values
+filled-requires-clause-values c = λ m below.
+    let code = c.args.self.now in
+    syndrome-read 8 (byte_times code.field) (lit< tt) (bytes_are_fields code.field) code.word_length code.root code.first_root m
+    (slice_index c.syndromes-syndromes.result m) c.args.word.now c.requires.long (c.syndromes-syndromes.ensures.values m below)
+
 pub returns-then-size-most : goal.returns-then-size-most
 returns-then-size-most c = λ sent is_sent.
     let code = c.args.self.now in
@@ -25,8 +31,8 @@ returns-then-size-most c = λ sent is_sent.
     (slice_index c.sift-left.new.sums) c.sift-left.result c.sift-left.ensures.left
     (c.sift-left.ensures.sums (λ i. times (scale i) (word i))
     (λ m below.
-    syndrome-read 8 times (lit< tt) field n code.root code.first_root m (slice_index c.syndromes-sums.result m)
-    c.args.word.now c.requires.long (c.syndromes-sums.ensures.values m below)))
+    syndrome-read 8 times (lit< tt) field n code.root code.first_root m (slice_index c.syndromes-syndromes.result m)
+    c.args.word.now c.requires.long (c.syndromes-syndromes.ensures.values m below)))
     c.shortest_register-register.result.size (slice_index c.shortest_register-register.result.coefficients)
     c.shortest_register-register.ensures sent is_sent in
     absurd (omega (arith, fits, c.if-size-most.true))
@@ -46,8 +52,8 @@ returns-then-count-checks c = λ sent is_sent.
     (slice_index c.sift-left.new.sums) c.sift-left.result c.sift-left.ensures.left
     (c.sift-left.ensures.sums (λ i. times (scale i) (word i))
     (λ m below.
-    syndrome-read 8 times (lit< tt) field n code.root code.first_root m (slice_index c.syndromes-sums.result m)
-    c.args.word.now c.requires.long (c.syndromes-sums.ensures.values m below)))
+    syndrome-read 8 times (lit< tt) field n code.root code.first_root m (slice_index c.syndromes-syndromes.result m)
+    c.args.word.now c.requires.long (c.syndromes-syndromes.ensures.values m below)))
     c.shortest_register-register.result.size (slice_index c.shortest_register-register.result.coefficients)
     c.shortest_register-register.ensures sent is_sent
     c.suspected_places-suspected.result c.suspected_places-suspected.ensures in
@@ -69,8 +75,8 @@ returns c = λ sent is_sent.
     (slice_index c.sift-left.new.sums) c.sift-left.result c.sift-left.ensures.left
     (c.sift-left.ensures.sums (λ i. times (scale i) (word i))
     (λ m below.
-    syndrome-read 8 times (lit< tt) field n code.root code.first_root m (slice_index c.syndromes-sums.result m)
-    c.args.word.now c.requires.long (c.syndromes-sums.ensures.values m below)))
+    syndrome-read 8 times (lit< tt) field n code.root code.first_root m (slice_index c.syndromes-syndromes.result m)
+    c.args.word.now c.requires.long (c.syndromes-syndromes.ensures.values m below)))
     c.shortest_register-register.result.size (slice_index c.shortest_register-register.result.coefficients)
     c.shortest_register-register.ensures sent is_sent
     c.suspected_places-suspected.result c.suspected_places-suspected.ensures)

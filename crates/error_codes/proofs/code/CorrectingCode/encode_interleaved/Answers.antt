@@ -13,8 +13,8 @@ loop-c-preserved c =
     c.args.words.now c.loop-c.words c.encode_word.new.words c.loop-c.c c.loop-c-test.true c.encode_word.ensures.long
     (c.encode_word.ensures.kept, c.encode_word.ensures.encoded) c.encode_word.ensures.others c.loop-c.invariant
 
-pub returns-clause-encoded : goal.returns-clause-encoded
-returns-clause-encoded c = record {
+pub returns-after-loop-c-clause-encoded : goal.returns-after-loop-c-clause-encoded
+returns-after-loop-c-clause-encoded c = record {
   kept = λ d i below front.
       let done = c.loop-c.invariant.done d (omega (arith, below, c.loop-c-test.false)) in done.0 i front;
   encoded = λ d below. let done = c.loop-c.invariant.done d (omega (arith, below, c.loop-c-test.false)) in done.1;

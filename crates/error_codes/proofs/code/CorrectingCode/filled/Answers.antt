@@ -1,8 +1,6 @@
-use Rattle.std.proofs.Common.{slice_index, refl, ◌∙◌, arith, lit<}
+use Rattle.std.proofs.Common.{slice_index, refl, ◌∙◌, arith}
 use Rattle.std.proofs.lemmas.List.{length-set}
-use Rattle.error_codes.specs.ByteFields.{byte_times}
-use Rattle.error_codes.proofs.ByteTables.{bytes_are_fields}
-use Rattle.error_codes.proofs.CodeValues.{entry-more, syndrome-read}
+use Rattle.error_codes.proofs.CodeValues.{entry-more}
 use Rattle.error_codes.proofs.code.CorrectingCode.filled.Goals as goal
 use Rattle.error_codes.proofs.code.CorrectingCode.filled.Goals.{then-marked-i, else-marked-i}
 
@@ -19,11 +17,7 @@ loop-i-preserved c = (
         | then-marked-i w ↦
             w.symbol-is
             ∙ w.difference-symbol.ensures (slice_index c.args.word.now) sent
-            (λ m below.
-            syndrome-read 8 (byte_times c.args.self.now.field) (lit< tt) (bytes_are_fields c.args.self.now.field) c.args.self.now.word_length c.args.self.now.root
-            c.args.self.now.first_root m (slice_index c.syndromes-syndromes.result m) c.args.word.now c.requires.long
-            (c.syndromes-syndromes.ensures.values m below))
-            (λ i below. (c.type_inv.word i).fits) checked same
+            c.requires.values (λ i below. (c.type_inv.word i).fits) checked same
         | else-marked-i w ↦ w.symbol-is ∙ same c.loop-i.i c.loop-i-test.true w.if-marked-i.false
       ])).1,
 )

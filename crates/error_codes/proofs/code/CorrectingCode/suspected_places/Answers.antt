@@ -1,8 +1,11 @@
-use Rattle.std.proofs.Common.{◌≡◌, ◌+◌, ℕ, Bool, slice_index, refl, sym, ◌∙◌, ap, subst, arith}
+use Rattle.std.proofs.Common.{◌≡◌, ◌+◌, ℕ, Bool, take, slice_index, refl, sym, ◌∙◌, ap, subst, arith, lit<}
 use Rattle.std.specs.Prelude.{nat_eq, ◌||◌}
+use Rattle.std.proofs.lemmas.List.{get_or-take, length-take-le}
 use Rattle.error_codes.specs.ByteFields.{byte_times}
 use Rattle.error_codes.specs.Correcting.{code_value}
 use Rattle.error_codes.specs.Filling.{falling_point, is_marked}
+use Rattle.error_codes.proofs.ByteTables.{bytes_are_fields}
+use Rattle.error_codes.proofs.Encoding.{value-same}
 use Rattle.error_codes.proofs.Marking.{IsWritten, mark-left, mark-set, root-left, root-marked}
 use Rattle.error_codes.proofs.code.CorrectingCode.suspected_places.Goals as goal
 use Rattle.error_codes.proofs.code.CorrectingCode.suspected_places.Goals.{then-value-eq0, else-value-eq0}
@@ -16,12 +19,12 @@ loop-i-preserved c =
       | then-value-eq0 w ↦
           subst (IsWritten 256 value before (c.loop-i.i + 1)) (sym w.marks-is)
           (mark-set 256 value before c.loop-i.i _ c.loop-i.marks c.loop-i.invariant (omega arith)
-          (root-marked (before c.loop-i.i) c.reverse_value-value.result (root_value c.loop-i.i) read
+          (root-marked (before c.loop-i.i) (slice_index c.values_at-values.result c.loop-i.i) (root_value c.loop-i.i) read
           w.if-value-eq0.true))
       | else-value-eq0 w ↦
           subst (IsWritten 256 value before (c.loop-i.i + 1)) (sym w.marks-is)
           (mark-left 256 value before c.loop-i.i c.loop-i.marks c.loop-i.invariant
-          (root-left (before c.loop-i.i) c.reverse_value-value.result (root_value c.loop-i.i) read
+          (root-left (before c.loop-i.i) (slice_index c.values_at-values.result c.loop-i.i) (root_value c.loop-i.i) read
           w.if-value-eq0.false))
     ]
   where
@@ -38,8 +41,15 @@ loop-i-preserved c =
     value : ℕ → Bool
     value j = before j || nat_eq (root_value j) 0
 
-    read : c.reverse_value-value.result ≡ root_value c.loop-i.i
+    read : slice_index c.values_at-values.result c.loop-i.i ≡ root_value c.loop-i.i
     read =
-        c.reverse_value-value.ensures
-        ∙ ap (code_value times (c.args.register.now.size + 1) (slice_index c.args.register.now.coefficients))
-        (c.args.self.now.points_are c.loop-i.i c.loop-i-test.true)
+        let coefficients = c.args.register.now.coefficients in
+        let count = c.args.register.now.size + 1 in
+        let front = take count coefficients in
+        let point = slice_index c.args.self.now.points c.loop-i.i in
+        c.values_at-values.ensures.values c.loop-i.i c.loop-i-test.true
+        ∙ ap (λ (k : ℕ). code_value times k (slice_index front) point)
+        (length-take-le count coefficients (omega (arith, c.requires)))
+        ∙ value-same 8 times (lit< tt) (bytes_are_fields c.args.self.now.field) count (slice_index front) (slice_index coefficients) point
+        (λ j below. get_or-take count coefficients j 0 below)
+        ∙ ap (code_value times count (slice_index coefficients)) (c.args.self.now.points_are c.loop-i.i c.loop-i-test.true)
