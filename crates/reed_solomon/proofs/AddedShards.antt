@@ -158,7 +158,7 @@ added_shards_encode =
           (ap (λ (b : Bool). if b then term j else 0) was) (ap (λ (b : Bool). if b then term j else 0) is)
           (λ i other. ap (λ (b : Bool). if b then term i else 0) (others i other)));
       all = λ k m size shards added fits bytes every sums.
-          (matching_parity k m size shards fits bytes).0 (λ t column below inside.
+          (matching_parity k m size shards fits bytes).0 (λ t column above below left inside.
           sym (get_or-drop ((k + t) * size) shards column 0) ∙ sums t below column inside
           ∙ sum_below-same (λ j. if added j then erasure_product (parity_factor k t j) (shard_byte size shards j column) else 0) (λ j. erasure_product (parity_factor k t j) (shard_byte size shards j column)) k
           (λ j less. ap (λ (b : Bool). if b then erasure_product (parity_factor k t j) (shard_byte size shards j column) else 0) (every j less)));

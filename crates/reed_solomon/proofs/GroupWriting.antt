@@ -1,8 +1,9 @@
 -- Shards that are written group by group from a sample, and the list of the missing ones.
-use Rattle.std.proofs.Common.{◌≡◌, ◌≢◌, ◌⊎◌, inl, inr, ℕ, ◌+◌, ◌-◌, ◌*◌, ◌/◌, ◌%◌, ◌<◌, ◌≤◌, Bool, true, false, List, length, get_or, set, sym, ◌∙◌, ap, subst, arith}
+use Rattle.std.proofs.Common.{◌≡◌, ◌≢◌, ◌⊎◌, inl, inr, ℕ, ◌+◌, ◌-◌, ◌*◌, ◌/◌, ◌%◌, ◌<◌, ◌≤◌, Bool, true, false, List, length, get_or, set, refl, sym, ◌∙◌, ap, subst, arith}
 use Rattle.std.proofs.Math.Nat.{mul-le-mul_right}
 use Rattle.std.proofs.lemmas.Bool.{cases_lt, true≢false}
 use Rattle.std.proofs.lemmas.List.{get_or-set_same, get_or-set_other, length-set}
+use Rattle.std.proofs.lemmas.List.Sums.{count_by_more_yes, count_by_more_no}
 use Rattle.field_base.specs.Basis.{sum_below}
 use Rattle.field_base.specs.Interpolation.{lagrange}
 use Rattle.reed_solomon.specs.ErasureField.{erasure_product}
@@ -183,9 +184,10 @@ no_missing present places =
       absent = λ t below. absurd (omega (arith, below));
       rising = λ s t less below. absurd (omega (arith, below));
       covers = λ i below. absurd (omega (arith, below));
+      counted = refl;
     }
 
-module _ (present : List Bool) (i : ℕ) (places : List ℕ) (count : ℕ) (before : AreMissing present i places count) where
+module _ (present : List Bool) (i : ℕ) (places : List ℕ) (count : ℕ) (before : AreMissing present i places count) (within : i < length present) where
   -- the shard is at hand
   pub missing-present : get_or present i false ≡ true → AreMissing present (i + 1) places count
   missing-present here =
@@ -196,6 +198,10 @@ module _ (present : List Bool) (i : ℕ) (places : List ℕ) (count : ℕ) (befo
         covers = λ n below.
             below_next (λ m. (IsPresent present m → ⊥) → (t : ℕ) × (t < count) × (get_or places t 0 ≡ m)) i n below
             (before.covers n) (λ absent. absurd (absent here));
+        counted =
+            let was = before.counted in
+            let more = count_by_more_yes (λ is_present. is_present) present i false within here in
+            omega (arith, was, more);
       }
 
   -- the shard is missing
@@ -221,6 +227,10 @@ module _ (present : List Bool) (i : ℕ) (places : List ℕ) (count : ℕ) (befo
             below_next (λ m. (IsPresent present m → ⊥) → (t : ℕ) × (t < count + 1) × (get_or (set places count i) t 0 ≡ m)) i n below
             (λ was missing. let found = before.covers n was missing in (found.0, omega (arith, found.1), old found.0 found.1 ∙ found.2))
             (λ missing. (count, omega arith, new));
+        counted =
+            let was = before.counted in
+            let more = count_by_more_no (λ is_present. is_present) present i false within absent in
+            omega (arith, was, more);
       }
     where
       old : (t : ℕ) → t < count → get_or (set places count i) t 0 ≡ get_or places t 0
@@ -228,6 +238,20 @@ module _ (present : List Bool) (i : ℕ) (places : List ℕ) (count : ℕ) (befo
 
       new : get_or (set places count i) count 0 ≡ i
       new = get_or-set_same places count i 0 room
+
+-- shards at hand, and those from shard `until` on, stay where only missing ones before it are written
+pub missing_kept : (size until missing : ℕ) (present : List Bool) (targets old now : List ℕ) → AreMissing present until targets missing
+    → ((i : ℕ) → ((t : ℕ) → t < missing → (i < get_or targets t 0 * size) ⊎ (get_or targets t 0 * size + size ≤ i)) → get_or now i 0 ≡ get_or old i 0)
+    → (i column : ℕ) → column < size → (IsPresent present i) ⊎ (until ≤ i) → shard_byte size now i column ≡ shard_byte size old i column
+missing_kept size until missing present targets old now list others i column inside why =
+    others (i * size + column) (λ t within. apart_from size (get_or targets t 0) i column size inside (omega arith) (different t within))
+  where
+    different : (t : ℕ) → t < missing → i ≢ get_or targets t 0
+    different t within =
+        λ e. elim why [
+          | inl here ↦ list.absent t within (subst (IsPresent present) e here)
+          | inr past ↦ let less = list.inside t within in absurd (omega (arith, past, e, less))
+        ]
 
 -- what is written over the missing shards restores them
 pub missing_written : (total size count until missing : ℕ) (place : ℕ → ℕ) (present : List Bool) (targets old now : List ℕ)
@@ -240,14 +264,5 @@ missing_written total size count until missing place present targets old now lis
       missing = λ i column below inside absent.
           let found = list.covers i below absent in
           subst (λ (n : ℕ). shard_byte size now n column ≡ symbol_at count size place old column n) found.2 (all.written found.0 column found.1 inside);
-      others = λ i column below inside why.
-          all.others (i * size + column)
-          (λ t within. apart_from size (get_or targets t 0) i column size inside (omega arith) (different i why t within));
+      others = λ i column below inside why. missing_kept size until missing present targets old now list all.others i column inside why;
     }
-  where
-    different : (i : ℕ) → (IsPresent present i) ⊎ (until ≤ i) → (t : ℕ) → t < missing → i ≢ get_or targets t 0
-    different i why t within =
-        λ e. elim why [
-          | inl here ↦ list.absent t within (subst (IsPresent present) e here)
-          | inr past ↦ let less = list.inside t within in absurd (omega (arith, past, e, less))
-        ]

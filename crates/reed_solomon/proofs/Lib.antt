@@ -3,6 +3,7 @@ mod ByteTables
 mod Factors
 mod GroupWriting
 mod MissingFactors
+mod MissingTables
 mod NibbleTables
 mod ParityWords
 mod PreparedTables

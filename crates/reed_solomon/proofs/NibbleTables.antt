@@ -1,5 +1,5 @@
 -- Look-ups by the halves of bytes in lanes, and what they give: products by a factor.
-use Rattle.std.proofs.Common.{◌≡◌, ℕ, ◌+◌, ◌-◌, ◌*◌, ◌/◌, ◌%◌, ◌^◌, ◌<◌, List, length, get_or, map, sym, ◌∙◌, ap, ap₂, arith, lit<, w8, Fits}
+use Rattle.std.proofs.Common.{◌≡◌, ℕ, ◌+◌, ◌-◌, ◌*◌, ◌/◌, ◌%◌, ◌^◌, ◌<◌, ◌≤◌, List, length, get_or, map, sym, ◌∙◌, ap, ap₂, arith, lit<, w8, Fits}
 use Rattle.std.specs.Prelude.{bit_xor}
 use Rattle.std.specs.Simd.Lanes.{chunk, Each1}
 use Rattle.std.proofs.lemmas.List.{get_or-map}
@@ -23,6 +23,21 @@ sum_at entries start bytes long fits lane below =
     get_or-map (entry_sum (chunk start 16 entries) (chunk (start + 16) 16 entries)) bytes lane 0 0 inside
     ∙ ap₂ bit_xor (get_or-chunk start 16 entries (get_or bytes lane 0 % 16) 0 (mod-lt (get_or bytes lane 0) (lit< tt)))
     (get_or-chunk (start + 16) 16 entries (get_or bytes lane 0 / 16) 0 (omega (arith, byte)))
+
+-- what held tables give is what the tables give that they were read from
+pub nibble_held : (entries held : List ℕ) (from until j row byte : ℕ)
+    → ((i : ℕ) → i < 128 * (until - from) → get_or held i 0 ≡ get_or entries (128 * from + i) 0) → from ≤ j → j < until → row < 4 → byte < 256
+    → nibble_sum held (128 * (j - from) + 32 * row) byte ≡ nibble_sum entries (128 * j + 32 * row) byte
+nibble_held entries held from until j row byte same above below few fits =
+    ap₂ bit_xor
+    (same (128 * (j - from) + 32 * row + byte % 16) (omega (arith, above, below, few)) ∙ ap (λ (p : ℕ). get_or entries p 0) low)
+    (same (128 * (j - from) + 32 * row + 16 + byte / 16) (omega (arith, above, below, few, fits)) ∙ ap (λ (p : ℕ). get_or entries p 0) high)
+  where
+    low : 128 * from + (128 * (j - from) + 32 * row + byte % 16) ≡ 128 * j + 32 * row + byte % 16
+    low = omega (arith, above)
+
+    high : 128 * from + (128 * (j - from) + 32 * row + 16 + byte / 16) ≡ 128 * j + 32 * row + 16 + byte / 16
+    high = omega (arith, above)
 
 -- ---- products
 

@@ -1,8 +1,8 @@
 -- Parity by the shards of data, whose places are 0, 1, .., k - 1.
-use Rattle.std.proofs.Common.{◌≡◌, ◌↔◌, inl, inr, ℕ, zero, suc, ◌+◌, ◌-◌, ◌*◌, ◌/◌, ◌^◌, ◌==◌, ◌<◌, ◌≤◌, ◌++◌, List, length, get_or, take, refl, sym, ◌∙◌, ap, ap₂, subst, arith, lit<}
-use Rattle.std.specs.Prelude.{if◌then◌else◌, bit_xor}
+use Rattle.std.proofs.Common.{◌≡◌, ◌↔◌, inl, inr, ℕ, zero, suc, ◌+◌, ◌-◌, ◌*◌, ◌/◌, ◌^◌, ◌==◌, ◌<◌, ◌≤◌, ◌++◌, List, length, get_or, take, drop, refl, sym, ◌∙◌, ap, ap₂, subst, arith, lit<}
+use Rattle.std.specs.Prelude.{Bool, true, IsTrue, if◌then◌else◌, bit_xor}
 use Rattle.std.proofs.lemmas.Bool.{cases_lt}
-use Rattle.std.proofs.lemmas.List.{get_or-append-add, get_or_append_left, get_or-take, length-take-le}
+use Rattle.std.proofs.lemmas.List.{get_or-append-add, get_or_append_left, get_or-drop, get_or-take}
 use Rattle.std.proofs.lemmas.Nat.{mul-add-lt}
 use Rattle.std.proofs.Math.Nat.{mul-le-mul_right, mul_comm}
 use Rattle.field_base.specs.Basis.{product_below}
@@ -18,6 +18,7 @@ use Rattle.reed_solomon.specs.Shards.{AreCodewords, IsEncoded, shard_byte}
 use Rattle.reed_solomon.specs.Tables.{AreRows, HasRow, row_sum}
 use Rattle.reed_solomon.proofs.ByteTables.{erasure_field}
 use Rattle.reed_solomon.proofs.GroupWriting.{row_factors, row_symbol}
+use Rattle.reed_solomon.proofs.Strips.{row_sum-drop}
 
 -- ---- the places of the data
 
@@ -48,13 +49,13 @@ lagrange-same k own x point other within same =
         (λ i below. ap (λ (z : ℕ). if i == own then 1 else z) (ap₂ bit_xor is (same i below)))
 
 -- tables of a sample of the data are those of its shards of parity
-pub parity_row : (k first count row : ℕ) (places points entries : List ℕ) → row < count → ((j : ℕ) → j < k → get_or places j 0 ≡ j)
+pub parity_row : (k first count row slot : ℕ) (places points entries : List ℕ) → row < count → ((j : ℕ) → j < k → get_or places j 0 ≡ j)
     → ((i : ℕ) → i < count → get_or points i 0 ≡ k + first + i)
-    → HasRow (λ j. lagrange 8 erasure_product (λ i. get_or places i 0) k j (get_or (take count points) row 0)) entries row k
-    → HasRow (parity_factor k (first + row)) entries row k
-parity_row k first count row places points entries within places_are points_are set =
+    → HasRow (λ j. lagrange 8 erasure_product (λ i. get_or places i 0) k j (get_or (take count points) row 0)) entries slot k
+    → HasRow (parity_factor k (first + row)) entries slot k
+parity_row k first count row slot places points entries within places_are points_are set =
     row_factors (λ j. lagrange 8 erasure_product (λ i. get_or places i 0) k j (get_or (take count points) row 0)) (parity_factor k (first + row))
-    entries row k set
+    entries slot k set
     (λ j below.
     lagrange-same k j (get_or (take count points) row 0) (λ i. get_or places i 0) (λ i. i) below places_are
     ∙ ap (lagrange 8 erasure_product (λ i. i) k j) (get_or-take count points row 0 within ∙ points_are row within ∙ point))
@@ -62,50 +63,79 @@ parity_row k first count row places points entries within places_are points_are 
     point : k + first + row ≡ k + (first + row)
     point = omega arith
 
--- shards of parity in whose tables the rows are equal to what these give have their symbols, behind those before them, and the other way round
-module _ (k m size done count : ℕ) (entries shards starts : List ℕ) (long : k ≤ length starts)
-    (begun : (j : ℕ) → j < k → get_or starts j 0 ≡ (0 + j) * size)
+-- columns of shards of parity that are what their tables give of the data have their symbols, and the other way round
+module _ (k size done count first width : ℕ) (entries shards part starts : List ℕ) (part_is : part ≡ drop first shards) (counted : length starts ≡ k)
+    (begun : (j : ℕ) → j < k → get_or starts j 0 ≡ j * size)
     (set : (row : ℕ) → row < count → HasRow (parity_factor k (done + row)) entries row k) (bytes : (i : ℕ) → get_or shards i 0 < 256) where
-  abbrev of_tables : ℕ → ℕ → ℕ
-  of_tables = row_sum entries shards (take k starts)
+  parity_sum : (row c : ℕ) → row < count → row_sum entries part starts row c ≡ parity_symbol k size shards (done + row) (first + c)
+  parity_sum row c within =
+      ap (λ (l : List ℕ). row_sum entries l starts row c) part_is ∙ row_sum-drop entries shards starts row first c
+      ∙ row_symbol k size (λ i. i) entries shards starts row (first + c) (k + (done + row)) counted begun (set row within) bytes
 
-  parity_sum : (row column : ℕ) → row < count → of_tables row column ≡ parity_symbol k size shards (done + row) column
-  parity_sum row column within =
-      row_symbol k size (λ i. i) entries shards (take k starts) row column (k + (done + row)) (length-take-le k starts long)
-      (λ j below. get_or-take k starts j 0 below ∙ begun j below ∙ ap (λ (n : ℕ). n * size) (same j)) (set row within) bytes
+  byte_at : (row c : ℕ) → get_or part ((k + done) * size + row * size + c) 0 ≡ shard_byte size shards (k + (done + row)) (first + c)
+  byte_at row c =
+      ap (λ (l : List ℕ). get_or l ((k + done) * size + row * size + c) 0) part_is
+      ∙ get_or-drop first shards ((k + done) * size + row * size + c) 0 ∙ ap (λ (p : ℕ). get_or shards p 0) place
     where
-      same : (j : ℕ) → 0 + j ≡ j
-      same j = omega arith
+      place : first + ((k + done) * size + row * size + c) ≡ (k + (done + row)) * size + (first + c)
+      place = omega arith
 
-  place : (row column : ℕ) → (k + done) * size + row * size + column ≡ (k + (done + row)) * size + column
-  place row column = omega arith
+  pub group_matches : AreRows count size ((k + done) * size) width (row_sum entries part starts) part
+      → MatchesParity k size shards done (done + count) first (first + width)
+  group_matches equal t column from below left inside =
+      let row_is : done + (t - done) ≡ t = omega (arith, from) in
+      let column_is : first + (column - first) ≡ column = omega (arith, left) in
+      let within : t - done < count = omega (arith, from, below) in
+      subst (λ (n : ℕ). shard_byte size shards (k + n) column ≡ parity_symbol k size shards n column) row_is
+      (subst (λ (c : ℕ). shard_byte size shards (k + (done + (t - done))) c ≡ parity_symbol k size shards (done + (t - done)) c) column_is
+      (sym (byte_at (t - done) (column - first)) ∙ equal (t - done) (column - first) within (omega (arith, left, inside))
+      ∙ parity_sum (t - done) (column - first) within))
 
-  pub parity_more : (next : ℕ) → next ≡ done + count → AreRows count size ((k + done) * size) size of_tables shards → MatchesParity k done size shards
-      → MatchesParity k next size shards
-  parity_more next next_is equal before t column below inside =
-      elim (cases_lt t done) [
-        | inl early ↦ before t column early inside
-        | inr late ↦ last late
-      ]
-    where
-      last : done ≤ t → shard_byte size shards (k + t) column ≡ parity_symbol k size shards t column
-      last late =
-          let back : done + (t - done) ≡ t = omega (arith, late) in
-          let within : t - done < count = omega (arith, late, below, next_is) in
-          subst (λ (n : ℕ). shard_byte size shards (k + n) column ≡ parity_symbol k size shards n column) back
-          (ap (λ (p : ℕ). get_or shards p 0) (sym (place (t - done) column)) ∙ equal (t - done) column within inside
-          ∙ parity_sum (t - done) column within)
+  pub group_equal : MatchesParity k size shards done (done + count) first (first + width)
+      → AreRows count size ((k + done) * size) width (row_sum entries part starts) part
+  group_equal all row c within inside =
+      byte_at row c ∙ all (done + row) (first + c) (omega arith) (omega (arith, within)) (omega arith) (omega (arith, inside))
+      ∙ sym (parity_sum row c within)
 
-  pub parity_equal : done + count ≤ m → MatchesParity k m size shards → AreRows count size ((k + done) * size) size of_tables shards
-  parity_equal fits all row column within inside =
-      ap (λ (p : ℕ). get_or shards p 0) (place row column) ∙ all (done + row) column (omega (arith, fits, within)) inside
-      ∙ sym (parity_sum row column within)
+-- shards of parity behind those before them
+pub parity_rows : (k size : ℕ) (shards : List ℕ) (from mid until first end : ℕ) → MatchesParity k size shards from mid first end
+    → MatchesParity k size shards mid until first end → MatchesParity k size shards from until first end
+parity_rows k size shards from mid until first end before more t column above below left inside =
+    elim (cases_lt t mid) [
+      | inl early ↦ before t column above early left inside
+      | inr late ↦ more t column late below left inside
+    ]
 
--- they lie within all shards
-pub parity_inside : (k m size done count : ℕ) → done + count ≤ m → (k + done) * size + count * size ≤ (k + m) * size
-parity_inside k m size done count fits =
-    let more : k + done + count ≤ k + m = omega (arith, fits) in
-    omega (arith, mul-le-mul_right size more)
+-- and columns
+pub parity_columns : (k size : ℕ) (shards : List ℕ) (from until first mid end : ℕ) → MatchesParity k size shards from until first mid
+    → MatchesParity k size shards from until mid end → MatchesParity k size shards from until first end
+parity_columns k size shards from until first mid end before more t column above below left inside =
+    elim (cases_lt column mid) [
+      | inl early ↦ before t column above below left early
+      | inr late ↦ more t column above below late inside
+    ]
+
+-- a strip more that matches, where its tables are those of as many shards
+pub strip_matches : (k n m size first width : ℕ) (shards : List ℕ) (answer : Bool) → n ≡ k
+    → (IsTrue answer ↔ MatchesParity n size shards 0 m first (first + width)) → answer ≡ true → MatchesParity k size shards 0 m 0 first
+    → MatchesParity k size shards 0 m 0 (first + width)
+strip_matches k n m size first width shards answer is told right before =
+    parity_columns k size shards 0 m 0 first (first + width) before
+    (subst (λ (l : ℕ). MatchesParity l size shards 0 m first (first + width)) is (told.0 right))
+
+-- and each strip matches where all do
+pub strip_equals : (k n m size first width : ℕ) (shards : List ℕ) (answer : Bool) → n ≡ k
+    → (IsTrue answer ↔ MatchesParity n size shards 0 m first (first + width)) → first + width ≤ size → MatchesParity k size shards 0 m 0 size
+    → answer ≡ true
+strip_equals k n m size first width shards answer is told fits all =
+    told.1 (subst (λ (l : ℕ). MatchesParity l size shards 0 m first (first + width)) (sym is)
+    (λ t column above below left inside. all t column above below (omega arith) (omega (arith, inside, fits))))
+
+-- the first shards of parity lie within all shards
+pub parity_inside : (k m size until : ℕ) → until ≤ m → (k + until) * size ≤ (k + m) * size
+parity_inside k m size until fits =
+    let more : k + until ≤ k + m = omega (arith, fits) in
+    mul-le-mul_right size more
 
 -- ---- the codewords of the data
 
@@ -164,10 +194,10 @@ module _ (k m size : ℕ) (source : List ℕ) (fits : k + m ≤ 256) (bytes : (i
       place r column = omega (arith, long)
 
   -- all shards are codewords where those of parity have the symbols that the data give, and only there
-  pub matching_parity : MatchesParity k m size source ↔ AreCodewords k (k + m) size source
+  pub matching_parity : MatchesParity k size source 0 m 0 size ↔ AreCodewords k (k + m) size source
   matching_parity = (
-    (λ matching column inside. word_of source column (λ j below. refl) (λ t below. matching t column below inside)),
-    λ words t column below inside.
+    (λ matching column inside. word_of source column (λ j below. refl) (λ t below. matching t column (omega arith) below (omega arith) inside)),
+    λ words t column above below left inside.
         let given = data_word column in
         codeword_is_unique 8 erasure_product k (k + m) (λ i. i) (λ p. shard_byte size source p column) (symbol_at k size (λ i. i) source column)
         (lit< tt) erasure_field fits (first_places k (k + m) (omega arith)) (words column inside) given.0

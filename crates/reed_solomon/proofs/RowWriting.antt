@@ -7,7 +7,7 @@ use Rattle.std.proofs.lemmas.Bool.Decides.{eqb_tells}
 use Rattle.std.proofs.lemmas.List.{get_or-set_same, get_or-set_other, length-set}
 use Rattle.std.proofs.lemmas.Simd.{get_or-chunk, get_or-put_chunk_above, get_or-put_chunk_at, get_or-put_chunk_below, get_or-replicate, get_or-zip2, length-chunk, length-put_chunk, length-replicate, length-zip2}
 use Rattle.field_base.specs.Basis.{sum_below}
-use Rattle.reed_solomon.specs.Tables.{AreApart, AreWritten, nibble_sum, row_sum, row_sum_of}
+use Rattle.reed_solomon.specs.Tables.{AreApart, AreWritten, FitRows, nibble_sum, row_sum, row_sum_of}
 use Rattle.reed_solomon.proofs.Factors.{sum_more}
 use Rattle.reed_solomon.proofs.Samples.{below_next}
 use Rattle.field_base.proofs.BasisSums.{sum_below-same}
@@ -159,6 +159,26 @@ columns_written value place rows columns width next_column size old mid now befo
       where
         swapped : AreApart size (place r) (place row) → AreApart size (place row) (place r)
         swapped apart_of = elim apart_of [ inl low ↦ inr low | inr high ↦ inl high ]
+
+-- other names of the places of rows that fit
+pub rows_held : (size room n : ℕ) (entries shards starts rows places : List ℕ) → FitRows size entries shards starts room rows n → length places ≡ n
+    → ((i : ℕ) → i < n → get_or places i 0 ≡ get_or rows (0 + i) 0) → FitRows size entries shards starts room places n
+rows_held size room n entries shards starts rows places fit long same =
+    record {
+      named = long;
+      few_rows = fit.few_rows;
+      some_shards = fit.some_shards;
+      few_shards = fit.few_shards;
+      tables = fit.tables;
+      inside = fit.inside;
+      within = λ row below. subst (λ (p : ℕ). p + size ≤ room) (sym (at row below)) (fit.within row below);
+      apart = λ row other less below.
+          subst (λ (p : ℕ). AreApart size p (get_or places other 0)) (sym (at row below))
+          (subst (λ (p : ℕ). AreApart size (get_or rows row 0) p) (sym (at other (omega (arith, less, below)))) (fit.apart row other less below));
+    }
+  where
+    at : (row : ℕ) → row < n → get_or places row 0 ≡ get_or rows row 0
+    at row below = let here : 0 + row ≡ row = omega arith in same row below ∙ ap (λ (i : ℕ). get_or rows i 0) here
 
 -- ---- the sums of a row
 

@@ -67,16 +67,16 @@ module _ (start width : ℕ) (xs ys : List ℕ) (room : start + width ≤ length
 -- one row of a strip is put into its shard
 pub strip_row : (size column width row : ℕ) (target : ℕ → ℕ) (strip part old now : List ℕ) (rows start gap from cut : ℕ) → row < rows
     → column + width ≤ size
-    → AreWritten (λ r c. get_or strip (1024 * r + c) 0) (λ r. target r * size + column) row width old now
+    → AreWritten (λ r c. get_or strip (2048 * r + c) 0) (λ r. target r * size + column) row width old now
     → start ≡ target row * size + column → start + width ≤ length now → gap ≡ width → part ≡ take cut (drop from strip)
-    → from ≡ 1024 * row → cut ≡ width → from + width ≤ length strip
+    → from ≡ 2048 * row → cut ≡ width → from + width ≤ length strip
     → ((r other : ℕ) → other < r → r < rows → target r ≢ target other)
-    → AreWritten (λ r c. get_or strip (1024 * r + c) 0) (λ r. target r * size + column) (row + 1) width old (put_part start gap now part)
+    → AreWritten (λ r c. get_or strip (2048 * r + c) 0) (λ r. target r * size + column) (row + 1) width old (put_part start gap now part)
 strip_row size column width row target strip part old now rows start gap from cut within fits before is room gap_is part_is from_is cut_is inside_strip
     distinct =
-    subst (λ (n : ℕ). AreWritten (λ r c. get_or strip (1024 * r + c) 0) (λ r. target r * size + column) (row + 1) width old (put_part start n now part))
+    subst (λ (n : ℕ). AreWritten (λ r c. get_or strip (2048 * r + c) 0) (λ r. target r * size + column) (row + 1) width old (put_part start n now part))
     (sym gap_is)
-    (row_written (λ r c. get_or strip (1024 * r + c) 0) (λ r. target r * size + column) row width old now (put_part start width now part) before
+    (row_written (λ r c. get_or strip (2048 * r + c) 0) (λ r. target r * size + column) row width old now (put_part start width now part) before
     (put_part-length start width now part room long)
     (λ c inside.
     ap (λ (n : ℕ). get_or (put_part start width now part) (n + c) 0) (sym is) ∙ put_part-at start width now part room long c inside ∙ value c inside)
@@ -86,13 +86,13 @@ strip_row size column width row target strip part old now rows start gap from cu
     long : length part ≡ width
     long = ap (λ (l : List ℕ). length l) part_is ∙ part_length from cut width strip cut_is inside_strip
 
-    value : (c : ℕ) → c < width → get_or part c 0 ≡ get_or strip (1024 * row + c) 0
+    value : (c : ℕ) → c < width → get_or part c 0 ≡ get_or strip (2048 * row + c) 0
     value c inside =
         ap (λ (l : List ℕ). get_or l c 0) part_is ∙ part_at from cut width c strip cut_is inside
         ∙ ap (λ (n : ℕ). get_or strip (n + c) 0) from_is
 
 -- a sum of a row past the first columns
-row_sum-drop : (entries shards starts : List ℕ) (row columns c : ℕ)
+pub row_sum-drop : (entries shards starts : List ℕ) (row columns c : ℕ)
     → row_sum entries (drop columns shards) starts row c ≡ row_sum entries shards starts row (columns + c)
 row_sum-drop entries shards starts row columns c =
     sum_below-same (λ j. nibble_sum entries (128 * j + 32 * row) (get_or (drop columns shards) (get_or starts j 0 + c) 0)) (λ j. nibble_sum entries (128 * j + 32 * row) (get_or shards (get_or starts j 0 + (columns + c)) 0)) (length starts)
@@ -124,14 +124,14 @@ column_symbols count size place target entries shards part starts given spot row
 pub strip_written : (entries starts strip spots : List ℕ) (target : ℕ → ℕ) (rows columns width size : ℕ) (old mid now : List ℕ)
     → AreWritten (row_sum entries old starts) (λ r. target r * size) rows columns old mid
     → ((row c : ℕ) → row < rows → c < width → get_or strip (get_or spots row 0 + c) 0 ≡ row_sum entries (drop columns mid) starts row c)
-    → ((row : ℕ) → row < rows → get_or spots row 0 ≡ 1024 * row)
-    → AreWritten (λ r c. get_or strip (1024 * r + c) 0) (λ r. target r * size + columns) rows width mid now → columns + width ≤ size
+    → ((row : ℕ) → row < rows → get_or spots row 0 ≡ 2048 * row)
+    → AreWritten (λ r c. get_or strip (2048 * r + c) 0) (λ r. target r * size + columns) rows width mid now → columns + width ≤ size
     → ((r other : ℕ) → other < r → r < rows → target r ≢ target other)
     → ((j r : ℕ) → j < length starts → r < rows → AreApart size (get_or starts j 0) (target r * size))
     → AreWritten (row_sum entries old starts) (λ r. target r * size) rows (columns + width) old now
 strip_written entries starts strip spots target rows columns width size old mid now before sums spots_are more fits distinct read =
     columns_written (row_sum entries old starts) (λ r. target r * size) rows columns width (columns + width) size old mid now before
-    (written_by (λ r c. get_or strip (1024 * r + c) 0) (λ r c. row_sum entries old starts r (columns + c)) (λ r. target r * size + columns) rows width mid now
+    (written_by (λ r c. get_or strip (2048 * r + c) 0) (λ r c. row_sum entries old starts r (columns + c)) (λ r. target r * size + columns) rows width mid now
     more
     (λ row c within inside.
     ap (λ (p : ℕ). get_or strip (p + c) 0) (sym (spots_are row within)) ∙ sums row c within inside
@@ -141,15 +141,40 @@ strip_written entries starts strip spots target rows columns width size old mid 
     refl fits
     (λ row other less within. apart_places size (target row) (target other) (distinct row other less within))
 
+-- a strip of shards behind those of their columns that are written
+pub strip_behind : (value : ℕ → ℕ → ℕ) (size first count column done width : ℕ) (old mid now : List ℕ) → column + (done + width) ≤ size
+    → AreWritten (λ row c. value (first + row) (column + c)) (λ row. (first + row) * size + column) count done old mid
+    → AreWritten (λ row c. value (first + row) (column + done + c)) (λ row. (first + row) * size + (column + done)) count width mid now
+    → AreWritten (λ row c. value (first + row) (column + c)) (λ row. (first + row) * size + column) count (done + width) old now
+strip_behind value size first count column done width old mid now fits before more =
+    columns_written (λ row c. value (first + row) (column + c)) (λ row. (first + row) * size + column) count done width (done + width) size old mid now
+    before
+    (written_by (λ row c. value (first + row) (column + done + c)) (λ row c. value (first + row) (column + (done + c)))
+    (λ row. (first + row) * size + column + done) count width mid now
+    (written_at (λ row c. value (first + row) (column + done + c)) (λ row. (first + row) * size + (column + done))
+    (λ row. (first + row) * size + column + done) count width mid now more (λ row within. spot row))
+    (λ row c within inside. ap (value (first + row)) (place c)))
+    refl (omega (arith, fits))
+    (λ row other less within. apart (first + row) (first + other) (apart_places size (first + row) (first + other) (λ e. absurd (omega (arith, less, e)))))
+  where
+    spot : (row : ℕ) → (first + row) * size + (column + done) ≡ (first + row) * size + column + done
+    spot row = omega arith
+
+    place : (c : ℕ) → column + done + c ≡ column + (done + c)
+    place c = omega arith
+
+    apart : (a b : ℕ) → AreApart size (a * size) (b * size) → AreApart size (a * size + column) (b * size + column)
+    apart a b away = elim away [ inl low ↦ inl (omega (arith, low)) | inr high ↦ inr (omega (arith, high)) ]
+
 -- ---- rows that are compared with a strip
 
 -- rows of a slice, and where the row of the same number begins in a strip
 module _ (count size begin width : ℕ) (shards strip : List ℕ) where
   abbrev of_strip : ℕ → ℕ → ℕ
-  of_strip row c = get_or strip (1024 * row + c) 0
+  of_strip row c = get_or strip (2048 * row + c) 0
 
   -- a row that is equal, behind those before it
-  pub rows_more : (row first from gap cut : ℕ) → first ≡ begin + row * size → from ≡ 1024 * row → gap ≡ width → cut ≡ width
+  pub rows_more : (row first from gap cut : ℕ) → first ≡ begin + row * size → from ≡ 2048 * row → gap ≡ width → cut ≡ width
       → take gap (drop first shards) ≡ take cut (drop from strip) → AreRows row size begin width of_strip shards
       → AreRows (row + 1) size begin width of_strip shards
   rows_more row first from gap cut first_is from_is gap_is cut_is same before =
@@ -159,7 +184,7 @@ module _ (count size begin width : ℕ) (shards strip : List ℕ) where
       ∙ ap (λ (l : List ℕ). get_or l c 0) same ∙ part_at from cut width c strip cut_is inside ∙ ap (λ (n : ℕ). get_or strip (n + c) 0) from_is)
 
   -- and it is equal where all are those of the strip
-  pub row_equal : (row first from gap cut : ℕ) → first ≡ begin + row * size → from ≡ 1024 * row → gap ≡ width → cut ≡ width
+  pub row_equal : (row first from gap cut : ℕ) → first ≡ begin + row * size → from ≡ 2048 * row → gap ≡ width → cut ≡ width
       → first + width ≤ length shards → from + width ≤ length strip → row < count → AreRows count size begin width of_strip shards
       → take gap (drop first shards) ≡ take cut (drop from strip)
   row_equal row first from gap cut first_is from_is gap_is cut_is room inside_strip within all =
@@ -175,13 +200,13 @@ module _ (count size begin width : ℕ) (shards strip : List ℕ) where
 -- a strip of rows is what the tables give in its columns
 module _ (entries starts strip spots : List ℕ) (count size begin columns width : ℕ) (shards : List ℕ)
     (sums : (row c : ℕ) → row < count → c < width → get_or strip (get_or spots row 0 + c) 0 ≡ row_sum entries (drop columns shards) starts row c)
-    (spots_are : (row : ℕ) → row < count → get_or spots row 0 ≡ 1024 * row) where
-  strip_sum : (row c : ℕ) → row < count → c < width → get_or strip (1024 * row + c) 0 ≡ row_sum entries shards starts row (columns + c)
+    (spots_are : (row : ℕ) → row < count → get_or spots row 0 ≡ 2048 * row) where
+  strip_sum : (row c : ℕ) → row < count → c < width → get_or strip (2048 * row + c) 0 ≡ row_sum entries shards starts row (columns + c)
   strip_sum row c within inside =
       ap (λ (p : ℕ). get_or strip (p + c) 0) (sym (spots_are row within)) ∙ sums row c within inside ∙ row_sum-drop entries shards starts row columns c
 
   -- columns more
-  pub columns_more : AreRows count size (begin + columns) width (λ row c. get_or strip (1024 * row + c) 0) shards
+  pub columns_more : AreRows count size (begin + columns) width (λ row c. get_or strip (2048 * row + c) 0) shards
       → AreRows count size begin columns (row_sum entries shards starts) shards
       → AreRows count size begin (columns + width) (row_sum entries shards starts) shards
   columns_more equal before row c within inside =
@@ -199,8 +224,8 @@ module _ (entries starts strip spots : List ℕ) (count size begin columns width
           ∙ ap (row_sum entries shards starts row) back
 
   -- rows that are what the tables give are equal to the strip
-  pub strip_equal : columns + width ≤ size → AreRows count size begin size (row_sum entries shards starts) shards
-      → AreRows count size (begin + columns) width (λ row c. get_or strip (1024 * row + c) 0) shards
-  strip_equal fits all row c within inside =
+  pub strip_equal : (end : ℕ) → columns + width ≤ end → AreRows count size begin end (row_sum entries shards starts) shards
+      → AreRows count size (begin + columns) width (λ row c. get_or strip (2048 * row + c) 0) shards
+  strip_equal end fits all row c within inside =
       let place : begin + columns + row * size + c ≡ begin + row * size + (columns + c) = omega arith in
       ap (λ (p : ℕ). get_or shards p 0) place ∙ all row (columns + c) within (omega (arith, fits, inside)) ∙ sym (strip_sum row c within inside)

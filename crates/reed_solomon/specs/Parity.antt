@@ -1,10 +1,10 @@
 -- Parity by the shards of data alone, the sample whose places are 0, 1, .., k - 1, and the tables of its factors that are kept.
-use Rattle.std.specs.Prelude.{◌≡◌, ℕ, ◌+◌, ◌*◌, ◌/◌, ◌%◌, ◌<◌, List, length, drop}
+use Rattle.std.specs.Prelude.{◌≡◌, ℕ, ◌+◌, ◌*◌, ◌/◌, ◌<◌, ◌≤◌, List, length}
 use Rattle.field_base.specs.Interpolation.{lagrange}
 use Rattle.reed_solomon.specs.ErasureField.{erasure_product}
 use Rattle.reed_solomon.specs.Samples.{symbol_at}
 use Rattle.reed_solomon.specs.Shards.{shard_byte}
-use Rattle.reed_solomon.specs.Tables.{HasRow}
+use Rattle.reed_solomon.specs.Tables.{HaveRows}
 
 -- the factor of data shard j in shard t of the parity of k shards of data
 abbrev pub parity_factor : ℕ → ℕ → ℕ → ℕ
@@ -14,16 +14,17 @@ parity_factor k t j = lagrange 8 erasure_product (λ i. i) k j (k + t)
 abbrev pub parity_symbol : ℕ → ℕ → List ℕ → ℕ → ℕ → ℕ
 parity_symbol k size shards t column = symbol_at k size (λ i. i) shards column (k + t)
 
--- the first m shards of parity, which stand behind the data, have their symbols
-abbrev pub MatchesParity : ℕ → ℕ → ℕ → List ℕ → Type 0
-MatchesParity k m size shards =
-    (t column : ℕ) → t < m → column < size → shard_byte size shards (k + t) column ≡ parity_symbol k size shards t column
+-- shards `from` .. `until` - 1 of parity, which stand behind the data, have their symbols in columns `first` .. `end` - 1
+abbrev pub MatchesParity : ℕ → ℕ → List ℕ → ℕ → ℕ → ℕ → ℕ → Type 0
+MatchesParity k size shards from until first end =
+    (t column : ℕ) → from ≤ t → t < until → first ≤ column → column < end
+    → shard_byte size shards (k + t) column ≡ parity_symbol k size shards t column
 
 -- how many bytes the tables of m shards of parity of k shards of data take: 32 for each two, where m is counted up to a multiple of four
 abbrev pub tables_length : ℕ → ℕ → ℕ
 tables_length k m = 128 * k * ((m + 3) / 4)
 
--- the tables of the first m shards of parity: those of four shards stand together, and those of the next four behind them
+-- the tables of m shards of parity
 pub record HaveParityTables (k m : ℕ) (tables : List ℕ) : Type 0 where
   pub long : length tables ≡ tables_length k m
-  pub rows : (t : ℕ) → t < m → HasRow (parity_factor k t) (drop (128 * k * (t / 4)) tables) (t % 4) k
+  pub rows : HaveRows (parity_factor k) k m tables

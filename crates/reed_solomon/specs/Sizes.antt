@@ -12,6 +12,15 @@ HasShardSize count bytes = (bytes ≢ 0) × (bytes % count ≡ 0)
 abbrev pub ShardSizeError : ℕ → ReedSolomonError → Type 0
 ShardSizeError bytes error = (bytes ≡ 0 → error ≡ EmptyShard) × (bytes ≢ 0 → error ≡ IncorrectShardSize)
 
+-- of k shards of data and m of parity each has a flag, and by these k are at hand
+abbrev pub HaveEnough : ℕ → ℕ → List Bool → Type 0
+HaveEnough k m present = (length present ≡ k + m) × (k ≤ present_count present)
+
+-- why not
+abbrev pub FlagsError : ℕ → ℕ → List Bool → ReedSolomonError → Type 0
+FlagsError k m present error =
+    (length present ≢ k + m → error ≡ InvalidShardFlags) × (length present ≡ k + m → error ≡ TooFewShardsPresent)
+
 -- k shards of data and m of parity can be reconstructed: each has a flag, all have one size, and k of them are at hand
 abbrev pub CanReconstruct : ℕ → ℕ → List Bool → List ℕ → Type 0
 CanReconstruct k m present shards =

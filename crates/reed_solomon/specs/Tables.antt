@@ -1,6 +1,6 @@
 -- Products by a factor as sums of two entries of tables, one for each half of a byte (J. S. Plank, K. M. Greenan and E. L. Miller,
 -- Screaming fast Galois field arithmetic using Intel SIMD instructions, 2013).
-use Rattle.std.specs.Prelude.{◌≡◌, ◌⊎◌, ℕ, ◌+◌, ◌-◌, ◌*◌, ◌/◌, ◌%◌, ◌<◌, ◌≤◌, List, length, slice_index, bit_xor}
+use Rattle.std.specs.Prelude.{◌≡◌, ◌⊎◌, ℕ, ◌+◌, ◌-◌, ◌*◌, ◌/◌, ◌%◌, ◌<◌, ◌≤◌, List, length, drop, slice_index, bit_xor}
 use Rattle.field_base.specs.Basis.{sum_below}
 use Rattle.reed_solomon.specs.ErasureField.{erasure_product}
 
@@ -13,6 +13,10 @@ pub record IsEntry (factor n entry : ℕ) : Type 0 where
 abbrev pub HasRow : (ℕ → ℕ) → List ℕ → ℕ → ℕ → Type 0
 HasRow factor entries row count =
     (j n : ℕ) → j < count → n < 32 → IsEntry (factor j) n (slice_index entries (128 * j + 32 * row + n))
+
+-- the tables of the factors of m rows of k shards: those of four rows stand together, and those of the next four behind them
+abbrev pub HaveRows : (ℕ → ℕ → ℕ) → ℕ → ℕ → List ℕ → Type 0
+HaveRows factor k m tables = (t : ℕ) → t < m → HasRow (factor t) (drop (128 * k * (t / 4)) tables) (t % 4) k
 
 -- the sum of the entries of a byte's halves, where the 32 entries begin at `start`
 abbrev pub nibble_sum : List ℕ → ℕ → ℕ → ℕ
@@ -43,11 +47,12 @@ AreRows count size begin width value bytes =
 abbrev pub AreApart : ℕ → ℕ → ℕ → Type 0
 AreApart width a b = (a + width ≤ b) ⊎ (b + width ≤ a)
 
--- what `count` rows need that are written by tables: they are at most four, and begin at `rows` in a slice of `room` bytes, where no two meet; at most
+-- what `count` rows need that are written by tables: they are at most four, and begin at `rows` in a slice of `room` bytes, where no two meet; 1 to
 -- 256 shards begin at `starts` in another, with entries for each. Rows and shards have `size` bytes.
 pub record FitRows (size : ℕ) (entries shards starts : List ℕ) (room : ℕ) (rows : List ℕ) (count : ℕ) : Type 0 where
   pub named : length rows ≡ count
   pub few_rows : count ≤ 4
+  pub some_shards : 0 < length starts
   pub few_shards : length starts ≤ 256
   pub tables : 128 * length starts ≤ length entries
   pub inside : (j : ℕ) → j < length starts → slice_index starts j + size ≤ length shards

@@ -1,28 +1,85 @@
 // Rows of shards, 32 columns at a time. A shard is known by the place where its bytes begin.
-ghost use Rattle.std.specs.Prelude.{◌≡◌, ◌+◌, ◌*◌, ◌<◌, ◌≤◌, ℕ, true, false, [], length, min, slice_index, slice_index_or};
+ghost use Rattle.std.specs.Prelude.{◌≡◌, ◌+◌, ◌-◌, ◌*◌, ◌<◌, ◌≤◌, ℕ, true, false, [], length, min, slice_index, slice_index_or};
 ghost use Rattle.reed_solomon.specs.Tables.{AreApart, AreWritten, FitRows, row_sum, row_sum_of};
 
+use crate::groups::bytes_fit;
 use crate::lanes::nibble_sums;
 use std::simd::prelude::*;
 
+// The tables of up to two shards, and where these begin. As a local of a loop it stays in registers, whatever the loop writes.
+#[derive(Clone, Copy)]
+pub(crate) struct Held {
+    entries: [u8; 256],
+    starts: [usize; 2],
+}
+
+// Those of the shards from shard `from` on.
+#[inline(always)]
+fn held_shards(entries: &[u8], starts: &[usize], from: usize, until: usize) -> Held
+    requires few { length starts.now ≤ 256 }
+    requires range { from ≤ until }
+    requires two { until ≤ from + 2 }
+    requires listed { until ≤ length starts.now }
+    requires tables { 128 * length starts.now ≤ length entries.now }
+    ensures entries { (i : ℕ) → i < 128 * (until - from) → slice_index result.entries i ≡ slice_index entries.now (128 * from + i) }
+    ensures starts { (i : ℕ) → i < until - from → slice_index result.starts i ≡ slice_index starts.now (from + i) }
+{
+    Held {
+        entries: held_entries(entries, 128 * from, 128 * (until - from)),
+        starts: held_places::<2>(starts, from, until - from),
+    }
+}
+
+// Some entries of tables, from one on.
+#[inline(always)]
+fn held_entries(entries: &[u8], first: usize, count: usize) -> [u8; 256]
+    requires few { count ≤ 256 }
+    requires inside { first + count ≤ length entries.now }
+    ensures long { length result ≡ 256 }
+    ensures same { (i : ℕ) → i < count → slice_index result i ≡ slice_index entries.now (first + i) }
+{
+    let mut held = [0; 256];
+    for i in 0..count {
+        held[i] = entries[first + i];
+    }
+    held
+}
+
+// Some places of a list, from one on.
+#[inline(always)]
+fn held_places<const N: usize>(places: &[usize], first: usize, count: usize) -> [usize; N]
+    requires few { count ≤ N }
+    requires small { N ≤ 4 }
+    requires inside { first + count ≤ length places.now }
+    ensures long { length result ≡ N }
+    ensures same { (i : ℕ) → i < count → slice_index result i ≡ slice_index places.now (first + i) }
+{
+    let mut held = [0; N];
+    for i in 0..count {
+        held[i] = places[first + i];
+    }
+    held
+}
+
 // What the tables of N rows give in the 32 columns from `column` on of the shards before `until`, where `sums` has what those before
-// `from` give.
+// `from` give. The tables and the places of the shards between these are held.
 #[inline(always)]
 pub(crate) fn block_sums<const N: usize>(
     shards: &[u8],
     starts: &[usize],
     entries: &[u8],
+    held: &Held,
     from: usize,
     until: usize,
     column: usize,
     mut sums: [u8x32; N],
 ) -> [u8x32; N]
-    requires few { length starts.now ≤ 256 }
     requires range { from ≤ until }
-    requires listed { until ≤ length starts.now }
-    requires tables { 128 * length starts.now + 32 * N ≤ length entries.now + 128 }
+    requires two { until ≤ from + 2 }
+    requires held_entries { (i : ℕ) → i < 128 * (until - from) → slice_index held.now.entries i ≡ slice_index entries.now (128 * from + i) }
+    requires held_starts { (i : ℕ) → i < until - from → slice_index held.now.starts i ≡ slice_index starts.now (from + i) }
     requires rows { N ≤ 4 }
-    requires inside { (j : ℕ) → j < length starts.now → slice_index starts.now j + column + 32 ≤ length shards.now }
+    requires inside { (j : ℕ) → j < until → slice_index starts.now j + column + 32 ≤ length shards.now }
     requires count { length sums ≡ N }
     requires lanes { (row : ℕ) → row < N → length (slice_index_or sums row []) ≡ 32 }
     requires begun { (row lane : ℕ) → row < N → lane < 32 → slice_index (slice_index_or sums row []) lane
@@ -31,10 +88,11 @@ pub(crate) fn block_sums<const N: usize>(
     ensures sums { (row lane : ℕ) → row < N → lane < 32 → slice_index (slice_index_or result row []) lane
         ≡ row_sum_of until entries.now shards.now starts.now row (column + lane) }
 {
+    bytes_fit(shards);
     for j in from..until {
-        let bytes = u8x32::from_slice(&shards[starts[j] + column..]);
+        let bytes = u8x32::from_slice(&shards[held.starts[j - from] + column..]);
         for row in 0..N {
-            sums[row] ^= nibble_sums(entries, 128 * j + 32 * row, bytes);
+            sums[row] ^= nibble_sums(&held.entries, 128 * (j - from) + 32 * row, bytes);
         }
     }
     sums
@@ -179,7 +237,7 @@ pub(crate) struct Sources<'a> {
 }
 
 // Writes what the tables of N rows give of the shards before `until` into rows of another slice. These have what the shards before
-// `from` give. In place it is compiled anew for the first shards, where no row is read.
+// `from` give. In place it is compiled anew for the first shard, where no row is read, and for as many shards as are read at once.
 #[inline(always)]
 fn add_shards<const N: usize>(
     sources: &Sources<'_>,
@@ -191,6 +249,7 @@ fn add_shards<const N: usize>(
     requires fit { FitRows sources.now.size sources.now.entries.now sources.now.shards.now sources.now.starts.now (length out.old)
         rows.now N }
     requires range { from ≤ until }
+    requires two { until ≤ from + 2 }
     requires listed { until ≤ length sources.now.starts.now }
     requires begun { (row column : ℕ) → row < N → column < sources.now.size → 0 < from
         → slice_index out.old (slice_index rows.now row + column)
@@ -204,11 +263,12 @@ fn add_shards<const N: usize>(
         starts,
         entries,
     } = *sources;
+    let held = held_shards(entries, starts, from, until);
     let whole = size / 32 * 32;
     for block in 0..size / 32 {
         let column = 32 * block;
         let so_far = block_so_far::<N>(out, rows, column, from == 0);
-        let sums = block_sums::<N>(shards, starts, entries, from, until, column, so_far);
+        let sums = block_sums::<N>(shards, starts, entries, &held, from, until, column, so_far);
         store_block::<N>(out, rows, column, &sums);
     }
     for column in whole..size {
@@ -217,33 +277,52 @@ fn add_shards<const N: usize>(
     }
 }
 
-// Writes N rows of another slice, of twenty shards at a time: more streams of bytes, which begin in the same lines of the cache where
-// shards are as long as a power of two, displace each other.
-#[inline(never)]
-fn write_rows<const N: usize>(sources: &Sources<'_>, out: &mut [u8], rows: &[usize])
-    requires { FitRows sources.now.size sources.now.entries.now sources.now.shards.now sources.now.starts.now (length out.old)
+// Writes N rows of another slice, of the first shard and then of so many at a time.
+#[inline(always)]
+fn add_all<const N: usize, const AT_ONCE: usize>(
+    sources: &Sources<'_>,
+    out: &mut [u8],
+    rows: &[usize],
+)
+    requires fit { FitRows sources.now.size sources.now.entries.now sources.now.shards.now sources.now.starts.now (length out.old)
         rows.now N }
+    requires one { 0 < AT_ONCE }
+    requires two { AT_ONCE ≤ 2 }
     ensures { AreWritten (row_sum sources.now.entries.now sources.now.shards.now sources.now.starts.now) (slice_index rows.now) N
         sources.now.size out.old out.new }
 {
     let count = sources.starts.len();
-    let mut done = at_most_20(count);
-    add_shards::<N>(sources, 0, done, out, rows);
-    while done < count {
-        let next = done + at_most_20(count - done);
-        add_shards::<N>(sources, done, next, out, rows);
-        done = next;
+    add_shards::<N>(sources, 0, 1, out, rows);
+    let mut done = 1;
+    while count - done >= AT_ONCE {
+        add_shards::<N>(sources, done, done + AT_ONCE, out, rows);
+        done += AT_ONCE;
+    }
+    for j in done..count {
+        add_shards::<N>(sources, j, j + 1, out, rows);
     }
 }
 
-// How many of so many shards are read at a time.
-fn at_most_20(shards: usize) -> usize
-    ensures { result ≡ min shards 20 }
+// The same, where the places of the rows are held. Few shards are read at a time, from one end of a strip to the other: of more, the
+// processor would not fetch the bytes ahead.
+#[inline(never)]
+fn write_rows<const N: usize, const AT_ONCE: usize>(
+    sources: &Sources<'_>,
+    out: &mut [u8],
+    rows: &[usize],
+)
+    requires fit { FitRows sources.now.size sources.now.entries.now sources.now.shards.now sources.now.starts.now (length out.old)
+        rows.now N }
+    requires one { 0 < AT_ONCE }
+    requires two { AT_ONCE ≤ 2 }
+    ensures { AreWritten (row_sum sources.now.entries.now sources.now.shards.now sources.now.starts.now) (slice_index rows.now) N
+        sources.now.size out.old out.new }
 {
-    if shards < 20 { shards } else { 20 }
+    let places = held_places::<N>(rows, 0, N);
+    add_all::<N, AT_ONCE>(sources, out, &places);
 }
 
-// Writes up to four rows of another slice, all at once.
+// Writes up to four rows of another slice, all at once: strips of few columns, so that they stay in the nearest cache.
 pub(crate) fn write_group(sources: &Sources<'_>, out: &mut [u8], rows: &[usize])
     requires { FitRows sources.now.size sources.now.entries.now sources.now.shards.now sources.now.starts.now (length out.old)
         rows.now (length rows.now) }
@@ -251,10 +330,10 @@ pub(crate) fn write_group(sources: &Sources<'_>, out: &mut [u8], rows: &[usize])
         (length rows.now) sources.now.size out.old out.new }
 {
     match rows.len() {
-        4 => write_rows::<4>(sources, out, rows),
-        3 => write_rows::<3>(sources, out, rows),
-        2 => write_rows::<2>(sources, out, rows),
-        1 => write_rows::<1>(sources, out, rows),
+        4 => write_rows::<4, 1>(sources, out, rows),
+        3 => write_rows::<3, 1>(sources, out, rows),
+        2 => write_rows::<2, 2>(sources, out, rows),
+        1 => write_rows::<1, 2>(sources, out, rows),
         _ => {}
     }
 }

@@ -83,34 +83,41 @@ pub(crate) fn set_rows(entries: &mut [u8], sample: &Sample, points: &[u8])
     }
 }
 
-// Puts the columns from `column` on of up to four rows, 1,024 bytes apart in a strip, into the shards at the targets.
+// Puts the columns from `column` on of up to four rows, 2,048 bytes apart in a strip, into the shards at the targets.
 fn put_strip(
     shards: &mut [u8],
     size: usize,
     targets: &[u8],
     column: usize,
     width: usize,
-    strip: &[u8; 4096],
+    strip: &[u8; 8192],
 )
     requires rows { length targets.now ≤ 4 }
-    requires narrow { width ≤ 1024 }
+    requires narrow { width ≤ 2048 }
     requires within { column + width ≤ size }
     requires room { (row : ℕ) → row < length targets.now → slice_index targets.now row * size + size ≤ length shards.old }
     requires distinct { (row other : ℕ) → other < row → row < length targets.now
         → slice_index targets.now row ≢ slice_index targets.now other }
-    ensures { AreWritten (λ row c. slice_index strip.now (1024 * row + c)) (λ row. slice_index targets.now row * size + column)
+    ensures { AreWritten (λ row c. slice_index strip.now (2048 * row + c)) (λ row. slice_index targets.now row * size + column)
         (length targets.now) width shards.old shards.new }
 {
     for row in 0..targets.len() {
         let begin = targets[row] as usize * size + column;
-        let from = 1024 * row;
+        let from = 2048 * row;
         shards[begin..begin + width].copy_from_slice(&strip[from..from + width]);
     }
 }
 
 // Writes up to four shards among those that they are computed from, which begin at `starts`: a strip of columns is written apart
 // from them, and then put where it belongs.
-fn restore_group(shards: &mut [u8], size: usize, starts: &[usize], entries: &[u8], targets: &[u8])
+pub(crate) fn restore_group(
+    shards: &mut [u8],
+    size: usize,
+    starts: &[usize],
+    entries: &[u8],
+    targets: &[u8],
+)
+    requires some { 0 < length starts.now }
     requires few { length starts.now ≤ 256 }
     requires tables { 128 * length starts.now ≤ length entries.now }
     requires fits { size ≤ length shards.old }
@@ -124,8 +131,8 @@ fn restore_group(shards: &mut [u8], size: usize, starts: &[usize], entries: &[u8
     ensures { AreWritten (row_sum entries.now shards.old starts.now) (λ row. slice_index targets.now row * size)
         (length targets.now) size shards.old shards.new }
 {
-    let rows = starts_from(0, 4, 1024);
-    let mut strip = [0; 4096];
+    let rows = starts_from(0, 4, 2048);
+    let mut strip = [0; 8192];
     let mut column = 0;
     while column < size {
         let width = strip_width(size - column);
@@ -141,36 +148,38 @@ fn restore_group(shards: &mut [u8], size: usize, starts: &[usize], entries: &[u8
     }
 }
 
-// Whether up to four rows of `size` bytes, which stand behind one another from `begin` on, are what the tables give of the shards that begin
-// at `starts`: each strip of columns is written apart from the shards, and compared.
-pub(crate) fn matches_group(
-    shards: &[u8],
-    size: usize,
-    starts: &[usize],
-    entries: &[u8],
-    begin: usize,
-    count: usize,
-) -> bool
-    requires few { length starts.now ≤ 256 }
-    requires tables { 128 * length starts.now ≤ length entries.now }
+// Whether up to four rows, which begin `size` bytes apart from `begin` on, are what the tables give of the shards that the sources name: each
+// strip of columns is written apart from the shards, and compared.
+pub(crate) fn matches_group(sources: &Sources<'_>, size: usize, begin: usize, count: usize) -> bool
+    requires some_shards { 0 < length sources.now.starts.now }
+    requires few { length sources.now.starts.now ≤ 256 }
+    requires tables { 128 * length sources.now.starts.now ≤ length sources.now.entries.now }
     requires some { 0 < count }
     requires rows { count ≤ 4 }
-    requires inside { (j : ℕ) → j < length starts.now → slice_index starts.now j + size ≤ length shards.now }
-    requires room { begin + count * size ≤ length shards.now }
-    ensures { IsTrue result ↔ AreRows count size begin size (row_sum entries.now shards.now starts.now) shards.now }
+    requires inside { (j : ℕ) → j < length sources.now.starts.now
+        → slice_index sources.now.starts.now j + sources.now.size ≤ length sources.now.shards.now }
+    requires room { (row : ℕ) → row < count → begin + row * size + sources.now.size ≤ length sources.now.shards.now }
+    ensures { IsTrue result ↔ AreRows count size begin sources.now.size
+        (row_sum sources.now.entries.now sources.now.shards.now sources.now.starts.now) sources.now.shards.now }
 {
-    let rows = starts_from(0, 4, 1024);
-    let mut strip = [0; 4096];
+    let Sources {
+        shards,
+        size: columns,
+        starts,
+        entries,
+    } = *sources;
+    let rows = starts_from(0, 4, 2048);
+    let mut strip = [0; 8192];
     let mut column = 0;
-    while column < size {
-        let width = strip_width(size - column);
-        let sources = Sources {
+    while column < columns {
+        let width = strip_width(columns - column);
+        let part = Sources {
             shards: &shards[column..],
             size: width,
             starts,
             entries,
         };
-        write_group(&sources, &mut strip, &rows[..count]);
+        write_group(&part, &mut strip, &rows[..count]);
         if !has_strip(shards, size, begin + column, width, &strip, count) {
             return false;
         }
@@ -179,23 +188,23 @@ pub(crate) fn matches_group(
     true
 }
 
-// Whether rows of `width` bytes, which begin `size` bytes apart from `begin` on, are up to four rows of a strip, 1,024 bytes apart.
+// Whether rows of `width` bytes, which begin `size` bytes apart from `begin` on, are up to four rows of a strip, 2,048 bytes apart.
 fn has_strip(
     shards: &[u8],
     size: usize,
     begin: usize,
     width: usize,
-    strip: &[u8; 4096],
+    strip: &[u8; 8192],
     count: usize,
 ) -> bool
     requires rows { count ≤ 4 }
-    requires narrow { width ≤ 1024 }
+    requires narrow { width ≤ 2048 }
     requires room { (row : ℕ) → row < count → begin + row * size + width ≤ length shards.now }
-    ensures { IsTrue result ↔ AreRows count size begin width (λ row column. slice_index strip.now (1024 * row + column)) shards.now }
+    ensures { IsTrue result ↔ AreRows count size begin width (λ row column. slice_index strip.now (2048 * row + column)) shards.now }
 {
     for row in 0..count {
         let first = begin + row * size;
-        let from = 1024 * row;
+        let from = 2048 * row;
         if shards[first..first + width] != strip[from..from + width] {
             return false;
         }
@@ -205,9 +214,9 @@ fn has_strip(
 
 // How many of so many columns a strip has.
 fn strip_width(columns: usize) -> usize
-    ensures { result ≡ min columns 1024 }
+    ensures { result ≡ min columns 2048 }
 {
-    if columns < 1024 { columns } else { 1024 }
+    if columns < 2048 { columns } else { 2048 }
 }
 
 // Writes the shards at the first `count` places, none of which is of the sample. Tables for few shards are made in less memory, which takes
@@ -219,6 +228,7 @@ pub(crate) fn restore_shards(
     targets: &[u8; 256],
     count: usize,
 )
+    requires some { 0 < sample.now.count }
     requires few { count ≤ 256 }
     requires inside { (j : ℕ) → j < sample.now.count → slice_index sample.now.places j * size + size ≤ length shards.old }
     requires room { (t : ℕ) → t < count → slice_index targets.now t * size + size ≤ length shards.old }
@@ -246,6 +256,7 @@ fn restore_by_tables(
     targets: &[u8; 256],
     count: usize,
 )
+    requires some { 0 < sample.now.count }
     requires few { count ≤ 256 }
     requires tables { 128 * sample.now.count ≤ length entries.old }
     requires inside { (j : ℕ) → j < sample.now.count → slice_index sample.now.places j * size + size ≤ length shards.old }

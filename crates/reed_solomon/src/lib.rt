@@ -9,6 +9,7 @@ mod error;
 mod groups;
 mod lanes;
 mod laws;
+mod missing;
 mod parity;
 mod prepared;
 mod rows;

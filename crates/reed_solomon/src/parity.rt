@@ -1,6 +1,6 @@
 // Parity that is computed from the shards of data, which are the sample of the first places.
-ghost use Rattle.std.specs.Prelude.{◌≡◌, ◌+◌, ◌*◌, ◌<◌, ◌≤◌, ◌↔◌, ◌++◌, ℕ, length, slice_index, IsTrue};
-ghost use Rattle.reed_solomon.specs.Parity.{parity_factor, parity_symbol};
+ghost use Rattle.std.specs.Prelude.{◌≡◌, ◌+◌, ◌*◌, ◌<◌, ◌≤◌, ◌↔◌, ◌++◌, ℕ, length, min, slice_index, IsTrue};
+ghost use Rattle.reed_solomon.specs.Parity.{MatchesParity, parity_factor, parity_symbol};
 ghost use Rattle.reed_solomon.specs.Shards.{AreCodewords, IsEncoded};
 ghost use Rattle.reed_solomon.specs.Tables.{AreWritten, HasRow};
 
@@ -25,7 +25,7 @@ pub(crate) fn set_parity_rows(entries: &mut [u8], sample: &Sample, first: usize,
 }
 
 // Writes columns of up to four shards of parity by their tables, from shard `first` of them on. Other tables give other bytes.
-pub(crate) fn write_parity_group(
+fn write_parity_strip(
     shards: &[u8],
     size: usize,
     starts: &[usize],
@@ -35,6 +35,7 @@ pub(crate) fn write_parity_group(
     count: usize,
     columns: Columns,
 )
+    requires some_shards { 0 < length starts.now }
     requires few { length starts.now ≤ 256 }
     requires rows { count ≤ 4 }
     requires listed { first + count ≤ 256 }
@@ -45,7 +46,8 @@ pub(crate) fn write_parity_group(
     requires begun { (j : ℕ) → j < length starts.now → slice_index starts.now j ≡ j * size }
     requires tables { 128 * length starts.now ≤ length entries.now }
     ensures long { length parity.new ≡ length parity.old }
-    ensures written { ((row : ℕ) → row < count → HasRow (parity_factor (length starts.now) (first + row)) entries.now row (length starts.now))
+    ensures written { ((row : ℕ) → row < count
+        → HasRow (parity_factor (length starts.now) (first + row)) entries.now row (length starts.now))
         → AreWritten (λ row column. parity_symbol (length starts.now) size shards.now (first + row) (columns.first + column))
         (λ row. (first + row) * size + columns.first) count columns.width parity.old parity.new }
 {
@@ -58,6 +60,53 @@ pub(crate) fn write_parity_group(
         entries,
     };
     write_group(&sources, parity, &rows[..count]);
+}
+
+// Writes them strip by strip, so that those of a strip stay in the nearest cache while one shard of data after the other is read.
+pub(crate) fn write_parity_group(
+    shards: &[u8],
+    size: usize,
+    starts: &[usize],
+    entries: &[u8],
+    parity: &mut [u8],
+    first: usize,
+    count: usize,
+    columns: Columns,
+)
+    requires some_shards { 0 < length starts.now }
+    requires few { length starts.now ≤ 256 }
+    requires rows { count ≤ 4 }
+    requires listed { first + count ≤ 256 }
+    requires within { columns.first + columns.width ≤ size }
+    requires room { (row : ℕ) → row < count → (first + row) * size + size ≤ length parity.old }
+    requires inside { (j : ℕ) → j < length starts.now → j * size + size ≤ length shards.now }
+    requires some { columns.first ≤ length shards.now }
+    requires begun { (j : ℕ) → j < length starts.now → slice_index starts.now j ≡ j * size }
+    requires tables { 128 * length starts.now ≤ length entries.now }
+    ensures long { length parity.new ≡ length parity.old }
+    ensures written { ((row : ℕ) → row < count
+        → HasRow (parity_factor (length starts.now) (first + row)) entries.now row (length starts.now))
+        → AreWritten (λ row column. parity_symbol (length starts.now) size shards.now (first + row) (columns.first + column))
+        (λ row. (first + row) * size + columns.first) count columns.width parity.old parity.new }
+{
+    let mut done = 0;
+    while done < columns.width {
+        let width = near_width(columns.width - done);
+        let strip = Columns {
+            first: columns.first + done,
+            width,
+        };
+        write_parity_strip(shards, size, starts, entries, parity, first, count, strip);
+        done += width;
+    }
+}
+
+// How many of so many columns of four rows stay in the nearest cache. Fewer are slower where there are many shards, each of which begins anew in
+// another page.
+fn near_width(columns: usize) -> usize
+    ensures { result ≡ min columns 4096 }
+{
+    if columns < 4096 { columns } else { 4096 }
 }
 
 // Writes m shards of parity behind one another, from k shards of data. Tables for few shards are made in less memory, which takes less
@@ -166,22 +215,107 @@ fn write_columns(
     }
 }
 
-// Whether m shards of parity are those of the k shards of data before them.
+// Whether columns of up to four shards of parity, from shard `first` of them on, are those of the shards of data before them, by their tables.
+// By other tables nothing is said of the answer.
+pub(crate) fn matches_parity_group(
+    shards: &[u8],
+    size: usize,
+    starts: &[usize],
+    entries: &[u8],
+    first: usize,
+    count: usize,
+    columns: Columns,
+) -> bool
+    requires some_shards { 0 < length starts.now }
+    requires few { length starts.now ≤ 256 }
+    requires some { 0 < count }
+    requires rows { count ≤ 4 }
+    requires listed { first + count ≤ 256 }
+    requires within { columns.first + columns.width ≤ size }
+    requires room { (length starts.now + (first + count)) * size ≤ length shards.now }
+    requires begun { (j : ℕ) → j < length starts.now → slice_index starts.now j ≡ j * size }
+    requires tables { 128 * length starts.now ≤ length entries.now }
+    ensures { ((row : ℕ) → row < count → HasRow (parity_factor (length starts.now) (first + row)) entries.now row (length starts.now))
+        → IsTrue result
+        ↔ MatchesParity (length starts.now) size shards.now first (first + count) columns.first (columns.first + columns.width) }
+{
+    bytes_fit(shards);
+    let sources = Sources {
+        shards: &shards[columns.first..],
+        size: columns.width,
+        starts,
+        entries,
+    };
+    matches_group(&sources, size, (starts.len() + first) * size, count)
+}
+
+// Whether m shards of parity are those of the k shards of data before them. Tables for few shards are made in less memory, which takes less
+// time to clear.
 pub(crate) fn matches_parity(shards: &[u8], size: usize, k: usize, m: usize) -> bool
     requires points { k + m ≤ 256 }
+    requires some { 0 < k }
+    requires whole { length shards.now ≡ (k + m) * size }
+    ensures { IsTrue result ↔ AreCodewords k (k + m) size shards.now }
+{
+    if k <= 32 {
+        let mut tables = FewTables::empty();
+        matches_by_tables(shards, size, k, &mut tables.entries, m)
+    } else {
+        let mut tables = RowTables::empty();
+        matches_by_tables(shards, size, k, &mut tables.entries, m)
+    }
+}
+
+// Whether they are, in memory for their tables: strip by strip, as they are written.
+fn matches_by_tables(shards: &[u8], size: usize, k: usize, entries: &mut [u8], m: usize) -> bool
+    requires points { k + m ≤ 256 }
+    requires some { 0 < k }
+    requires tables { 128 * k ≤ length entries.old }
     requires whole { length shards.now ≡ (k + m) * size }
     ensures { IsTrue result ↔ AreCodewords k (k + m) size shards.now }
 {
     bytes_fit(shards);
     let sample = Sample::of_first(k);
     let starts = starts_from(0, k, size);
-    let mut tables = RowTables::empty();
+    let mut first = 0;
+    while first < size {
+        let width = strip_of(size - first, m, 16384);
+        let columns = Columns { first, width };
+        if !matches_columns(shards, size, &starts[..k], &sample, entries, m, columns) {
+            return false;
+        }
+        first += width;
+    }
+    true
+}
+
+// Whether columns of m shards of parity are those of the shards of data, which are the sample. It sets the tables for four rows after four
+// rows.
+fn matches_columns(
+    shards: &[u8],
+    size: usize,
+    starts: &[usize],
+    sample: &Sample,
+    entries: &mut [u8],
+    m: usize,
+    columns: Columns,
+) -> bool
+    requires points { length starts.now + m ≤ 256 }
+    requires of_data { (j : ℕ) → j < sample.now.count → slice_index sample.now.places j ≡ j }
+    requires counted { length starts.now ≡ sample.now.count }
+    requires begun { (j : ℕ) → j < length starts.now → slice_index starts.now j ≡ j * size }
+    requires some { 0 < length starts.now }
+    requires whole { length shards.now ≡ (length starts.now + m) * size }
+    requires within { columns.first + columns.width ≤ size }
+    requires tables { 128 * length starts.now ≤ length entries.old }
+    ensures entries { length entries.new ≡ length entries.old }
+    ensures answer { IsTrue result ↔ MatchesParity (length starts.now) size shards.now 0 m columns.first (columns.first + columns.width) }
+{
     let mut done = 0;
     while done < m {
         let count = group_size(m - done);
-        set_parity_rows(&mut tables.entries, &sample, done, count);
-        let begin = (k + done) * size;
-        if !matches_group(shards, size, &starts[..k], &tables.entries, begin, count) {
+        set_parity_rows(entries, sample, done, count);
+        if !matches_parity_group(shards, size, starts, entries, done, count, columns) {
             return false;
         }
         done += count;

@@ -1,16 +1,18 @@
 // Codes whose tables are made once, in memory of the caller or of an allocator.
-ghost use Rattle.std.specs.Prelude.{◌≡◌, ℕ, ◌+◌, ◌*◌, ◌/◌, ◌<◌, ◌≤◌, ◌↔◌, ◌++◌, length, slice_index, take, IsOk, IsTrue, IfOk, IfErr, OnErr};
-ghost use Rattle.reed_solomon.specs.Parity.{HaveParityTables, parity_symbol, tables_length};
+ghost use Rattle.std.specs.Prelude.{◌≡◌, ◌≢◌, ℕ, ◌+◌, ◌*◌, ◌/◌, ◌<◌, ◌≤◌, ◌↔◌, ◌++◌, length, slice_index, take, IsOk, IsTrue, IfOk, IfErr, OnErr};
+ghost use Rattle.field_base.specs.Interpolation.{lagrange};
+ghost use Rattle.reed_solomon.specs.ErasureField.{erasure_product};
+ghost use Rattle.reed_solomon.specs.Parity.{HaveParityTables, MatchesParity, parity_symbol, tables_length};
 ghost use Rattle.reed_solomon.specs.Shards.{AreCodewords, IsEncoded};
 ghost use Rattle.reed_solomon.specs.Sizes.{HasShardSize, ShardSizeError};
-ghost use Rattle.reed_solomon.specs.Tables.{AreWritten};
+ghost use Rattle.reed_solomon.specs.Tables.{AreWritten, HaveRows};
 
 use crate::ReedSolomon;
 use crate::codec::shard_size;
 use crate::error::ReedSolomonError;
-use crate::groups::{Columns, bytes_fit, group_size, matches_group, starts_from};
-use crate::parity::{set_parity_rows, strip_of, write_parity_group};
-use crate::sample::Sample;
+use crate::groups::{Columns, bytes_fit, group_size, set_rows, starts_from};
+use crate::parity::{matches_parity_group, strip_of, write_parity_group};
+use crate::sample::{Sample, places_from};
 use crate::tables::RowTables;
 use std::alloc::{AllocError, Allocator};
 
@@ -31,7 +33,9 @@ impl ReedSolomon {
         requires { length tables.old ≡ tables_length self.now.data_shards self.now.parity_shards }
         ensures { HaveParityTables self.now.data_shards self.now.parity_shards tables.new }
     {
-        write_tables(tables, self.data_shards, self.parity_shards);
+        let sample = Sample::of_first(self.data_shards);
+        let points = places_from(self.data_shards, self.parity_shards);
+        write_tables(tables, &sample, &points[..self.parity_shards]);
     }
 
     /// Writes the shards of parity as `encode` does, by the tables that `prepare` wrote for this code. By any other bytes it writes shards
@@ -117,18 +121,24 @@ impl<A: Allocator> PreparedEncoder<A> {
     }
 }
 
-// Writes the tables of m shards of parity of k shards of data, four rows after four rows.
-#[tactic(auto, using(crate::proofs::PreparedTables::tables_room))]
-fn write_tables(tables: &mut [u8], k: usize, m: usize)
-    requires points { k + m ≤ 256 }
-    requires room { length tables.old ≡ tables_length k m }
-    ensures { HaveParityTables k m tables.new }
+// Writes the tables of the shards at these points, none of which is of the sample, four rows after four rows.
+#[tactic(auto, using(crate::proofs::PreparedTables::rows_room))]
+pub(crate) fn write_tables(tables: &mut [u8], sample: &Sample, points: &[u8])
+    requires few { length points.now ≤ 256 }
+    requires room { tables_length sample.now.count (length points.now) ≤ length tables.old }
+    requires apart { (j t : ℕ) → j < sample.now.count → t < length points.now
+        → slice_index sample.now.places j ≢ slice_index points.now t }
+    ensures long { length tables.new ≡ length tables.old }
+    ensures set { HaveRows
+        (λ t j. lagrange 8 erasure_product (slice_index sample.now.places) sample.now.count j (slice_index points.now t))
+        sample.now.count (length points.now) tables.new }
 {
-    let sample = Sample::of_first(k);
+    let (k, m) = (sample.count, points.len());
     let mut rows = RowTables::empty();
     for group in 0..(m + 3) / 4 {
         let done = 4 * group;
-        set_parity_rows(&mut rows.entries, &sample, done, group_size(m - done));
+        let next = done + group_size(m - done);
+        set_rows(&mut rows.entries, sample, &points[done..next]);
         let start = 128 * k * group;
         tables[start..start + 128 * k].copy_from_slice(&rows.entries[..128 * k]);
     }
@@ -196,23 +206,53 @@ fn write_columns(
     }
 }
 
-// Whether m shards of parity are those of the k shards of data before them, by their tables.
-#[tactic(auto, using(crate::proofs::PreparedTables::tables_room))]
+// Whether m shards of parity are those of the k shards of data before them, by their tables: strip by strip, as they are written.
 fn matches_prepared(shards: &[u8], size: usize, k: usize, tables: &[u8], m: usize) -> bool
-    requires some { 0 < k }
     requires points { k + m ≤ 256 }
+    requires some { 0 < k }
     requires listed { length tables.now ≡ tables_length k m }
     requires whole { length shards.now ≡ (k + m) * size }
     ensures { HaveParityTables k m tables.now → IsTrue result ↔ AreCodewords k (k + m) size shards.now }
 {
     bytes_fit(shards);
     let starts = starts_from(0, k, size);
+    let mut first = 0;
+    while first < size {
+        let width = strip_of(size - first, m, 8192);
+        let columns = Columns { first, width };
+        if !matches_columns(shards, size, &starts[..k], tables, m, columns) {
+            return false;
+        }
+        first += width;
+    }
+    true
+}
+
+// Whether columns of m shards of parity are those of the shards of data, by their tables.
+#[tactic(auto, using(crate::proofs::PreparedTables::tables_room))]
+fn matches_columns(
+    shards: &[u8],
+    size: usize,
+    starts: &[usize],
+    tables: &[u8],
+    m: usize,
+    columns: Columns,
+) -> bool
+    requires points { length starts.now + m ≤ 256 }
+    requires listed { length tables.now ≡ tables_length (length starts.now) m }
+    requires begun { (j : ℕ) → j < length starts.now → slice_index starts.now j ≡ j * size }
+    requires some { 0 < length starts.now }
+    requires whole { length shards.now ≡ (length starts.now + m) * size }
+    requires within { columns.first + columns.width ≤ size }
+    ensures { HaveParityTables (length starts.now) m tables.now
+        → IsTrue result ↔ MatchesParity (length starts.now) size shards.now 0 m columns.first (columns.first + columns.width) }
+{
+    let k = starts.len();
     for group in 0..(m + 3) / 4 {
         let done = 4 * group;
         let count = group_size(m - done);
         let entries = &tables[128 * k * group..];
-        let begin = (k + done) * size;
-        if !matches_group(shards, size, &starts[..k], entries, begin, count) {
+        if !matches_parity_group(shards, size, starts, entries, done, count, columns) {
             return false;
         }
     }

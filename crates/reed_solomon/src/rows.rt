@@ -1,5 +1,5 @@
 // The shards that are missing, and how they are restored. Shards of one size stand one after the other in a slice.
-ghost use Rattle.std.specs.Prelude.{◌≡◌, ◌*◌, ◌≤◌, length};
+ghost use Rattle.std.specs.Prelude.{◌≡◌, ◌*◌, ◌<◌, ◌≤◌, length};
 ghost use Rattle.reed_solomon.specs.Missing.{AreMissing};
 ghost use Rattle.reed_solomon.specs.Samples.{IsSample};
 ghost use Rattle.reed_solomon.specs.Shards.{IsReconstructed};
@@ -8,7 +8,7 @@ use crate::groups::{bytes_fit, restore_shards};
 use crate::sample::Sample;
 
 // The places before `until` of the missing shards, in order, and how many there are.
-fn missing_places(present: &[bool], until: usize) -> ([u8; 256], usize)
+pub(crate) fn missing_places(present: &[bool], until: usize) -> ([u8; 256], usize)
     requires fit { length present.now ≤ 256 }
     requires inside { until ≤ length present.now }
     ensures missing { AreMissing present.now until result.0 result.1 }
@@ -33,6 +33,7 @@ pub(crate) fn restore(
     present: &[bool],
     until: usize,
 )
+    requires some { 0 < sample.now.count }
     requires fit { length present.now ≤ 256 }
     requires inside { until ≤ length present.now }
     requires whole { length shards.old ≡ length present.now * size }

@@ -23,19 +23,12 @@ pub(crate) struct Sample {
 
 impl Sample {
     // The first k shards that are present, or all where these are fewer.
-    #[tactic(auto, using(crate::proofs::Samples::no_sample, crate::proofs::Samples::sample_distinct))]
+    #[tactic(auto, using(crate::proofs::Samples::sample_distinct))]
     pub(crate) fn of_present(present: &[bool], k: usize) -> Sample
         requires fit { length present.now ≤ 256 }
         ensures { IsSample k present.now (length present.now) result.places result.count }
     {
-        let mut places = [0; 256];
-        let mut count = 0;
-        for i in 0..present.len() {
-            if present[i] && count < k {
-                places[count] = i as u8;
-                count += 1;
-            }
-        }
+        let (places, count) = present_places(present, k);
         Sample {
             places,
             count,
@@ -84,6 +77,24 @@ impl Sample {
         }
         product
     }
+}
+
+// The places of the first k shards that are present, or of all where these are fewer, and how many there are.
+#[tactic(auto, using(crate::proofs::Samples::no_sample))]
+pub(crate) fn present_places(present: &[bool], k: usize) -> ([u8; 256], usize)
+    requires fit { length present.now ≤ 256 }
+    ensures sample { IsSample k present.now (length present.now) result.0 result.1 }
+    ensures few { result.1 ≤ length present.now }
+{
+    let mut places = [0; 256];
+    let mut count = 0;
+    for i in 0..present.len() {
+        if present[i] && count < k {
+            places[count] = i as u8;
+            count += 1;
+        }
+    }
+    (places, count)
 }
 
 // The places of `count` shards from shard `first` on.

@@ -10,17 +10,17 @@ block_sums-sums-requires g c =
     let fits : columns + 32 ≤ c.args.sources.now.size = omega (arith, c.loop-block-test.true) in (
       omega arith,
       (
-        c.requires.fit.few_shards,
+        c.requires.range,
         (
-          c.requires.range,
+          c.requires.two,
           (
-            c.requires.listed,
+            c.held_shards-held.ensures.entries,
             (
-              omega (arith, c.requires.fit.tables, c.requires.fit.few_rows),
+              c.held_shards-held.ensures.starts,
               (
                 c.requires.fit.few_rows,
                 (
-                  (λ j below. omega (arith, c.requires.fit.inside j below, fits)),
+                  (λ j below. omega (arith, c.requires.fit.inside j (omega (arith, below, c.requires.listed)), fits)),
                   (
                     c.block_so_far-so_far.ensures.count,
                     (

@@ -1,15 +1,18 @@
-use Rattle.std.proofs.Common.{ℕ, ◌+◌, ◌≤◌, slice_index, length, arith}
-use Rattle.reed_solomon.specs.Tables.{row_sum_of}
-use Rattle.reed_solomon.proofs.RowWriting.{rows_rewritten}
+use Rattle.std.proofs.Common.{◌≡◌, ◌+◌, length, slice_index, ◌∙◌, ap, arith}
+use Rattle.reed_solomon.specs.Tables.{row_sum}
+use Rattle.reed_solomon.proofs.RowWriting.{rows_held, written_at}
 use Rattle.reed_solomon.proofs.blocks.write_rows.Goals as goal
 
-pub loop-done-preserved : goal.loop-done-preserved
-loop-done-preserved g c =
-    let done = c.loop-done.done in
-    let sums = λ (n : ℕ). row_sum_of n c.args.sources.now.entries.now c.args.sources.now.shards.now c.args.sources.now.starts.now in
-    let more = done + c.at_most_20.result in
-    let within : more ≤ length c.args.sources.now.starts.now = omega (arith, c.at_most_20.ensures, c.loop-done-test.true) in (
-      within,
-      rows_rewritten (sums more) (sums done) (slice_index c.args.rows.now) g.row.N c.args.sources.now.size c.args.out.now c.loop-done.out c.add_shards-in-loop-done.new.out
-          c.loop-done.invariant.1 c.add_shards-in-loop-done.ensures,
-    )
+pub add_all-requires-clause-fit : goal.add_all-requires-clause-fit
+add_all-requires-clause-fit g c =
+    rows_held c.args.sources.now.size (length c.args.out.now) g.row.N c.args.sources.now.entries.now c.args.sources.now.shards.now
+    c.args.sources.now.starts.now c.args.rows.now c.held_places-places.result c.requires.fit c.held_places-places.ensures.long
+    c.held_places-places.ensures.same
+
+pub returns : goal.returns
+returns g c =
+    written_at (row_sum c.args.sources.now.entries.now c.args.sources.now.shards.now c.args.sources.now.starts.now)
+    (slice_index c.held_places-places.result) (slice_index c.args.rows.now) g.row.N c.args.sources.now.size c.args.out.now _ c.add_all.ensures
+    (λ row below.
+    let here : 0 + row ≡ row = omega arith in
+    c.held_places-places.ensures.same row below ∙ ap (slice_index c.args.rows.now) here)

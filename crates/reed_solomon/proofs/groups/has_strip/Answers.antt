@@ -11,10 +11,10 @@ returns-then-ne c =
     let first = c.args.begin + row * size in
     let within = c.loop-row-test.true in
     let own = take (first + width - first) (drop first c.args.shards.now) in
-    let other = take (1024 * row + width - 1024 * row) (drop (1024 * row) c.args.strip.now) in
+    let other = take (2048 * row + width - 2048 * row) (drop (2048 * row) c.args.strip.now) in
     let told : own ≡ other → c.ne.result ≡ false = search rules in (
       (λ wrong. absurd (false≢true wrong)),
-      λ all. absurd (false≢true (sym (told (row_equal c.args.count size c.args.begin width c.args.shards.now c.args.strip.now row first (1024 * row) _ _
+      λ all. absurd (false≢true (sym (told (row_equal c.args.count size c.args.begin width c.args.shards.now c.args.strip.now row first (2048 * row) _ _
           refl refl (omega arith) (omega arith) (c.requires.room row within) (omega (arith, c.requires.rows, c.requires.narrow, within)) within all))
           ∙ c.if-ne.true)),
     )
@@ -26,7 +26,7 @@ loop-row-preserved c =
     let row = c.loop-row.row in
     let first = c.args.begin + row * size in
     let own = take (first + width - first) (drop first c.args.shards.now) in
-    let other = take (1024 * row + width - 1024 * row) (drop (1024 * row) c.args.strip.now) in
+    let other = take (2048 * row + width - 2048 * row) (drop (2048 * row) c.args.strip.now) in
     let told : c.ne.result ≡ false → own ≡ other = search rules in
-    rows_more c.args.count size c.args.begin width c.args.shards.now c.args.strip.now row first (1024 * row) _ _ refl refl (omega arith) (omega arith)
+    rows_more c.args.count size c.args.begin width c.args.shards.now c.args.strip.now row first (2048 * row) _ _ refl refl (omega arith) (omega arith)
     (told c.if-ne.false) c.loop-row.invariant

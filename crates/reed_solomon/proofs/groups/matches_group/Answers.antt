@@ -2,17 +2,16 @@ use Rattle.std.proofs.Common.{◌≡◌, ◌+◌, ◌-◌, ◌*◌, ◌<◌, ◌
 use Rattle.std.proofs.lemmas.Bool.{false≢true}
 use Rattle.std.proofs.lemmas.List.{get_or-take, length-take-le, take_rest}
 use Rattle.reed_solomon.specs.Tables.{row_sum}
-use Rattle.reed_solomon.proofs.GroupWriting.{place_inside}
 use Rattle.reed_solomon.proofs.Strips.{columns_more, strip_equal}
 use Rattle.reed_solomon.proofs.groups.matches_group.Goals as goal
 
 -- where the rows of a strip begin
-spots_are : (count : ℕ) (spots : List ℕ) → count ≤ 4 → ((i : ℕ) → i < 4 → slice_index spots i ≡ (0 + i) * 1024)
-    → (row : ℕ) → row < count → slice_index (take count spots) row ≡ 1024 * row
+spots_are : (count : ℕ) (spots : List ℕ) → count ≤ 4 → ((i : ℕ) → i < 4 → slice_index spots i ≡ (0 + i) * 2048)
+    → (row : ℕ) → row < count → slice_index (take count spots) row ≡ 2048 * row
 spots_are count spots few starts row within =
     get_or-take count spots row 0 within ∙ starts row (omega (arith, within, few)) ∙ step
   where
-    step : (0 + row) * 1024 ≡ 1024 * row
+    step : (0 + row) * 2048 ≡ 2048 * row
     step = omega arith
 
 -- what is written holds of the columns of all shards
@@ -26,7 +25,7 @@ sums_are entries starts strip spots shards count columns width few sums row c wi
 
 pub has_strip-requires-clause-room : goal.has_strip-requires-clause-room
 has_strip-requires-clause-room c = λ row within.
-    omega (arith, place_inside c.args.size c.args.count row within, c.requires.room, c.strip_width-width.ensures, c.loop-column-test.true)
+    omega (arith, c.requires.room row within, c.strip_width-width.ensures, c.loop-column-test.true)
 
 pub loop-column-preserved : goal.loop-column-preserved
 loop-column-preserved c =
@@ -34,11 +33,11 @@ loop-column-preserved c =
     let count = c.args.count in
     let column = c.loop-column.column in
     let width = c.strip_width-width.result in
-    let shards = c.args.shards.now in
+    let shards = c.args.sources.now.shards.now in
     let few : count ≤ length spots = omega (arith, c.requires.rows, c.starts_from-rows.ensures.long) in (
       omega (arith, c.strip_width-width.ensures, c.loop-column-test.true),
-      columns_more c.args.entries.now c.args.starts.now c.write_group.new.out (take count spots) count c.args.size c.args.begin column width shards
-          (sums_are c.args.entries.now c.args.starts.now c.write_group.new.out spots shards count column width few c.write_group.ensures.written)
+      columns_more c.args.sources.now.entries.now c.args.sources.now.starts.now c.write_group.new.out (take count spots) count c.args.size c.args.begin column width shards
+          (sums_are c.args.sources.now.entries.now c.args.sources.now.starts.now c.write_group.new.out spots shards count column width few c.write_group.ensures.written)
           (spots_are count spots c.requires.rows c.starts_from-rows.ensures.starts)
           (c.has_strip.ensures.0 c.if-not-has_strip.false) c.loop-column.invariant.1,
     )
@@ -49,13 +48,13 @@ returns-then-not-has_strip c =
     let count = c.args.count in
     let column = c.loop-column.column in
     let width = c.strip_width-width.result in
-    let shards = c.args.shards.now in
+    let shards = c.args.sources.now.shards.now in
     let few : count ≤ length spots = omega (arith, c.requires.rows, c.starts_from-rows.ensures.long) in
-    let fits : column + width ≤ c.args.size = omega (arith, c.strip_width-width.ensures, c.loop-column-test.true) in (
+    let fits : column + width ≤ c.args.sources.now.size = omega (arith, c.strip_width-width.ensures, c.loop-column-test.true) in (
       (λ wrong. absurd (false≢true wrong)),
       λ all. absurd (false≢true (sym c.if-not-has_strip.true
-          ∙ c.has_strip.ensures.1 (strip_equal c.args.entries.now c.args.starts.now c.write_group.new.out (take count spots) count c.args.size c.args.begin
+          ∙ c.has_strip.ensures.1 (strip_equal c.args.sources.now.entries.now c.args.sources.now.starts.now c.write_group.new.out (take count spots) count c.args.size c.args.begin
           column width shards
-          (sums_are c.args.entries.now c.args.starts.now c.write_group.new.out spots shards count column width few c.write_group.ensures.written)
-          (spots_are count spots c.requires.rows c.starts_from-rows.ensures.starts) fits all))),
+          (sums_are c.args.sources.now.entries.now c.args.sources.now.starts.now c.write_group.new.out spots shards count column width few c.write_group.ensures.written)
+          (spots_are count spots c.requires.rows c.starts_from-rows.ensures.starts) c.args.sources.now.size fits all))),
     )

@@ -11,7 +11,7 @@ loop-column-preserved c =
     let width = c.strip_width-width.result in
     let fits : c.loop-column.column + width ≤ c.args.size = omega (arith, c.strip_width-width.ensures, c.loop-column-test.true) in
     let listed : length (take rows spots) ≡ rows = length-take-le rows spots (omega (arith, c.requires.rows, c.starts_from-rows.ensures.long)) in
-    let step : (row : ℕ) → (0 + row) * 1024 ≡ 1024 * row = λ row. omega arith in (
+    let step : (row : ℕ) → (0 + row) * 2048 ≡ 2048 * row = λ row. omega arith in (
       fits,
       strip_written c.args.entries.now c.args.starts.now c.write_group.new.out (take rows spots) (slice_index c.args.targets.now) rows c.loop-column.column
           width c.args.size c.args.shards.now c.loop-column.shards _ c.loop-column.invariant.1

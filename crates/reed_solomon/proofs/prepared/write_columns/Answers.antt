@@ -1,9 +1,8 @@
-use Rattle.std.proofs.Common.{◌+◌, ◌*◌, ◌<◌, ℕ, List, length, sym, subst, arith}
-use Rattle.std.proofs.lemmas.List.{take_rest}
+use Rattle.std.proofs.Common.{◌+◌, ◌*◌, ◌<◌, ℕ, length, subst, arith}
 use Rattle.reed_solomon.specs.Parity.{parity_factor, parity_symbol}
-use Rattle.reed_solomon.specs.Tables.{AreWritten, HasRow}
+use Rattle.reed_solomon.specs.Tables.{AreWritten}
 use Rattle.reed_solomon.proofs.GroupWriting.{place_inside}
-use Rattle.reed_solomon.proofs.PreparedTables.{groups_joined, tables_of}
+use Rattle.reed_solomon.proofs.PreparedTables.{group_tables, groups_joined}
 use Rattle.reed_solomon.proofs.prepared.write_columns.Goals as goal
 
 pub write_parity_group-requires-clause-room : goal.write_parity_group-requires-clause-room
@@ -18,15 +17,12 @@ write_parity_group-requires-clause-some c =
 pub loop-group-preserved : goal.loop-group-preserved
 loop-group-preserved c = λ all.
     let k = length c.args.starts.now in
-    let tables = c.args.tables.now in
     let count = c.group_size-count.result in
     let group = c.loop-group.group in
     groups_joined k c.args.m c.args.size c.args.columns.first c.args.columns.width group count c.args.shards.now c.args.parity.now c.loop-group.parity _
     c.requires.within c.loop-group-test.true c.group_size-count.ensures (c.loop-group.invariant all)
-    (c.write_parity_group.ensures.written (λ row below.
-    subst (λ (l : List ℕ). HasRow (parity_factor k (4 * group + row)) l row k) (sym (take_rest tables (128 * k * group)))
-    (tables_of k c.args.m tables all group row (omega (arith, below, c.group_size-count.ensures))
-    (omega (arith, below, c.group_size-count.ensures, c.loop-group-test.true)))))
+    (c.write_parity_group.ensures.written
+    (group_tables (parity_factor k) k c.args.m group count c.args.tables.now all.rows c.group_size-count.ensures))
 
 pub returns-clause-written : goal.returns-clause-written
 returns-clause-written c = λ all.

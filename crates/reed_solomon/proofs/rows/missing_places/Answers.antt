@@ -17,14 +17,16 @@ loop-i-preserved c =
           omega (arith, c.loop-i.invariant.1, c.loop-i.invariant.2, c.loop-i-test.true, c.requires.fit, c.requires.inside) in (
             subst (λ (n : ℕ). AreMissing c.args.present.now (c.loop-i.i + 1) c.if-not-present-i.places n) (sym w.count-is)
                 (subst (λ (ps : List ℕ). AreMissing c.args.present.now (c.loop-i.i + 1) ps (c.loop-i.count + 1)) (sym w.places-is)
-                (missing-taken c.args.present.now c.loop-i.i c.loop-i.places c.loop-i.count before w.if-not-present-i.true room)),
+                (missing-taken c.args.present.now c.loop-i.i c.loop-i.places c.loop-i.count before (omega (arith, c.loop-i-test.true, c.requires.inside))
+                w.if-not-present-i.true room)),
             omega (arith, w.count-is, c.loop-i.invariant.1),
             ap length w.places-is ∙ length-set c.loop-i.places c.loop-i.count c.loop-i.i ∙ c.loop-i.invariant.2,
           )
       | else-not-present-i w ↦ (
         subst (λ (n : ℕ). AreMissing c.args.present.now (c.loop-i.i + 1) c.if-not-present-i.places n) (sym w.count-is)
             (subst (λ (ps : List ℕ). AreMissing c.args.present.now (c.loop-i.i + 1) ps c.loop-i.count) (sym w.places-is)
-            (missing-present c.args.present.now c.loop-i.i c.loop-i.places c.loop-i.count before w.if-not-present-i.false)),
+            (missing-present c.args.present.now c.loop-i.i c.loop-i.places c.loop-i.count before (omega (arith, c.loop-i-test.true, c.requires.inside))
+            w.if-not-present-i.false)),
         omega (arith, w.count-is, c.loop-i.invariant.1),
         ap length w.places-is ∙ c.loop-i.invariant.2,
       )
