@@ -1,5 +1,5 @@
 -- What an honest prover sends of two tables is accepted.
-use Rattle.std.proofs.Common.{◌≡◌, ℕ, ◌+◌, ◌-◌, ◌*◌, ◌/◌, ◌%◌, ◌^◌, ◌<◌, ◌≤◌, Bool, true, List, [], ◌∷◌, ◌++◌, length, map, take, drop}
+use Rattle.std.proofs.Common.{◌≡◌, ℕ, suc, ◌+◌, ◌-◌, ◌*◌, ◌/◌, ◌%◌, ◌^◌, ◌<◌, ◌≤◌, Bool, true, List, [], ◌∷◌, ◌++◌, length, map, take, drop}
 use Rattle.std.proofs.Common.{append_assoc, refl, sym, ◌∙◌, ap, ap₂, subst, arith}
 use Rattle.std.specs.Prelude.{slice_index}
 use Rattle.std.specs.List.{range_with_len}
@@ -12,7 +12,7 @@ use Rattle.transcripts.specs.States.{GivesByState, LeadsByState}
 use Rattle.field_base.proofs.Places.{numbers-lt}
 use Rattle.field_bytes.specs.Streams.{joined_bytes}
 use Rattle.field_slices.specs.Multilinear.{multilinear_value}
-use Rattle.merkle_trees.specs.Commitments.{root_of, row_at}
+use Rattle.merkle_trees.specs.Commitments.{IsTreeOver, root_of, row_at}
 use Rattle.merkle_trees.specs.Openings.{AreAscending, OpeningsHaveOneCount, OpensRows}
 use Rattle.merkle_trees.specs.declared.merkle_tree.MerkleTree.{MerkleTree}
 use Rattle.sum_checks.specs.Sumcheck.{IsRunOf, messages_of}
@@ -25,11 +25,13 @@ use Rattle.protocols.proofs.CommitmentScheme.{value-opened}
 use Rattle.protocols.proofs.HonestColumns.{honest-opening}
 use Rattle.protocols.proofs.SchemeTurns.{places-same, runs-same}
 use Rattle.prove_sums.specs.Completeness.{HonestSumsAreAccepted}
-use Rattle.prove_sums.specs.Shapes.{columns_in, columns_size, messages_in, nodes_in, part, row_in, row_size, rows_in}
+use Rattle.prove_sums.specs.ProofFiles.{IsFile}
+use Rattle.prove_sums.specs.Shapes.{columns_in, columns_size, element_count, messages_in, nodes_in, part, row_in, row_size, rows_in}
 use Rattle.prove_sums.specs.Shapes.{sum_in, witness_in}
 use Rattle.prove_sums.specs.Soundness.{HasPoints}
 use Rattle.prove_sums.specs.Verdicts.{IsHonestProof, IsProductAt, OpensTable, SentParts, VerifiesSum, interleaved, product_terms, sent_elements}
 use Rattle.prove_sums.specs.Verdicts.{sum_statement, values_at}
+use Rattle.prove_sums.proofs.Files.{AreNodes, length-joined}
 use Rattle.prove_sums.proofs.Places.{map-interleaved}
 use Rattle.prove_sums.proofs.TwoTables.{tables-shape, values-product}
 
@@ -144,6 +146,83 @@ module _ {F : Type 0} (m n : ℕ) (parts : SentParts F) (elements : List F) (wri
       ∙ ap (λ (l : List F). ((front ++ parts.rows) ++ parts.left) ++ l) (sym (append-nil parts.right)))
       (omega (arith, longer, long, front-long, row_count, left_count)) (sym right_count)
 
+-- ---- what an honest prover sends
+
+-- a value for each column of a row
+values-count : {F : Type 0} (repr : F → ℕ) (times : ℕ → ℕ → ℕ) (m n : ℕ) (columns point : List F)
+    → length (values_at repr times m n columns point) ≡ row_size m n
+values-count repr times m n columns point =
+    length-map-range_with_len (λ p. multilinear_value times (map repr (row_at (2 ^ length point) columns p)) (map repr point)) 0 (row_size m n)
+
+module _ {C F A : Type 0} {observes gives : C → F → C → Type 0} {passing : C → ℕ → ℕ → Bool} {checks gives_bits : C → ℕ → ℕ → C → Type 0}
+    {number repr : F → ℕ} {width : ℕ} {times : ℕ → ℕ → ℕ} {m n : ℕ} {left right left_columns right_columns : List F}
+    {left_tree right_tree : MerkleTree A} {elements : List F} {nodes : List (List ℕ)} {prover : C}
+    (honest : IsHonestProof observes gives passing checks gives_bits number repr width times m n left right left_columns right_columns left_tree
+    right_tree elements nodes prover) where
+  pub honest-rows : length honest.parts.rows ≡ 2 * row_size m n
+  honest-rows =
+      let point = take (matrix_rows m n) honest.point in
+      let one = values-count repr times m n left_columns point in
+      let other = values-count repr times m n right_columns point in
+      let both = length-append (values_at repr times m n left_columns point) (values_at repr times m n right_columns point) in
+      let all = sym (length-map honest.parts.rows repr) ∙ ap length honest.rows_are ∙ both in
+      omega (arith, all, one, other)
+
+  places-count : length honest.places ≡ place_count m n
+  places-count =
+      ap length honest.drawn.chosen
+      ∙ length-map-range_with_len (λ i. i * 2 ^ place_bits m n + slice_index honest.drawn.numbers i % 2 ^ place_bits m n) 0
+      (length honest.drawn.numbers)
+      ∙ honest.drawn.count
+
+  pub honest-left : length honest.parts.left ≡ columns_size m n
+  honest-left = honest.left_opened.0 ∙ ap (λ (v : ℕ). v * 2 ^ matrix_rows m n) places-count
+
+  pub honest-right : length honest.parts.right ≡ columns_size m n
+  honest-right = honest.right_opened.0 ∙ ap (λ (v : ℕ). v * 2 ^ matrix_rows m n) places-count
+
+  -- so many elements are sent
+  pub honest-count : length elements ≡ element_count m n
+  honest-count =
+      let parts = honest.parts in
+      let last = length-append parts.left parts.right in
+      let middle = length-append parts.rows (parts.left ++ parts.right) in
+      let front = length-append parts.messages (parts.witness ∷ parts.rows ++ (parts.left ++ parts.right)) in
+      all (row_size m n) (columns_size m n) (length parts.messages) (length parts.rows) (length parts.left) (length parts.right)
+      (length (parts.left ++ parts.right)) (length (parts.rows ++ (parts.left ++ parts.right)))
+      (length (parts.messages ++ (parts.witness ∷ parts.rows ++ (parts.left ++ parts.right)))) (length elements) honest.summed.message_count
+      honest-rows honest-left honest-right last middle front (ap length honest.written)
+    where
+      all : (r s messages rows one other ends behind front count : ℕ) → messages ≡ 2 * n → rows ≡ 2 * r → one ≡ s → other ≡ s
+          → ends ≡ one + other → behind ≡ rows + ends → front ≡ messages + suc behind → count ≡ suc front
+          → count ≡ 2 * n + 2 + 2 * r + 2 * s
+      all r s messages rows one other ends behind front count a b c d e f g h = omega (arith, a, b, c, d, e, f, g, h)
+
+  -- as many nodes open one tree as the other
+  pub honest-halves : OpeningsHaveOneCount → (hash : List ℕ → List ℕ) (row other : ℕ → List ℕ) → IsTreeOver hash row left_tree
+      → IsTreeOver hash other right_tree → left_tree.depth ≡ right_tree.depth → length honest.left_nodes ≡ length honest.right_nodes
+  honest-halves counts hash row other over other_over same =
+      counts hash hash left_tree.depth (root_of left_tree) (root_of right_tree) honest.places (λ i. row (slice_index honest.places i))
+      (λ i. other (slice_index honest.places i)) honest.left_nodes honest.right_nodes (honest.left_nodes_open hash row over)
+      (subst (λ (d : ℕ). OpensRows hash d (root_of right_tree) honest.places (λ i. other (slice_index honest.places i)) honest.right_nodes) (sym same)
+      (honest.right_nodes_open hash other other_over))
+
+  -- a file may hold it
+  pub honest-file : (one other : List ℕ) → 7 ≤ m → m ≤ 8 → n ≤ 39 → length one ≡ 32 → length other ≡ 32 → AreNodes nodes
+      → length honest.left_nodes ≡ length honest.right_nodes → IsFile m n one other (joined_bytes 16 repr elements) nodes
+  honest-file one other some_queries few_queries few one_size other_size sized halves = record {
+    some_queries = some_queries;
+    few_queries = few_queries;
+    few = few;
+    left_size = one_size;
+    right_size = other_size;
+    body_size = length-joined repr elements ∙ ap (λ (v : ℕ). v * 16) honest-count;
+    node_size = sized;
+    even =
+        let long = ap length honest.nodes_are ∙ length-append honest.left_nodes honest.right_nodes in
+        omega (arith, long, halves);
+  }
+
 -- ---- an honest proof and a verdict
 
 module _ {C S F : Type 0} (state : C → S) (observes gives : C → F → C → Type 0) (passing : C → ℕ → ℕ → Bool)
@@ -196,22 +275,13 @@ module _ {C S F : Type 0} (state : C → S) (observes gives : C → F → C → 
     rows-are = honest.rows_are ∙ ap₂ (λ (a b : List ℕ). a ++ b) (values-are left_columns) (values-are right_columns)
 
     rows-count : length honest.parts.rows ≡ 2 * row_size m n
-    rows-count =
-        let all = sym (length-map honest.parts.rows repr) ∙ ap length rows-are ∙ length-append (values left_columns) (values right_columns) in
-        omega (arith, all, values-long left_columns, values-long right_columns)
-
-    places-count : length honest.places ≡ place_count m n
-    places-count =
-        ap length honest.drawn.chosen
-        ∙ length-map-range_with_len (λ i. i * 2 ^ place_bits m n + slice_index honest.drawn.numbers i % 2 ^ place_bits m n) 0
-        (length honest.drawn.numbers)
-        ∙ honest.drawn.count
+    rows-count = honest-rows honest
 
     left-count : length honest.parts.left ≡ columns_size m n
-    left-count = honest.left_opened.0 ∙ ap (λ (v : ℕ). v * 2 ^ matrix_rows m n) places-count
+    left-count = honest-left honest
 
     right-count : length honest.parts.right ≡ columns_size m n
-    right-count = honest.right_opened.0 ∙ ap (λ (v : ℕ). v * 2 ^ matrix_rows m n) places-count
+    right-count = honest-right honest
 
     -- what the verifier reads
     sum-read : sum_in repr elements ≡ repr honest.parts.sum
@@ -332,13 +402,8 @@ module _ {C S F : Type 0} (state : C → S) (observes gives : C → F → C → 
 
     nodes-count : length honest.left_nodes ≡ length honest.right_nodes
     nodes-count =
-        counts hash hash (word_levels m n) (root_of left_tree) (root_of right_tree) honest.places
-        (λ i. row-bytes left_columns (slice_index honest.places i)) (λ i. row-bytes right_columns (slice_index honest.places i))
-        honest.left_nodes honest.right_nodes
-        (subst (λ (d : ℕ). OpensRows hash d (root_of left_tree) honest.places (λ i. row-bytes left_columns (slice_index honest.places i))
-        honest.left_nodes) left_held.depth (honest.left_nodes_open hash (row-bytes left_columns) left_held.over))
-        (subst (λ (d : ℕ). OpensRows hash d (root_of right_tree) honest.places (λ i. row-bytes right_columns (slice_index honest.places i))
-        honest.right_nodes) right_held.depth (honest.right_nodes_open hash (row-bytes right_columns) right_held.over))
+        honest-halves honest counts hash (row-bytes left_columns) (row-bytes right_columns) left_held.over right_held.over
+        (left_held.depth ∙ sym right_held.depth)
 
     nodes-read : (nodes_in 0 nodes ≡ honest.left_nodes) × (nodes_in 1 nodes ≡ honest.right_nodes)
     nodes-read = halves honest.left_nodes honest.right_nodes honest.nodes_are nodes-count

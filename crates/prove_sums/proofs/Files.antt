@@ -1,6 +1,6 @@
 -- Files are cut into the parts of which they are made.
 use Rattle.std.proofs.Common.{◌≡◌, ℕ, zero, suc, ◌+◌, ◌-◌, ◌*◌, ◌/◌, ◌%◌, ◌<◌, ◌≤◌, List, [], ◌∷◌, ◌++◌, length, get_or, take, drop, refl, sym, ◌∙◌, ap, ap₂, subst, arith}
-use Rattle.std.specs.Prelude.{IfNone, IfSome, None, Option, Some, slice_index}
+use Rattle.std.specs.Prelude.{IfNone, IfSome, None, Option, Some, cond, nat_eq, slice_index}
 use Rattle.std.specs.List.{flat_map}
 use Rattle.std.specs.Simd.{first_chunks}
 use Rattle.std.proofs.Math.Seq.{drop-append_seam, take-append_seam}
@@ -11,6 +11,9 @@ use Rattle.field_bytes.specs.Streams.{joined_bytes}
 use Rattle.field_bytes.proofs.Taking.{length-chunks}
 use Rattle.prove_sums.specs.ProofFiles.{file_bytes, head, IsCutTo, IsFile}
 use Rattle.prove_sums.specs.Shapes.{element_count}
+use Rattle.prove_sums.specs.Tables.{field_letter}
+use Rattle.prove_sums.specs.declared.tables.TableField.{TableField}
+use Rattle.prove_sums.specs.declared.tables.TableField.TheVariants.{Ghash, Tower8, Tower16, Tower32, Tower64, Tower128}
 
 -- the nodes, one after the other
 abbrev pub flat : List (List ℕ) → List ℕ
@@ -67,16 +70,36 @@ pub chunk-count : (k : ℕ) (bytes : List ℕ) → length (first_chunks 32 k byt
 chunk-count zero bytes = refl
 chunk-count (suc k) bytes = ap suc (chunk-count k (drop 32 bytes))
 
+-- ---- letters
+
+-- the field that a letter names
+abbrev letter_field : ℕ → TableField
+letter_field letter =
+    cond (nat_eq letter 65) Tower8
+    (cond (nat_eq letter 66) Tower16 (cond (nat_eq letter 67) Tower32 (cond (nat_eq letter 68) Tower64 (cond (nat_eq letter 69) Tower128 Ghash))))
+
+named-back : (f : TableField) → letter_field (field_letter f) ≡ f
+named-back Ghash = refl
+named-back Tower8 = refl
+named-back Tower16 = refl
+named-back Tower32 = refl
+named-back Tower64 = refl
+named-back Tower128 = refl
+
+-- no two fields have one letter
+pub same-field : (f g : TableField) → field_letter f ≡ field_letter g → f ≡ g
+same-field f g same = sym (named-back f) ∙ ap letter_field same ∙ named-back g
+
 -- ---- files
 
 -- the parts of a file, one behind the other
-nested : (queries rounds : ℕ) (left right body : List ℕ) (nodes : List (List ℕ))
-    → file_bytes queries rounds left right body nodes ≡ head ++ (queries ∷ rounds ∷ (left ++ (right ++ (body ++ flat nodes))))
-nested queries rounds left right body nodes =
-    append_assoc (head ++ (queries ∷ rounds ∷ []) ++ left ++ right) body (flat nodes)
-    ∙ append_assoc (head ++ (queries ∷ rounds ∷ []) ++ left) right (body ++ flat nodes)
-    ∙ append_assoc (head ++ (queries ∷ rounds ∷ [])) left (right ++ (body ++ flat nodes))
-    ∙ append_assoc head (queries ∷ rounds ∷ []) (left ++ (right ++ (body ++ flat nodes)))
+nested : (field : TableField) (queries rounds : ℕ) (left right body : List ℕ) (nodes : List (List ℕ))
+    → file_bytes field queries rounds left right body nodes ≡ head field ++ (queries ∷ rounds ∷ (left ++ (right ++ (body ++ flat nodes))))
+nested field queries rounds left right body nodes =
+    append_assoc (head field ++ (queries ∷ rounds ∷ []) ++ left ++ right) body (flat nodes)
+    ∙ append_assoc (head field ++ (queries ∷ rounds ∷ []) ++ left) right (body ++ flat nodes)
+    ∙ append_assoc (head field ++ (queries ∷ rounds ∷ [])) left (right ++ (body ++ flat nodes))
+    ∙ append_assoc (head field) (queries ∷ rounds ∷ []) (left ++ (right ++ (body ++ flat nodes)))
 
 -- a part, and what stands behind it
 split : (bytes : List ℕ) (from size : ℕ) → take size (drop from bytes) ++ drop (from + size) bytes ≡ drop from bytes
@@ -109,23 +132,23 @@ module _ (bytes : List ℕ) where
   nodes_of size = first_chunks 32 (length (drop (74 + size) bytes) / 32) (drop (74 + size) bytes)
 
   -- bytes of which enough are there, and which begin so, are the file of their parts
-  pub whole : (size : ℕ) → 74 + size ≤ length bytes → (length bytes - (74 + size)) % 64 ≡ 0 → take 8 bytes ≡ head
-      → bytes ≡ file_bytes queries_of rounds_of left_of right_of (body_of size) (nodes_of size)
-  whole size enough even same =
-      sym (nested queries_of rounds_of left_of right_of (body_of size) (nodes_of size)
-      ∙ ap (λ (l : List ℕ). head ++ (queries_of ∷ rounds_of ∷ (left_of ++ (right_of ++ (body_of size ++ l)))))
+  pub whole : (field : TableField) (size : ℕ) → 74 + size ≤ length bytes → (length bytes - (74 + size)) % 64 ≡ 0 → take 8 bytes ≡ head field
+      → bytes ≡ file_bytes field queries_of rounds_of left_of right_of (body_of size) (nodes_of size)
+  whole field size enough even same =
+      sym (nested field queries_of rounds_of left_of right_of (body_of size) (nodes_of size)
+      ∙ ap (λ (l : List ℕ). head field ++ (queries_of ∷ rounds_of ∷ (left_of ++ (right_of ++ (body_of size ++ l)))))
       (flat-chunks (length (drop (74 + size) bytes) / 32) (drop (74 + size) bytes) (let all = length-drop (74 + size) bytes in omega (arith, all, even, enough)))
-      ∙ ap (λ (l : List ℕ). head ++ (queries_of ∷ rounds_of ∷ (left_of ++ (right_of ++ l)))) (split bytes 74 size)
-      ∙ ap (λ (l : List ℕ). head ++ (queries_of ∷ rounds_of ∷ (left_of ++ l))) (split bytes 42 32)
-      ∙ ap (λ (l : List ℕ). head ++ (queries_of ∷ rounds_of ∷ l)) (split bytes 10 32)
-      ∙ ap (λ (l : List ℕ). head ++ (queries_of ∷ l)) (byte-at bytes 9 (omega (arith, enough)))
-      ∙ ap (λ (l : List ℕ). head ++ l) (byte-at bytes 8 (omega (arith, enough)))
+      ∙ ap (λ (l : List ℕ). head field ++ (queries_of ∷ rounds_of ∷ (left_of ++ (right_of ++ l)))) (split bytes 74 size)
+      ∙ ap (λ (l : List ℕ). head field ++ (queries_of ∷ rounds_of ∷ (left_of ++ l))) (split bytes 42 32)
+      ∙ ap (λ (l : List ℕ). head field ++ (queries_of ∷ rounds_of ∷ l)) (split bytes 10 32)
+      ∙ ap (λ (l : List ℕ). head field ++ (queries_of ∷ l)) (byte-at bytes 9 (omega (arith, enough)))
+      ∙ ap (λ (l : List ℕ). head field ++ l) (byte-at bytes 8 (omega (arith, enough)))
       ∙ ap (λ (h : List ℕ). h ++ drop 8 bytes) (sym same) ∙ take-append-drop 8 bytes)
 
-  module _ (queries rounds : ℕ) (left right body : List ℕ) (nodes : List (List ℕ)) (is : IsFile queries rounds left right body nodes)
-      (same : bytes ≡ file_bytes queries rounds left right body nodes) where
-    all : bytes ≡ head ++ (queries ∷ rounds ∷ (left ++ (right ++ (body ++ flat nodes))))
-    all = same ∙ nested queries rounds left right body nodes
+  module _ (field : TableField) (queries rounds : ℕ) (left right body : List ℕ) (nodes : List (List ℕ))
+      (is : IsFile queries rounds left right body nodes) (same : bytes ≡ file_bytes field queries rounds left right body nodes) where
+    all : bytes ≡ head field ++ (queries ∷ rounds ∷ (left ++ (right ++ (body ++ flat nodes))))
+    all = same ∙ nested field queries rounds left right body nodes
 
     behind_head : drop 10 bytes ≡ left ++ (right ++ (body ++ flat nodes))
     behind_head = ap (drop 10) all
@@ -144,6 +167,12 @@ module _ (bytes : List ℕ) where
     behind_body size long =
         sym (drop-drop size 74 bytes) ∙ ap (drop size) behind_right ∙ ap (λ (n : ℕ). drop n (body ++ flat nodes)) long
         ∙ drop-append_seam body (flat nodes)
+
+    pub file_letter : slice_index bytes 6 ≡ field_letter field
+    file_letter = ap (λ (l : List ℕ). slice_index l 6) all
+
+    pub file_head : take 8 bytes ≡ head field
+    file_head = ap (take 8) all
 
     pub file_queries : queries_of ≡ queries
     file_queries = ap (λ (l : List ℕ). slice_index l 8) all
@@ -180,6 +209,24 @@ module _ (bytes : List ℕ) where
         let one = length-append left (right ++ (body ++ flat nodes)) in
         ap length all ∙ omega (arith, last, one, two, three, is.left_size, is.right_size)
 
+-- bytes are the file of one list of parts
+pub one-file : (bytes : List ℕ) (field : TableField) (queries rounds : ℕ) (left right body : List ℕ) (nodes : List (List ℕ))
+    → IsFile queries rounds left right body nodes → bytes ≡ file_bytes field queries rounds left right body nodes
+    → (f : TableField) (m n : ℕ) (l r b : List ℕ) (ns : List (List ℕ)) → IsFile m n l r b ns → bytes ≡ file_bytes f m n l r b ns
+    → (field ≡ f) × (queries ≡ m) × (rounds ≡ n) × (left ≡ l) × (right ≡ r) × (body ≡ b) × (nodes ≡ ns)
+one-file bytes field queries rounds left right body nodes one written f m n l r b ns other same =
+    let opened : queries ≡ m = sym (file_queries bytes field queries rounds left right body nodes one written) ∙ file_queries bytes f m n l r b ns other same in
+    let number : rounds ≡ n = sym (file_rounds bytes field queries rounds left right body nodes one written) ∙ file_rounds bytes f m n l r b ns other same in
+    let long : length body ≡ length b = one.body_size ∙ ap₂ (λ (u v : ℕ). element_count u v * 16) opened number ∙ sym other.body_size in (
+      same-field field f (sym (file_letter bytes field queries rounds left right body nodes one written) ∙ file_letter bytes f m n l r b ns other same),
+      opened,
+      number,
+      sym (file_left bytes field queries rounds left right body nodes one written) ∙ file_left bytes f m n l r b ns other same,
+      sym (file_right bytes field queries rounds left right body nodes one written) ∙ file_right bytes f m n l r b ns other same,
+      sym (file_body bytes field queries rounds left right body nodes one written (length body) refl) ∙ file_body bytes f m n l r b ns other same (length body) long,
+      sym (file_nodes bytes field queries rounds left right body nodes one written (length body) refl) ∙ file_nodes bytes f m n l r b ns other same (length body) long,
+    )
+
 -- elements of 16 bytes
 pub length-joined : {F : Type 0} (repr : F → ℕ) (elements : List F) → length (joined_bytes 16 repr elements) ≡ length elements * 16
 length-joined repr [] = refl
@@ -191,12 +238,12 @@ length-joined repr (x ∷ xs) =
 
 -- ---- what is read
 
-module _ (bytes : List ℕ) (queries rounds : ℕ) (left right body : List ℕ) (nodes : List (List ℕ)) (size : ℕ)
+module _ (bytes : List ℕ) (field : TableField) (queries rounds : ℕ) (left right body : List ℕ) (nodes : List (List ℕ)) (size : ℕ)
     (queries_are : queries ≡ queries_of bytes) (rounds_are : rounds ≡ rounds_of bytes)
     (left_is : left ≡ left_of bytes) (right_is : right ≡ right_of bytes) (body_is : body ≡ body_of bytes size)
     (nodes_are : nodes ≡ nodes_of bytes size) (fits : size ≡ element_count queries rounds * 16) (some_queries : 7 ≤ queries) (few_queries : queries ≤ 8)
     (few : rounds ≤ 39) (enough : 74 + size ≤ length bytes)
-    (even : (length bytes - (74 + size)) % 64 ≡ 0) (begins : take 8 bytes ≡ head) where
+    (even : (length bytes - (74 + size)) % 64 ≡ 0) (begins : take 8 bytes ≡ head field) where
   -- a file
   read-file : IsFile queries rounds left right body nodes
   read-file = record {
@@ -215,32 +262,21 @@ module _ (bytes : List ℕ) (queries rounds : ℕ) (left right body : List ℕ) 
         omega (arith, all, count, even);
   }
 
-  read-whole : bytes ≡ file_bytes queries rounds left right body nodes
+  read-whole : bytes ≡ file_bytes field queries rounds left right body nodes
   read-whole =
-      whole bytes size enough even begins
-      ∙ ap₂ (λ (m n : ℕ). file_bytes m n (left_of bytes) (right_of bytes) (body_of bytes size) (nodes_of bytes size)) (sym queries_are)
+      whole bytes field size enough even begins
+      ∙ ap₂ (λ (m n : ℕ). file_bytes field m n (left_of bytes) (right_of bytes) (body_of bytes size) (nodes_of bytes size)) (sym queries_are)
       (sym rounds_are)
-      ∙ ap (λ (l : List ℕ). file_bytes queries rounds l (right_of bytes) (body_of bytes size) (nodes_of bytes size)) (sym left_is)
-      ∙ ap₂ (λ (r b : List ℕ). file_bytes queries rounds left r b (nodes_of bytes size)) (sym right_is) (sym body_is)
-      ∙ ap (file_bytes queries rounds left right body) (sym nodes_are)
+      ∙ ap (λ (l : List ℕ). file_bytes field queries rounds l (right_of bytes) (body_of bytes size) (nodes_of bytes size)) (sym left_is)
+      ∙ ap₂ (λ (r b : List ℕ). file_bytes field queries rounds left r b (nodes_of bytes size)) (sym right_is) (sym body_is)
+      ∙ ap (file_bytes field queries rounds left right body) (sym nodes_are)
 
-  -- and the only one
-  read-same : (m n : ℕ) (l r b : List ℕ) (ns : List (List ℕ)) → IsFile m n l r b ns → bytes ≡ file_bytes m n l r b ns
-      → (queries ≡ m) × (rounds ≡ n) × (left ≡ l) × (right ≡ r) × (body ≡ b) × (nodes ≡ ns)
-  read-same m n l r b ns is same =
-      let opened : queries ≡ m = queries_are ∙ file_queries bytes m n l r b ns is same in
-      let number : rounds ≡ n = rounds_are ∙ file_rounds bytes m n l r b ns is same in
-      let long : size ≡ length b = fits ∙ ap₂ (λ (u v : ℕ). element_count u v * 16) opened number ∙ sym is.body_size in (
-        opened,
-        number,
-        left_is ∙ file_left bytes m n l r b ns is same,
-        right_is ∙ file_right bytes m n l r b ns is same,
-        body_is ∙ file_body bytes m n l r b ns is same size long,
-        nodes_are ∙ file_nodes bytes m n l r b ns is same size long,
-      )
-
-  pub reads : IsCutTo bytes queries rounds left right body nodes
-  reads = record { may_be = read-file; written = read-whole; only = read-same }
+  pub reads : IsCutTo bytes field queries rounds left right body nodes
+  reads = record {
+    may_be = read-file;
+    written = read-whole;
+    only = λ f m n l r b ns is same. one-file bytes field queries rounds left right body nodes read-file read-whole f m n l r b ns is same;
+  }
 
 -- sixteen of each
 pub sixteen : (a b : ℕ) → a ≡ b → 16 * a ≡ b * 16

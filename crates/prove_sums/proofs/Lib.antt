@@ -1,3 +1,4 @@
+mod CommittedRoots
 mod Completeness
 mod Exits
 mod Files
@@ -10,4 +11,6 @@ mod Soundness
 mod SoundnessErrors
 mod StateRuns
 mod SumSteps
+mod TableWords
 mod TwoTables
+mod WrittenProofs

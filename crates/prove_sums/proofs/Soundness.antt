@@ -297,7 +297,7 @@ files_show_sums {F} {H} digest repr points hold luck hasher digests m n e left r
     proof held = record {
       elements = held.elements;
       nodes = held.nodes;
-      old = (hasher, file_bytes m n left right [] [], []);
+      old = (hasher, file_bytes held.field m n left right [] [], []);
       count = enough (length held.elements) (element_count m n) (sym (length-proof 16 repr held.elements) ∙ held.file.may_be.body_size);
       digests = held.file.may_be.node_size;
       verdict = held.verdict;

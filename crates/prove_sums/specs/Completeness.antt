@@ -1,10 +1,12 @@
--- Completeness of proofs of sums of products of two tables: what an honest prover sends is accepted.
+-- Completeness of proofs of sums of products of two tables: what an honest prover sends is accepted, and what the program writes.
 use Rattle.std.specs.Prelude.{◌≡◌, ℕ, ◌≤◌, Bool, true, List}
 use Rattle.std.specs.declared.alloc.Global.{Global}
 use Rattle.merkle_trees.specs.Commitments.{root_of}
 use Rattle.merkle_trees.specs.declared.merkle_tree.MerkleTree.{MerkleTree}
 use Rattle.protocols.specs.CommitmentScheme.{HoldsColumns}
-use Rattle.prove_sums.specs.Verdicts.{IsHonestProof, VerifiesSum}
+use Rattle.prove_sums.specs.Reports.{IsProveReport, IsVerifyReport, NamesRoot}
+use Rattle.prove_sums.specs.Verdicts.{IsHonestProof, IsWordCommitment, VerifiesSum}
+use Rattle.prove_sums.specs.declared.tables.TableField.{TableField}
 
 -- Of two tables that are committed to, whatever the hash function is: on the proof that an honest prover makes in one transcript, each
 -- verdict for both roots is true that begins in the same state.
@@ -21,3 +23,15 @@ HonestSumsAreAccepted {C} {S} {F} state observes gives passing checks gives_bits
     → VerifiesSum observes gives passing checks gives_bits number repr hash size width times vector m n (root_of left_tree) (root_of right_tree)
     elements nodes verifier accepted
     → accepted ≡ true
+
+-- ---- of files
+
+-- What `prove` writes for the bytes of two tables is accepted by `verify`, for the digits of the roots that commit to them, the same field and
+-- the same bits: it then prints what `prove` printed, the sum, and ends with the status 0.
+abbrev pub WrittenProofsAreAccepted : {H : Type 0} → (H → List ℕ → List ℕ) → Type 0
+WrittenProofsAreAccepted {H} digest =
+    (hasher : H) (bits : ℕ) (field : TableField) (left right left_root right_root left_digits right_digits proof line said : List ℕ)
+    (status code : ℕ) → IsWordCommitment (digest hasher) bits field left left_root → IsWordCommitment (digest hasher) bits field right right_root
+    → NamesRoot left_digits left_root → NamesRoot right_digits right_root → IsProveReport digest hasher bits field left right proof line status
+    → IsVerifyReport digest hasher bits field left_digits right_digits proof said code
+    → (said ≡ line) × (code ≡ 0)

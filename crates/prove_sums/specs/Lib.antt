@@ -5,4 +5,5 @@ pub mod Reports
 pub mod Shapes
 pub mod Soundness
 pub mod SoundnessErrors
+pub mod Tables
 pub mod Verdicts

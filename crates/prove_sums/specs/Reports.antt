@@ -11,12 +11,14 @@ use Rattle.prove_sums.specs.Bits.{AreMostBits}
 use Rattle.prove_sums.specs.ProofFiles.{IsFileOf, IsNoWordFile, IsReadRefusal, number_in}
 use Rattle.prove_sums.specs.Shapes.{sum_in}
 use Rattle.prove_sums.specs.SoundnessErrors.{AreSoundBits}
+use Rattle.prove_sums.specs.Tables.{field_name}
 use Rattle.prove_sums.specs.Verdicts.{IsWordAnswer, IsWordCommitment, IsWordProof}
 use Rattle.prove_sums.specs.declared.reports.NoAnswer.{NoAnswer}
 use Rattle.prove_sums.specs.declared.reports.NoAnswer.TheVariants.{LeftRoot, Memory, RightRoot}
 use Rattle.prove_sums.specs.declared.refusal.Refusal.{Refusal}
 use Rattle.prove_sums.specs.declared.refusal.Refusal.TheVariants.{NotAProof, OtherVersion, OtherField, Length, OtherParameters, TooFewBits, OtherLeft, OtherRight, NotProved}
 use Rattle.prove_sums.specs.declared.tables.Table.{Table}
+use Rattle.prove_sums.specs.declared.tables.TableField.{TableField}
 
 -- ---- lines
 
@@ -51,11 +53,11 @@ refusal_line refusal = codes "refused: " ++ (refusal_text refusal ++ codes "\n")
 
 -- ---- `info`
 
--- what is printed of a proof for tables of 2 ^ n words: the digits of its roots and of its sum ..
-abbrev pub claim_text : ℕ → List ℕ → List ℕ → List ℕ → List ℕ
-claim_text n left right sum =
-    codes "words 2^" ++ (decimal n ++ (codes "\nleft root " ++ (left ++ (codes "\nright root " ++ (right
-    ++ (codes "\nsum " ++ (sum ++ codes "\n")))))))
+-- what is printed of a proof for tables of 2 ^ n words of a field: this name, the digits of its roots and of its sum ..
+abbrev pub claim_text : List ℕ → ℕ → List ℕ → List ℕ → List ℕ → List ℕ
+claim_text name n left right sum =
+    codes "field " ++ (name ++ (codes "\nwords 2^" ++ (decimal n ++ (codes "\nleft root " ++ (left ++ (codes "\nright root " ++ (right
+    ++ (codes "\nsum " ++ (sum ++ codes "\n")))))))))
 
 -- .. and behind these its size, the rows of the matrix, how many columns of how many are opened, the bits of soundness, and those of the
 -- work
@@ -66,15 +68,16 @@ security_text size rows count depth bits =
     ++ codes " bits, and 16 of work\nassumed SHA-256 draws as if at random, and has no collisions\n")))))))))
 
 -- .. both, one behind the other
-abbrev pub info_text : ℕ → List ℕ → List ℕ → List ℕ → ℕ → ℕ → ℕ → ℕ → ℕ → List ℕ
-info_text n left right sum size rows count depth bits = claim_text n left right sum ++ security_text size rows count depth bits
+abbrev pub info_text : TableField → ℕ → List ℕ → List ℕ → List ℕ → ℕ → ℕ → ℕ → ℕ → ℕ → List ℕ
+info_text field n left right sum size rows count depth bits =
+    claim_text (field_name field) n left right sum ++ security_text size rows count depth bits
 
 -- what is printed for the bytes of a file that is a proof, whether it is accepted or not, with the bits of soundness of such proofs
 abbrev pub SaysInfo : {F : Type 0} → (F → ℕ) → List ℕ → List ℕ → Type 0
 SaysInfo {F} repr bytes line =
-    (m n : ℕ) × (left right : List ℕ) × (elements : List F) × (nodes : List (List ℕ)) × (bits : ℕ)
-    × IsFileOf repr bytes m n left right elements nodes × AreMostBits m n bits × AreSoundBits m n bits
-    × (line ≡ info_text n (encode_lower left) (encode_lower right) (highest_first (sum_in repr elements)) (length bytes) (matrix_rows m n)
+    (field : TableField) × (m n : ℕ) × (left right : List ℕ) × (elements : List F) × (nodes : List (List ℕ)) × (bits : ℕ)
+    × IsFileOf repr bytes field m n left right elements nodes × AreMostBits m n bits × AreSoundBits m n bits
+    × (line ≡ info_text field n (encode_lower left) (encode_lower right) (highest_first (sum_in repr elements)) (length bytes) (matrix_rows m n)
     (place_count m n) (word_levels m n) bits)
 
 -- .. and for those of any file: that, with the status 0, or why it is no proof, with 1
@@ -86,13 +89,14 @@ IsInfoReport bytes line status =
 -- ---- `commit` and `prove`
 
 -- what is printed for the bytes of a table: the root that commits to it, with the sizes for so many bits
-abbrev pub IsCommitReport : (List ℕ → List ℕ) → ℕ → List ℕ → List ℕ → ℕ → Type 0
-IsCommitReport hash bits bytes line status = (status ≡ 0) × ((root : List ℕ) × IsWordCommitment hash bits bytes root × (line ≡ root_line root))
+abbrev pub IsCommitReport : (List ℕ → List ℕ) → ℕ → TableField → List ℕ → List ℕ → ℕ → Type 0
+IsCommitReport hash bits field bytes line status =
+    (status ≡ 0) × ((root : List ℕ) × IsWordCommitment hash bits field bytes root × (line ≡ root_line root))
 
 -- what is written, and printed, for the bytes of two tables: a proof, and the sum of the products
-pub record IsProveReport {H : Type 0} (digest : H → List ℕ → List ℕ) (hasher : H) (bits : ℕ) (left right proof line : List ℕ) (status : ℕ)
-    : Type 0 where
-  pub is : IsWordProof digest hasher bits left right proof
+pub record IsProveReport {H : Type 0} (digest : H → List ℕ → List ℕ) (hasher : H) (bits : ℕ) (field : TableField)
+    (left right proof line : List ℕ) (status : ℕ) : Type 0 where
+  pub is : IsWordProof digest hasher bits field left right proof
   pub said : line ≡ sum_line (sum_in (number_in (λ (table : Table). table.elements.items) repr_of) is.elements) (length proof)
   pub succeeds : status ≡ 0
 
@@ -102,24 +106,24 @@ pub record IsProveReport {H : Type 0} (digest : H → List ℕ → List ℕ) (ha
 abbrev pub NamesRoot : List ℕ → List ℕ → Type 0
 NamesRoot digits root = decode_sized digits 32 ≡ Ok root
 
--- what is printed of a proof for the tables with these roots that is not refused: its sum; and else why it is refused
-abbrev pub SaysAnswer : {F : Type 0} → (F → ℕ) → List ℕ → List ℕ → List ℕ → Option Refusal → List ℕ → ℕ → Type 0
-SaysAnswer {F} repr left right bytes None line status =
-    (status ≡ 0) × ((m n : ℕ) × (elements : List F) × (nodes : List (List ℕ)) × IsFileOf repr bytes m n left right elements nodes
+-- what is printed of a proof for the tables of words of a field with these roots that is not refused: its sum; and else why it is refused
+abbrev pub SaysAnswer : {F : Type 0} → (F → ℕ) → TableField → List ℕ → List ℕ → List ℕ → Option Refusal → List ℕ → ℕ → Type 0
+SaysAnswer {F} repr field left right bytes None line status =
+    (status ≡ 0) × ((m n : ℕ) × (elements : List F) × (nodes : List (List ℕ)) × IsFileOf repr bytes field m n left right elements nodes
     × (line ≡ sum_line (sum_in repr elements) (length bytes)))
-SaysAnswer repr left right bytes (Some refusal) line status = (status ≡ 1) × (line ≡ refusal_line refusal)
+SaysAnswer repr field left right bytes (Some refusal) line status = (status ≡ 1) × (line ≡ refusal_line refusal)
 
--- what is printed for the bytes of a file and the digits of two roots: what is answered on a proof for the tables with these roots, with
--- the sizes for so many bits
-pub record IsVerifyReport {H : Type 0} (digest : H → List ℕ → List ℕ) (hasher : H) (bits : ℕ) (left right bytes line : List ℕ) (status : ℕ)
-    : Type 0 where
+-- what is printed for the bytes of a file and the digits of two roots: what is answered on a proof for the tables of words of a field with
+-- these roots, with the sizes for so many bits
+pub record IsVerifyReport {H : Type 0} (digest : H → List ℕ → List ℕ) (hasher : H) (bits : ℕ) (field : TableField)
+    (left right bytes line : List ℕ) (status : ℕ) : Type 0 where
   pub left_root : List ℕ
   pub right_root : List ℕ
   pub refusal : Option Refusal
   pub left_named : NamesRoot left left_root
   pub right_named : NamesRoot right right_root
-  pub answered : IsWordAnswer digest hasher bits left_root right_root bytes refusal
-  pub said : SaysAnswer (number_in (λ (table : Table). table.elements.items) repr_of) left_root right_root bytes refusal line status
+  pub answered : IsWordAnswer digest hasher bits field left_root right_root bytes refusal
+  pub said : SaysAnswer (number_in (λ (table : Table). table.elements.items) repr_of) field left_root right_root bytes refusal line status
 
 -- why there is none: digits that are no root, on the left, or on the right where the left ones are one; or memory was refused
 abbrev pub HasNoAnswer : List ℕ → List ℕ → NoAnswer → Type 0

@@ -13,6 +13,7 @@ use Rattle.protocols.specs.OpenedTables.{AreColumnsOf, AreLuckyPlaces, CommitsTo
 use Rattle.protocols.specs.RootColumns.{HasSent, HaveOtherColumns, SentColumns}
 use Rattle.protocols.specs.Tables.{AgreesAt}
 use Rattle.prove_sums.specs.declared.tables.Table.{Table}
+use Rattle.prove_sums.specs.declared.tables.TableField.{TableField}
 use Rattle.prove_sums.specs.ProofFiles.{IsFileOf, file_bytes, number_in}
 use Rattle.prove_sums.specs.Shapes.{columns_in, element_count, messages_in, nodes_in, row_in, sum_in}
 use Rattle.prove_sums.specs.SoundnessErrors.{IsAcceptedRun, sends_always}
@@ -53,12 +54,14 @@ SumsNeedLuck =
 
 -- ---- of proofs
 
--- what is asked of a field, of elements of `size` bytes: it has Cantor vectors, at whose sums code words have their values
+-- what is asked of a field, of elements of `size` bytes: it has Cantor vectors, at whose sums code words have their values, and an element is
+-- the one of its number
 pub record HasPoints {F : Type 0} (repr : F → ℕ) (size width : ℕ) (times : ℕ → ℕ → ℕ) (vector : ℕ → ℕ) : Type 0 where
   pub field : IsField width times
   pub vectors : AreCantorVectors width times vector
   pub fit : (b : ℕ) → b < width → vector b < 2 ^ width
   pub range : (x : F) → repr x < 2 ^ width
+  pub same : (x y : F) → repr x ≡ repr y → x ≡ y
   pub room : width ≤ 8 * size
 
 -- a proof for two roots that is accepted, from some state of a transcript
@@ -129,14 +132,15 @@ SumsAreProved observes gives passing checks gives_bits number repr size width ti
 
 -- ---- of files
 
--- a file of a proof for the tables with these roots, of 2 ^ n words, of which 2 ^ m places are opened, which is accepted
+-- a file of a proof for the tables with these roots, of 2 ^ n words of some field, of which 2 ^ m places are opened, which is accepted
 pub record AcceptedFile {F H : Type 0} (digest : H → List ℕ → List ℕ) (hasher : H) (repr : F → ℕ) (m n : ℕ) (left right : List ℕ)
     : Type 0 where
   pub bytes : List ℕ
+  pub field : TableField
   pub elements : List F
   pub nodes : List (List ℕ)
-  pub file : IsFileOf repr bytes m n left right elements nodes
-  pub verdict : IsSumVerdict digest hasher repr (file_bytes m n left right [] []) m n left right elements nodes true
+  pub file : IsFileOf repr bytes field m n left right elements nodes
+  pub verdict : IsSumVerdict digest hasher repr (file_bytes field m n left right [] []) m n left right elements nodes true
 
 -- The same of files that the program accepts for the same roots, by a hasher whose digests have 32 bytes.
 abbrev pub FilesShowSums : {F H : Type 0} → (H → List ℕ → List ℕ) → (F → ℕ) → Type 0

@@ -1,6 +1,6 @@
 -- What is proved of two tables, and what a verifier says of a proof, over elements and bytes alone. Elements have numbers by `repr`, the sum is
 -- `bit_xor` and the product `times`. `hash` and `digest` are hash functions.
-use Rattle.std.specs.Prelude.{◌≡◌, ◌≢◌, ◌↔◌, ℕ, zero, suc, ◌*◌, ◌^◌, ◌<◌, ◌≤◌, Bool, true, false, List, [], ◌∷◌, ◌++◌, length, map, take, drop, Err, IsTrue, Ok, Result}
+use Rattle.std.specs.Prelude.{◌≡◌, ◌≢◌, ◌⊎◌, ◌↔◌, ℕ, zero, suc, ◌*◌, ◌^◌, ◌<◌, ◌≤◌, Bool, true, false, List, [], ◌∷◌, ◌++◌, length, map, take, drop, Err, IsTrue, Ok, Result}
 use Rattle.std.specs.List.{range_with_len}
 use Rattle.std.specs.declared.alloc.Global.{Global}
 use Rattle.std.specs.declared.option.Option.{Option}
@@ -25,7 +25,9 @@ use Rattle.sum_checks.specs.Terms.{Product, cube_sum}
 use Rattle.field_element.specs.Element.{repr_of}
 use Rattle.prove_sums.specs.Bits.{AreFor, NoneIsFor}
 use Rattle.prove_sums.specs.ProofFiles.{IsFileOf, IsNoFile, file_bytes, number_in}
+use Rattle.prove_sums.specs.Tables.{IsTable}
 use Rattle.prove_sums.specs.declared.tables.Table.{Table}
+use Rattle.prove_sums.specs.declared.tables.TableField.{TableField}
 use Rattle.prove_sums.specs.Shapes.{columns_in, messages_in, nodes_in, row_in, row_size, rows_in, sum_in, witness_in}
 use Rattle.prove_sums.specs.declared.refusal.Refusal.{Refusal}
 use Rattle.prove_sums.specs.declared.refusal.Refusal.TheVariants.{NotAProof, OtherVersion, OtherField, Length, OtherParameters, TooFewBits, OtherLeft, OtherRight, NotProved}
@@ -204,12 +206,6 @@ IsHonestSum digest hasher repr front m n left right left_columns right_columns l
 
 -- ---- tables
 
--- bytes are a table of 2 ^ n words of 16 bytes
-pub record IsTable {F : Type 0} (repr : F → ℕ) (bytes : List ℕ) (n : ℕ) (elements : List F) : Type 0 where
-  pub few : n ≤ 39
-  pub count : length elements ≡ 2 ^ n
-  pub written : bytes ≡ joined_bytes 16 repr elements
-
 -- the root that commits to a table: that of the tree over the columns of its extension
 pub record IsTableRoot {F : Type 0} (hash : List ℕ → List ℕ) (repr : F → ℕ) (m n : ℕ) (elements columns : List F) (root : List ℕ) : Type 0 where
   pub extended : AreExtendedColumns repr 128 word_times word_vector (row_levels m n) 2 (2 ^ matrix_rows m n) (map repr elements) columns
@@ -219,25 +215,27 @@ pub record IsTableRoot {F : Type 0} (hash : List ℕ → List ℕ) (repr : F →
 pub record IsTableTree {F A : Type 0} (hash : List ℕ → List ℕ) (repr : F → ℕ) (m n : ℕ) (columns : List F) (root : List ℕ)
     (tree : MerkleTree A) : Type 0 where
   pub over : IsTreeOver hash (λ p. joined_bytes 16 repr (row_at (2 ^ matrix_rows m n) columns p)) tree
+  pub depth : tree.depth ≡ word_levels m n
   pub top : root ≡ root_of tree
 
--- the root that commits to the bytes of a table, with the sizes for so many bits
-pub record IsCommitment {F : Type 0} (hash : List ℕ → List ℕ) (repr : F → ℕ) (bits : ℕ) (bytes root : List ℕ) : Type 0 where
+-- the root that commits to the bytes of a table of a field, with the sizes for so many bits
+pub record IsCommitment {F : Type 0} (hash : List ℕ → List ℕ) (repr : F → ℕ) (bits : ℕ) (field : TableField) (bytes root : List ℕ)
+    : Type 0 where
   pub queries : ℕ
   pub rounds : ℕ
   pub elements : List F
   pub columns : List F
   pub sized : AreFor bits queries rounds
-  pub table : IsTable repr bytes rounds elements
+  pub table : IsTable field repr bytes rounds elements
   pub commits : IsTableRoot hash repr queries rounds elements columns root
 
 -- ---- files
 
--- a file of a proof for these roots, with the sizes for so many bits, and this verdict on it
-abbrev pub HasVerdict : {F H : Type 0} → (H → List ℕ → List ℕ) → H → (F → ℕ) → ℕ → List ℕ → List ℕ → List ℕ → Bool → Type 0
-HasVerdict {F} digest hasher repr bits left right bytes accepted =
-    (m n : ℕ) × (elements : List F) × (nodes : List (List ℕ)) × AreFor bits m n × IsFileOf repr bytes m n left right elements nodes
-    × IsSumVerdict digest hasher repr (file_bytes m n left right [] []) m n left right elements nodes accepted
+-- a file of a proof for tables of words of a field with these roots, with the sizes for so many bits, and this verdict on it
+abbrev pub HasVerdict : {F H : Type 0} → (H → List ℕ → List ℕ) → H → (F → ℕ) → ℕ → TableField → List ℕ → List ℕ → List ℕ → Bool → Type 0
+HasVerdict {F} digest hasher repr bits field left right bytes accepted =
+    (m n : ℕ) × (elements : List F) × (nodes : List (List ℕ)) × AreFor bits m n × IsFileOf repr bytes field m n left right elements nodes
+    × IsSumVerdict digest hasher repr (file_bytes field m n left right [] []) m n left right elements nodes accepted
 
 -- why a proof is refused, if it is
 abbrev pub refusal_in : {T : Type 0} → Result T Refusal → Option Refusal
@@ -256,32 +254,37 @@ IsSizeRefusal bits m n OtherLeft = ⊥
 IsSizeRefusal bits m n OtherRight = ⊥
 IsSizeRefusal bits m n NotProved = ⊥
 
--- What is answered on a file of a proof for the tables with these roots, with the sizes for so many bits: nothing, and it is accepted, if
--- it has these sizes and roots, and the verdict on what it holds is true; else what is wrong.
-abbrev pub IsAnswerTo : {F H : Type 0} → (H → List ℕ → List ℕ) → H → (F → ℕ) → ℕ → List ℕ → List ℕ → List ℕ → Option Refusal → Type 0
-IsAnswerTo digest hasher repr bits left right bytes None = HasVerdict digest hasher repr bits left right bytes true
-IsAnswerTo digest hasher repr bits left right bytes (Some NotProved) = HasVerdict digest hasher repr bits left right bytes false
-IsAnswerTo {F} digest hasher repr bits left right bytes (Some OtherLeft) =
-    (m n : ℕ) × (one other : List ℕ) × (elements : List F) × (nodes : List (List ℕ)) × IsFileOf repr bytes m n one other elements nodes
+-- What is answered on a file of a proof for the tables of words of a field with these roots, with the sizes for so many bits: nothing, and it
+-- is accepted, if it names this field, has these sizes and roots, and the verdict on what it holds is true; else what is wrong.
+abbrev pub IsAnswerTo : {F H : Type 0} → (H → List ℕ → List ℕ) → H → (F → ℕ) → ℕ → TableField → List ℕ → List ℕ → List ℕ
+    → Option Refusal → Type 0
+IsAnswerTo digest hasher repr bits field left right bytes None = HasVerdict digest hasher repr bits field left right bytes true
+IsAnswerTo digest hasher repr bits field left right bytes (Some NotProved) = HasVerdict digest hasher repr bits field left right bytes false
+IsAnswerTo {F} digest hasher repr bits field left right bytes (Some OtherLeft) =
+    (m n : ℕ) × (one other : List ℕ) × (elements : List F) × (nodes : List (List ℕ)) × IsFileOf repr bytes field m n one other elements nodes
     × (one ≢ left)
-IsAnswerTo {F} digest hasher repr bits left right bytes (Some OtherRight) =
-    (m n : ℕ) × (other : List ℕ) × (elements : List F) × (nodes : List (List ℕ)) × IsFileOf repr bytes m n left other elements nodes
+IsAnswerTo {F} digest hasher repr bits field left right bytes (Some OtherRight) =
+    (m n : ℕ) × (other : List ℕ) × (elements : List F) × (nodes : List (List ℕ)) × IsFileOf repr bytes field m n left other elements nodes
     × (other ≢ right)
-IsAnswerTo {F} digest hasher repr bits left right bytes (Some OtherParameters) =
-    (m n : ℕ) × (one other : List ℕ) × (elements : List F) × (nodes : List (List ℕ)) × IsFileOf repr bytes m n one other elements nodes
+IsAnswerTo {F} digest hasher repr bits field left right bytes (Some OtherParameters) =
+    (m n : ℕ) × (one other : List ℕ) × (elements : List F) × (nodes : List (List ℕ)) × IsFileOf repr bytes field m n one other elements nodes
     × IsSizeRefusal bits m n OtherParameters
-IsAnswerTo {F} digest hasher repr bits left right bytes (Some TooFewBits) =
-    (m n : ℕ) × (one other : List ℕ) × (elements : List F) × (nodes : List (List ℕ)) × IsFileOf repr bytes m n one other elements nodes
+IsAnswerTo {F} digest hasher repr bits field left right bytes (Some TooFewBits) =
+    (m n : ℕ) × (one other : List ℕ) × (elements : List F) × (nodes : List (List ℕ)) × IsFileOf repr bytes field m n one other elements nodes
     × IsSizeRefusal bits m n TooFewBits
-IsAnswerTo digest hasher repr bits left right bytes (Some Length) = IsNoFile repr bytes
-IsAnswerTo digest hasher repr bits left right bytes (Some NotAProof) = IsNoFile repr bytes
-IsAnswerTo digest hasher repr bits left right bytes (Some OtherVersion) = IsNoFile repr bytes
-IsAnswerTo digest hasher repr bits left right bytes (Some OtherField) = IsNoFile repr bytes
+IsAnswerTo digest hasher repr bits field left right bytes (Some Length) = IsNoFile repr bytes
+IsAnswerTo digest hasher repr bits field left right bytes (Some NotAProof) = IsNoFile repr bytes
+IsAnswerTo digest hasher repr bits field left right bytes (Some OtherVersion) = IsNoFile repr bytes
+IsAnswerTo {F} digest hasher repr bits field left right bytes (Some OtherField) =
+    IsNoFile repr bytes
+    ⊎ ((f : TableField) × (m n : ℕ) × (one other : List ℕ) × (elements : List F) × (nodes : List (List ℕ))
+    × IsFileOf repr bytes f m n one other elements nodes × (f ≢ field))
 
--- What the program writes for the bytes of two tables, with the sizes for so many bits: they have as many words, one as the other, and the file has the roots that commit to
--- them, and what an honest prover sends, with nodes of the trees that have these roots.
-pub record IsProgramProof {F H : Type 0} (digest : H → List ℕ → List ℕ) (hasher : H) (repr : F → ℕ) (bits : ℕ) (left right proof : List ℕ)
-    : Type 0 where
+-- What the program writes for the bytes of two tables of words of a field, with the sizes for so many bits: they have as many words, one as the
+-- other, and the file names the field, and has the roots that commit to them, and what an honest prover sends, with nodes of the trees that
+-- have these roots.
+pub record IsProgramProof {F H : Type 0} (digest : H → List ℕ → List ℕ) (hasher : H) (repr : F → ℕ) (bits : ℕ) (field : TableField)
+    (left right proof : List ℕ) : Type 0 where
   pub queries : ℕ
   pub rounds : ℕ
   pub one : List F
@@ -295,28 +298,29 @@ pub record IsProgramProof {F H : Type 0} (digest : H → List ℕ → List ℕ) 
   pub elements : List F
   pub nodes : List (List ℕ)
   pub sized : AreFor bits queries rounds
-  pub left_table : IsTable repr left rounds one
-  pub right_table : IsTable repr right rounds other
+  pub left_table : IsTable field repr left rounds one
+  pub right_table : IsTable field repr right rounds other
   pub left_root : IsTableRoot (digest hasher) repr queries rounds one one_columns one_root
   pub right_root : IsTableRoot (digest hasher) repr queries rounds other other_columns other_root
   pub left_tree : IsTableTree (digest hasher) repr queries rounds one_columns one_root one_tree
   pub right_tree : IsTableTree (digest hasher) repr queries rounds other_columns other_root other_tree
-  pub written : proof ≡ file_bytes queries rounds one_root other_root (joined_bytes 16 repr elements) nodes
-  pub honest : IsHonestSum digest hasher repr (file_bytes queries rounds one_root other_root [] []) queries rounds one other one_columns other_columns
+  pub file : IsFileOf repr proof field queries rounds one_root other_root elements nodes
+  pub honest : IsHonestSum digest hasher repr (file_bytes field queries rounds one_root other_root [] []) queries rounds one other one_columns other_columns
       one_tree other_tree elements nodes
 
 -- ---- the same of words
 
 -- what is answered on a file
-abbrev pub IsWordAnswer : {H : Type 0} → (H → List ℕ → List ℕ) → H → ℕ → List ℕ → List ℕ → List ℕ → Option Refusal → Type 0
-IsWordAnswer digest hasher bits left right bytes refusal =
-    IsAnswerTo digest hasher (number_in (λ (table : Table). table.elements.items) repr_of) bits left right bytes refusal
+abbrev pub IsWordAnswer : {H : Type 0} → (H → List ℕ → List ℕ) → H → ℕ → TableField → List ℕ → List ℕ → List ℕ → Option Refusal → Type 0
+IsWordAnswer digest hasher bits field left right bytes refusal =
+    IsAnswerTo digest hasher (number_in (λ (table : Table). table.elements.items) repr_of) bits field left right bytes refusal
 
 -- the root that commits to a table
-abbrev pub IsWordCommitment : (List ℕ → List ℕ) → ℕ → List ℕ → List ℕ → Type 0
-IsWordCommitment hash bits bytes root = IsCommitment hash (number_in (λ (table : Table). table.elements.items) repr_of) bits bytes root
+abbrev pub IsWordCommitment : (List ℕ → List ℕ) → ℕ → TableField → List ℕ → List ℕ → Type 0
+IsWordCommitment hash bits field bytes root =
+    IsCommitment hash (number_in (λ (table : Table). table.elements.items) repr_of) bits field bytes root
 
 -- what is written for two tables
-abbrev pub IsWordProof : {H : Type 0} → (H → List ℕ → List ℕ) → H → ℕ → List ℕ → List ℕ → List ℕ → Type 0
-IsWordProof digest hasher bits left right proof =
-    IsProgramProof digest hasher (number_in (λ (table : Table). table.elements.items) repr_of) bits left right proof
+abbrev pub IsWordProof : {H : Type 0} → (H → List ℕ → List ℕ) → H → ℕ → TableField → List ℕ → List ℕ → List ℕ → Type 0
+IsWordProof digest hasher bits field left right proof =
+    IsProgramProof digest hasher (number_in (λ (table : Table). table.elements.items) repr_of) bits field left right proof

@@ -2,8 +2,12 @@
 use crate::answers::answer_to;
 use crate::commands::{BITS, commit_bytes, prove_tables};
 use crate::proof_file::Roots;
+use crate::tables::TableField;
 use anyhow::Result;
 use transcripts::Sha256Hasher;
+
+// The field of the words.
+const FIELD: TableField = TableField::Ghash;
 
 // What the example changes, and at which byte of the proof.
 // The change turns the lowest bits of that byte.
@@ -36,6 +40,23 @@ fn say(rt: &HostRuntime, what: &str, roots: &Roots, proof: &[u8]) -> Result<()> 
     Ok(())
 }
 
+// Says what becomes of a proof that is taken for one of other tables.
+fn say_others(rt: &HostRuntime, roots: &Roots, proof: &[u8]) -> Result<()> {
+    let turned = &Roots {
+        field: roots.field,
+        left: roots.right,
+        right: roots.left,
+    };
+    let words = &Roots {
+        field: TableField::Tower128,
+        left: roots.left,
+        right: roots.right,
+    };
+    say(rt, "the proof for the tables in turn", turned, proof)?;
+    say(rt, "the proof for tables of other words", words, proof)?;
+    Ok(())
+}
+
 // Says what becomes of a proof in which one byte is changed.
 fn say_changed(
     rt: &HostRuntime,
@@ -59,19 +80,19 @@ pub(crate) fn print(rt: &HostRuntime) -> Result<()> {
         *b"Two tables of eight words, of 16 bytes each, whose products are added. This is the table on the left, and so on: 12345678901234567";
     let right = [7; 128];
     let left = &left[..128];
-    let mut written = prove_tables(rt.alloc(), &Sha256Hasher, BITS, left, &right)?;
+    let mut written = prove_tables(rt.alloc(), &Sha256Hasher, BITS, FIELD, left, &right)?;
     let proof = written.bytes.as_mut_slice();
-    let left = commit_bytes(rt.alloc(), &Sha256Hasher, BITS, left)?;
-    let right = commit_bytes(rt.alloc(), &Sha256Hasher, BITS, &right)?;
-    let roots = &Roots { left, right };
-    let turned = &Roots {
-        left: right,
-        right: left,
+    let left = commit_bytes(rt.alloc(), &Sha256Hasher, BITS, FIELD, left)?;
+    let right = commit_bytes(rt.alloc(), &Sha256Hasher, BITS, FIELD, &right)?;
+    let roots = &Roots {
+        field: FIELD,
+        left,
+        right,
     };
     let text = hex::encode(rt.alloc(), &proof[..])?;
     println!(rt; "{text}")?;
     say(rt, "the proof", roots, proof)?;
-    say(rt, "the proof for the tables in turn", turned, proof)?;
+    say_others(rt, roots, proof)?;
     'changes: for index in 0..CHANGES.len() {
         let (what, place, bits) = CHANGES[index];
         say_changed(rt, what, roots, proof, place, bits)?;

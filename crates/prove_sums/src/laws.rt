@@ -1,9 +1,10 @@
 // Soundness of sums of products of two tables, for every prover, and completeness, as contracts of functions that compute nothing.
-ghost use Rattle.prove_sums.specs.Completeness.{HonestSumsAreAccepted};
+ghost use Rattle.prove_sums.specs.Completeness.{HonestSumsAreAccepted, WrittenProofsAreAccepted};
 ghost use Rattle.prove_sums.specs.Soundness.{HasPoints, SumsAreProved, SumsNeedLuck, WordFilesShowSums};
 ghost use Rattle.prove_sums.specs.SoundnessErrors.{ErrorsAreSmall, FewCheatsSucceed};
 
 use field_element::Ghash128;
+use protocols::extension::parts_determine;
 use protocols::laws::{
     false_claims_need_luck, honest_reduces, opened_values_need_luck, roots_hold_columns,
 };
@@ -62,6 +63,17 @@ pub fn honest_sums_are_accepted<
     field_has_points::<F>();
     honest_reduces();
     openings_have_one_count();
+}
+
+/// States completeness of the program, over bytes and digits: what `prove` writes for two tables `verify` accepts, for the digits of the
+/// roots that `commit` prints of them, the same field and the same bits, and prints what `prove` printed.
+pub fn written_proofs_are_accepted<H: ByteHasher32>()
+    ensures { WrittenProofsAreAccepted H.digest }
+{
+    field_has_points::<Ghash128>();
+    honest_reduces();
+    openings_have_one_count();
+    parts_determine();
 }
 
 /// States the soundness error of the interactive protocol over every field, as a count: of all lists of challenges and places, at most the

@@ -1,13 +1,17 @@
-// The bytes of a proof: eight that name the format and the field, two that say how many places are opened and how many rounds there are,
-// the roots of the left and of the right table, 32 bytes each, the elements of 16 bytes each, from the lowest, and the nodes of 32 bytes each.
-ghost use Rattle.std.specs.Prelude.{◌≡◌, ◌≢◌, ℕ, List, vec_len, IfOk, IfErr};
+// The bytes of a proof: eight that name the format and the field of the words, two that say how many places are opened and how many rounds
+// there are, the roots of the left and of the right table, 32 bytes each, the elements of 16 bytes each, from the lowest, and the nodes of
+// 32 bytes each.
+ghost use Rattle.std.specs.Prelude.{◌≡◌, ◌≢◌, ◌<◌, ◌≤◌, ℕ, List, [], get_or, length, take, vec_len, IfOk, IfErr};
 ghost use Rattle.field_bytes.specs.Streams.{joined_bytes};
 ghost use Rattle.field_element.specs.Element.{repr_of};
-ghost use Rattle.prove_sums.specs.ProofFiles.{file_bytes, IsCutTo, IsFile, IsFileOf, IsNoWordFile, IsOnlyFileOf, IsReadRefusal};
+ghost use Rattle.prove_sums.specs.ProofFiles.{file_bytes, head, IsCutTo, IsFile, IsFileOf, IsNoWordFile, IsOnlyFileOf};
+ghost use Rattle.prove_sums.specs.ProofFiles.{IsReadRefusal};
 ghost use Rattle.prove_sums.specs.Shapes.{element_count};
+ghost use Rattle.prove_sums.specs.declared.tables.TableField.{TableField};
 
 use crate::refusal::Refusal;
 use crate::shapes::{Shape, part};
+use crate::tables::TableField;
 use field_base::traits::Field;
 use field_element::Ghash128;
 use protocols::proof_bytes;
@@ -16,12 +20,11 @@ use std::alloc::{AllocError, Global};
 /// How many bytes stand before the elements.
 const FRONT: usize = 74;
 
-/// What a proof begins with: the seventh byte names the field, which is that of GHASH.
-static HEAD: [u8; 8] = *b"sum 3 G\n";
-
-/// The roots that commit to two tables.
+/// The roots that commit to two tables of words of one field.
 #[derive(Clone, Copy)]
 pub struct Roots {
+    /// The field of the words.
+    pub field: TableField,
     /// The root of the left table.
     pub left: [u8; 32],
     /// The root of the right table.
@@ -71,13 +74,15 @@ pub fn encode(
     elements: &[Ghash128],
     nodes: &[[u8; 32]],
 ) -> Result<Vec<u8>, AllocError>
-    ensures { IfOk result (λ bytes. bytes.items
-        ≡ file_bytes shape.now.queries shape.now.rounds roots.now.left roots.now.right (joined_bytes 16 repr_of elements.now)
-        nodes.now) }
+    ensures bytes { IfOk result (λ bytes. bytes.items
+        ≡ file_bytes roots.now.field shape.now.queries shape.now.rounds roots.now.left roots.now.right
+        (joined_bytes 16 repr_of elements.now) nodes.now) }
+    ensures sized { IfOk result (λ _. (k : ℕ) → k < length nodes.now → length (get_or nodes.now k []) ≡ 32) }
 {
+    let head = head_of(roots.field);
     let body = proof_bytes::encode(alloc, elements)?;
     let mut bytes = Vec::new(alloc);
-    bytes.extend_from_slice(&HEAD)?;
+    bytes.extend_from_slice(&head)?;
     bytes.push(shape.queries as u8)?;
     bytes.push(shape.rounds as u8)?;
     bytes.extend_from_slice(&roots.left)?;
@@ -95,10 +100,10 @@ pub fn decode(
     alloc: Global,
     bytes: &[u8],
 ) -> Result<Result<Proof<'_, Ghash128>, Refusal>, AllocError>
-    ensures whole { IfOk result (λ read. IfOk read (λ proof. IsFileOf repr_of bytes.now proof.shape.queries proof.shape.rounds
-        proof.roots.left proof.roots.right proof.elements.items proof.nodes.now)) }
-    ensures own { IfOk result (λ read. IfOk read (λ proof. IsOnlyFileOf repr_of bytes.now proof.shape.queries proof.shape.rounds
-        proof.roots.left proof.roots.right proof.elements.items proof.nodes.now)) }
+    ensures whole { IfOk result (λ read. IfOk read (λ proof. IsFileOf repr_of bytes.now proof.roots.field proof.shape.queries
+        proof.shape.rounds proof.roots.left proof.roots.right proof.elements.items proof.nodes.now)) }
+    ensures own { IfOk result (λ read. IfOk read (λ proof. IsOnlyFileOf repr_of bytes.now proof.roots.field proof.shape.queries
+        proof.shape.rounds proof.roots.left proof.roots.right proof.elements.items proof.nodes.now)) }
     ensures refused { IfOk result (λ read. IfErr read (λ refusal. IsNoWordFile bytes.now × IsReadRefusal refusal)) }
 {
     let parts = match cut(bytes) {
@@ -118,20 +123,48 @@ pub fn decode(
     }))
 }
 
+// What a proof for tables of words of a field begins with: the seventh byte is the letter of the field.
+fn head_of(field: TableField) -> [u8; 8]
+    ensures { result ≡ head field }
+{
+    let mut head = *b"sum 3 G\n";
+    head[6] = field.letter();
+    head
+}
+
+// The field that is named by what a file begins with, or why there is none.
+fn field_of(bytes: &[u8]) -> Result<TableField, Refusal>
+    requires { 74 ≤ length bytes.now }
+    ensures named { IfOk result (λ field. take 8 bytes.now ≡ head field) }
+    ensures refused { IfErr result (λ _. (field : TableField) (queries rounds : ℕ) (left right body : List ℕ) (nodes : List (List ℕ))
+        → IsFile queries rounds left right body nodes → bytes.now ≢ file_bytes field queries rounds left right body nodes) }
+    ensures reason { IfErr result (λ refusal. IsReadRefusal refusal) }
+{
+    let Some(field) = TableField::with_letter(bytes[6]) else {
+        return Err(other_head(&bytes[..8]));
+    };
+    let head = head_of(field);
+    if bytes[..8] != head[..] {
+        return Err(other_head(&bytes[..8]));
+    }
+    Ok(field)
+}
+
 // The parts of a file.
 fn cut(bytes: &[u8]) -> Result<Parts<'_>, Refusal>
-    ensures file { IfOk result (λ parts. IsCutTo bytes.now parts.shape.queries parts.shape.rounds parts.roots.left parts.roots.right
-        parts.body.now parts.nodes.now) }
-    ensures refused { IfErr result (λ _. (queries rounds : ℕ) (left right body : List ℕ) (nodes : List (List ℕ))
-        → IsFile queries rounds left right body nodes → bytes.now ≢ file_bytes queries rounds left right body nodes) }
+    ensures file { IfOk result (λ parts. IsCutTo bytes.now parts.roots.field parts.shape.queries parts.shape.rounds parts.roots.left
+        parts.roots.right parts.body.now parts.nodes.now) }
+    ensures refused { IfErr result (λ _. (field : TableField) (queries rounds : ℕ) (left right body : List ℕ) (nodes : List (List ℕ))
+        → IsFile queries rounds left right body nodes → bytes.now ≢ file_bytes field queries rounds left right body nodes) }
     ensures reason { IfErr result (λ refusal. IsReadRefusal refusal) }
 {
     if bytes.len() < FRONT {
         return Err(Refusal::Length);
     }
-    if bytes[..8] != HEAD[..] {
-        return Err(other_head(&bytes[..8]));
-    }
+    let field = match field_of(bytes) {
+        Ok(field) => field,
+        Err(refusal) => return Err(refusal),
+    };
     let (queries, rounds) = (bytes[8] as usize, bytes[9] as usize);
     if queries < 7 || queries > 8 || rounds > 39 {
         return Err(Refusal::Length);
@@ -151,7 +184,7 @@ fn cut(bytes: &[u8]) -> Result<Parts<'_>, Refusal>
     let (nodes, _rest) = bytes[FRONT + size..].as_chunks::<32>();
     Ok(Parts {
         shape,
-        roots: Roots { left, right },
+        roots: Roots { field, left, right },
         body: part(bytes, FRONT, size),
         nodes,
     })

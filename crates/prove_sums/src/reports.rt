@@ -8,12 +8,14 @@ ghost use Rattle.protocols.specs.CommitmentScheme.{matrix_rows, place_count, wor
 ghost use Rattle.prove_sums.specs.Reports.{claim_text, highest_first, info_text, refusal_line, root_line, security_text, sum_line};
 ghost use Rattle.prove_sums.specs.Reports.{HasNoAnswer, IsInfoReport, IsVerifyReport};
 ghost use Rattle.prove_sums.specs.Shapes.{sum_in};
+ghost use Rattle.prove_sums.specs.Tables.{field_name};
 ghost use Rattle.prove_sums.specs.declared.reports.NoAnswer.TheVariants.{Memory};
 
 use crate::answers::answer_to;
 use crate::proof_file::{Proof, Roots, decode};
 use crate::refusal::Refusal;
 use crate::security::soundness_bits;
+use crate::tables::TableField;
 use field_element::Ghash128;
 use hex::{FromHex, FromHexError};
 use protocols::commitment_scheme::EXPANSION;
@@ -102,19 +104,20 @@ fn root_from(digits: &str) -> Result<[u8; 32], FromHexError>
     <[u8; 32] as FromHex>::from_hex(digits)
 }
 
-/// What `verify` prints for the bytes of a file and the digits of two roots, with the sizes for so many bits of soundness, up to 128. It
-/// fails with `LeftRoot` or `RightRoot` exactly if these digits are those of no root, the left ones first, and else only with `Memory`, if
-/// memory was refused.
+/// What `verify` prints for the bytes of a file and the digits of two roots of tables of words of a field, with the sizes for so many bits
+/// of soundness, up to 128. It fails with `LeftRoot` or `RightRoot` exactly if these digits are those of no root, the left ones first, and
+/// else only with `Memory`, if memory was refused.
 pub(crate) fn verify_report<H: ByteHasher32>(
     alloc: Global,
     hasher: &H,
     bits: usize,
+    field: TableField,
     bytes: &[u8],
     left: &str,
     right: &str,
 ) -> Result<Report, NoAnswer>
     requires { bits ≤ 128 }
-    ensures report { IfOk result (λ report. IsVerifyReport H.digest hasher.now bits left.now right.now bytes.now
+    ensures report { IfOk result (λ report. IsVerifyReport H.digest hasher.now bits field left.now right.now bytes.now
         (string_bytes report.line) report.status) }
     ensures error { IfErr result (λ error. HasNoAnswer left.now right.now error) }
 {
@@ -126,7 +129,7 @@ pub(crate) fn verify_report<H: ByteHasher32>(
         Ok(root) => root,
         Err(_) => return Err(NoAnswer::RightRoot),
     };
-    let roots = Roots { left, right };
+    let roots = Roots { field, left, right };
     let answer = match answer_to(alloc, hasher, bits, &roots, bytes) {
         Ok(answer) => answer,
         Err(_) => return Err(NoAnswer::Memory),
@@ -144,16 +147,17 @@ pub(crate) fn verify_report<H: ByteHasher32>(
 
 // What is printed of the tables and of the sum of a proof.
 fn claim_line(alloc: Global, proof: &Proof<'_, Ghash128>) -> Result<String, AllocError>
-    ensures { IfOk result (λ line. string_bytes line ≡ claim_text proof.now.shape.rounds (encode_lower proof.now.roots.left)
-        (encode_lower proof.now.roots.right) (highest_first (sum_in repr_of proof.now.elements.items))) }
+    ensures { IfOk result (λ line. string_bytes line ≡ claim_text (field_name proof.now.roots.field) proof.now.shape.rounds
+        (encode_lower proof.now.roots.left) (encode_lower proof.now.roots.right) (highest_first (sum_in repr_of proof.now.elements.items))) }
 {
     let left = hex::encode(alloc, &proof.roots.left[..])?;
     let right = hex::encode(alloc, &proof.roots.right[..])?;
     let bytes = proof.sum().to_bits().to_be_bytes();
     let sum = hex::encode(alloc, &bytes[..])?;
     let rounds = proof.shape.rounds;
+    let field = proof.roots.field.name();
     let line = format!(in alloc;
-        "words 2^{rounds}\nleft root {left}\nright root {right}\nsum {sum}\n"
+        "field {field}\nwords 2^{rounds}\nleft root {left}\nright root {right}\nsum {sum}\n"
     )?;
     Ok(line)
 }
@@ -184,8 +188,8 @@ fn info_line(
     size: usize,
     bits: usize,
 ) -> Result<String, AllocError>
-    ensures { IfOk result (λ line. string_bytes line ≡ info_text proof.now.shape.rounds (encode_lower proof.now.roots.left)
-        (encode_lower proof.now.roots.right) (highest_first (sum_in repr_of proof.now.elements.items)) size
+    ensures { IfOk result (λ line. string_bytes line ≡ info_text proof.now.roots.field proof.now.shape.rounds
+        (encode_lower proof.now.roots.left) (encode_lower proof.now.roots.right) (highest_first (sum_in repr_of proof.now.elements.items)) size
         (matrix_rows proof.now.shape.queries proof.now.shape.rounds) (place_count proof.now.shape.queries proof.now.shape.rounds)
         (word_levels proof.now.shape.queries proof.now.shape.rounds) bits) }
 {

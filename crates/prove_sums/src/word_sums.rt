@@ -21,7 +21,7 @@ use std::alloc::{AllocError, Global};
 use transcript_elements::BinaryChallenger;
 use transcripts::{ByteHasher32, HashChallenger};
 
-// The transcript of a proof, which begins with what names the format and the field, with the sizes and with both roots.
+// The transcript of a proof, which begins with what names the format and the field of the words, with the sizes and with both roots.
 fn transcript<H: ByteHasher32>(
     alloc: Global,
     hasher: &H,
@@ -29,7 +29,7 @@ fn transcript<H: ByteHasher32>(
     roots: &Roots,
 ) -> Result<BinaryChallenger<Ghash128, HashChallenger<H>>, AllocError>
     ensures state { IfOk result (λ challenger. hash_state (inner_of challenger)
-        ≡ (hasher.now, file_bytes shape.now.queries shape.now.rounds roots.now.left roots.now.right [] [], [])) }
+        ≡ (hasher.now, file_bytes roots.now.field shape.now.queries shape.now.rounds roots.now.left roots.now.right [] [], [])) }
     ensures fresh { IfOk result (λ challenger. challenger_failed challenger ≡ false) }
 {
     let front = encode(alloc, shape, roots, &[], &[])?;
@@ -78,7 +78,7 @@ pub fn prove<H: ByteHasher32>(
     requires right { HoldsTable repr_of 128 word_times word_vector shape.now.queries shape.now.rounds right.now.elements.items
         right.now.held.columns.items right.now.held.tree }
     ensures { IfOk result (λ sent. IsHonestSum H.digest hasher.now repr_of
-        (file_bytes shape.now.queries shape.now.rounds roots.now.left roots.now.right [] []) shape.now.queries shape.now.rounds
+        (file_bytes roots.now.field shape.now.queries shape.now.rounds roots.now.left roots.now.right [] []) shape.now.queries shape.now.rounds
         left.now.elements.items right.now.elements.items left.now.held.columns.items right.now.held.columns.items left.now.held.tree
         right.now.held.tree sent.elements.items sent.nodes.items) }
 {
@@ -94,7 +94,8 @@ pub fn verify<H: ByteHasher32>(
     proof: &Proof<'_, Ghash128>,
 ) -> Result<bool, ProtocolError>
     ensures verdict { IfOk result (λ accepted. IsSumVerdict H.digest hasher.now repr_of
-        (file_bytes proof.now.shape.queries proof.now.shape.rounds proof.now.roots.left proof.now.roots.right [] [])
+        (file_bytes proof.now.roots.field proof.now.shape.queries proof.now.shape.rounds proof.now.roots.left
+        proof.now.roots.right [] [])
         proof.now.shape.queries proof.now.shape.rounds proof.now.roots.left proof.now.roots.right proof.now.elements.items
         proof.now.nodes.now accepted) }
     ensures memory { IfErr result (λ error. error ≡ Memory) }

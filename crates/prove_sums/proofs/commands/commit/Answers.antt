@@ -4,14 +4,14 @@ use Rattle.field_element.specs.Element.{repr_of}
 use Rattle.merkle_trees.specs.Commitments.{row_at}
 use Rattle.merkle_trees.specs.MerkleTrees.{rows_root}
 use Rattle.protocols.specs.CommitmentScheme.{matrix_rows}
-use Rattle.prove_sums.specs.Verdicts.{IsTable}
+use Rattle.prove_sums.specs.Tables.{IsTable}
 use Rattle.prove_sums.proofs.commands.commit.Goals as goal
 
 pub returns-clause-table : goal.returns-clause-table
 returns-clause-table g c =
     let table = c.in_ok-table.table in
     let size : length table.elements.items ≡ 2 ^ table.shape.rounds = search rules in
-    subst (λ (l : List _). IsTable repr_of c.args.bytes.now table.shape.rounds l) (sym c.in_ok-committed.ensures.table)
+    subst (λ (l : List _). IsTable c.args.field repr_of c.args.bytes.now table.shape.rounds l) (sym c.in_ok-committed.ensures.table)
     (record { few = table.shape.few; count = size; written = c.in_ok-table.ensures.words })
 
 pub returns-clause-root : goal.returns-clause-root
@@ -29,4 +29,8 @@ returns-clause-root g c =
     }
 
 pub returns-clause-tree : goal.returns-clause-tree
-returns-clause-tree g c = record { over = c.in_ok-committed.ensures.tree; top = c.root_of-root.ensures.top }
+returns-clause-tree g c = record {
+  over = c.in_ok-committed.ensures.tree;
+  depth = c.in_ok-committed.ensures.holds.depth;
+  top = c.root_of-root.ensures.top;
+}

@@ -1,10 +1,13 @@
-use Rattle.std.proofs.Common.{◌≡◌, ◌<◌, ℕ, List, length, ◌∙◌, ap, ap₂, subst, arith, rules}
+use Rattle.std.proofs.Common.{◌≡◌, ◌<◌, ℕ, List, length, sym, ◌∙◌, ap, ap₂, subst, arith, rules}
 use Rattle.field_bytes.specs.Streams.{joined_bytes}
 use Rattle.field_element.specs.Element.{repr_of}
 use Rattle.prove_sums.specs.ProofFiles.{file_bytes}
 use Rattle.prove_sums.specs.Reports.{sum_line}
 use Rattle.prove_sums.specs.Shapes.{sum_in}
-use Rattle.prove_sums.specs.Verdicts.{HoldsTable, IsTable, IsTableRoot, IsTableTree, word_times, word_vector}
+use Rattle.prove_sums.specs.Verdicts.{HoldsTable, IsTableRoot, IsTableTree, word_times, word_vector}
+use Rattle.prove_sums.specs.Tables.{IsTable}
+use Rattle.prove_sums.proofs.Completeness.{honest-file, honest-halves}
+use Rattle.prove_sums.proofs.Files.{AreNodes}
 use Rattle.prove_sums.proofs.SizeBits.{sizes-moved}
 use Rattle.prove_sums.proofs.SumSteps.{number-at}
 use Rattle.prove_sums.proofs.commands.prove_tables.Goals as goal
@@ -37,6 +40,15 @@ returns g c =
     let same : c.in_ok-other.other.rounds ≡ n = omega (arith, c.if-others-rounds.false) in
     let long = ap length (c.as_slice-elements.ensures.value ∙ c.in_ok-sent.ensures.written) in
     let some : 0 < length c.as_slice-elements.result.now = omega (arith, long) in
+    let honest = c.in_ok-sent.ensures in
+    let right_tree =
+    sizes-moved (λ (u v : ℕ). IsTableTree hash repr_of u v second.held.columns.items right_root second.held.tree) c.args.bits same right.sized left.sized
+    right.tree in
+    let halves =
+    honest-halves honest c.openings_have_one_count.ensures hash _ _ left.tree.over right_tree.over (left.tree.depth ∙ sym right_tree.depth) in
+    let left_size : length c.in_ok-shape.left_root ≡ 32 = search rules in
+    let right_size : length right_root ≡ 32 = search rules in
+    let sized = subst (λ (l : List (List ℕ)). AreNodes l) c.as_slice-nodes.ensures.value c.in_ok-bytes.ensures.sized in
     let size : c.len.result ≡ length c.in_ok-bytes.bytes.items = search rules in
     record {
       is = record {
@@ -54,20 +66,23 @@ returns g c =
         nodes = sent.nodes.items;
         sized = left.sized;
         left_table = left.table;
-        right_table = subst (λ (v : ℕ). IsTable repr_of c.args.right.now v second.elements.items) same right.table;
+        right_table = subst (λ (v : ℕ). IsTable c.args.field repr_of c.args.right.now v second.elements.items) same right.table;
         left_root = left.root;
         right_root =
             sizes-moved (λ (u v : ℕ). IsTableRoot hash repr_of u v second.elements.items second.held.columns.items right_root) c.args.bits same
             right.sized left.sized right.root;
         left_tree = left.tree;
-        right_tree =
-            sizes-moved (λ (u v : ℕ). IsTableTree hash repr_of u v second.held.columns.items right_root second.held.tree) c.args.bits same
-            right.sized left.sized right.tree;
-        written =
-            c.in_ok-bytes.ensures
-            ∙ ap₂ (λ (l : List _) (ns : List (List ℕ)). file_bytes m n c.in_ok-shape.left_root right_root (joined_bytes 16 repr_of l) ns)
-            c.as_slice-elements.ensures.value c.as_slice-nodes.ensures.value;
-        honest = c.in_ok-sent.ensures;
+        right_tree = right_tree;
+        file = record {
+          may_be =
+              honest-file honest c.in_ok-shape.left_root right_root c.in_ok-shape.shape.some_queries c.in_ok-shape.shape.few_queries
+              c.in_ok-shape.shape.few left_size right_size sized halves;
+          written =
+              c.in_ok-bytes.ensures.bytes
+              ∙ ap₂ (λ (l : List _) (ns : List (List ℕ)). file_bytes c.args.field m n c.in_ok-shape.left_root right_root (joined_bytes 16 repr_of l) ns)
+              c.as_slice-elements.ensures.value c.as_slice-nodes.ensures.value;
+        };
+        honest = honest;
       };
       said =
           c.in_ok-report.ensures.line

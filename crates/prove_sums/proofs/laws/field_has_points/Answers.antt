@@ -12,5 +12,6 @@ returns g c =
           vectors-fit level.LOG_BITS field.width field.product level.basis level.cantor g.met.F.TowerLevel.bits_law g.met.F.TowerLevel.basis_law
           g.met.F.TowerLevel.cantor_law;
       range = field.range_law;
+      same = field.same_law;
       room = g.met.F.RawDataSerializable.room_law;
     }

@@ -8,9 +8,9 @@ use Rattle.prove_sums.proofs.proof_file.decode.Goals as goal
 
 pub returns-in-None-clause-refused : goal.returns-in-None-clause-refused
 returns-in-None-clause-refused c = (
-  λ queries rounds left right elements nodes file.
+  λ field queries rounds left right elements nodes file.
       none-read _ c.in_ok-read.read c.in-None.is c.in_ok-read.ensures.none elements
-      (c.in-Ok.ensures.file.only queries rounds left right (joined_bytes 16 repr_of elements) nodes file.may_be file.written).4,
+      (c.in-Ok.ensures.file.only field queries rounds left right (joined_bytes 16 repr_of elements) nodes file.may_be file.written).5,
   tt,
 )
 
@@ -30,10 +30,17 @@ returns-clause-whole c =
     record {
       may_be = subst (λ (b : List ℕ). IsFile parts.shape.queries parts.shape.rounds parts.roots.left parts.roots.right b parts.nodes.now) is c.in-Ok.ensures.file.may_be;
       written =
-          subst (λ (b : List ℕ). c.args.bytes.now ≡ file_bytes parts.shape.queries parts.shape.rounds parts.roots.left parts.roots.right b parts.nodes.now) is c.in-Ok.ensures.file.written;
+          subst (λ (b : List ℕ). c.args.bytes.now ≡ file_bytes parts.roots.field parts.shape.queries parts.shape.rounds parts.roots.left parts.roots.right b parts.nodes.now) is c.in-Ok.ensures.file.written;
     }
 
 pub returns-clause-own : goal.returns-clause-own
-returns-clause-own c = λ queries rounds left right elements nodes file.
-    let only = c.in-Ok.ensures.file.only queries rounds left right (joined_bytes 16 repr_of elements) nodes file.may_be file.written in
-    (only.0, only.1, only.2, only.3, some-read _ c.in_ok-read.read c.in-Some.elements c.in-Some.is c.in_ok-read.ensures.own elements only.4, only.5)
+returns-clause-own c = λ field queries rounds left right elements nodes file.
+    let only = c.in-Ok.ensures.file.only field queries rounds left right (joined_bytes 16 repr_of elements) nodes file.may_be file.written in (
+      only.0,
+      only.1,
+      only.2,
+      only.3,
+      only.4,
+      some-read _ c.in_ok-read.read c.in-Some.elements c.in-Some.is c.in_ok-read.ensures.own elements only.5,
+      only.6,
+    )

@@ -7,5 +7,5 @@ use Rattle.prove_sums.proofs.reports.claim_line.Goals as goal
 pub returns : goal.returns
 returns c =
     c.in_ok-line.ensures.ok
-    ∙ claim-same c.args.proof.now.shape.rounds _ _ _ _ _ _ c.in_ok-left.ensures c.in_ok-right.ensures
+    ∙ claim-same c.args.proof.now.shape.rounds _ _ _ _ _ _ _ _ c.name-field.ensures c.in_ok-left.ensures c.in_ok-right.ensures
     (c.in_ok-sum.ensures ∙ ap encode_lower (c.to_be_bytes-bytes.ensures ∙ ap (to_be_bytes w128) (c.to_bits.ensures ∙ c.sum.ensures)))

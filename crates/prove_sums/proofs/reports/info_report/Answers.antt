@@ -13,6 +13,7 @@ returns c =
     inl (
       refl,
       (
+        proof.roots.field,
         proof.shape.queries,
         proof.shape.rounds,
         proof.roots.left,

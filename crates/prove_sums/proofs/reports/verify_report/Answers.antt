@@ -21,7 +21,7 @@ returns-in_err-report-clause-error g c =
 pub returns-in-Err-answer-clause-report : goal.returns-in-Err-answer-clause-report
 returns-in-Err-answer-clause-report g c =
     let report = c.in_ok-report-in-Err-answer.report in
-    refused-report g.H.ByteHasher32.digest c.args.hasher.now c.args.bits c.args.left.now c.args.right.now c.in-Ok.root c.in-Ok-root_from.root
+    refused-report g.H.ByteHasher32.digest c.args.hasher.now c.args.bits c.args.field c.args.left.now c.args.right.now c.in-Ok.root c.in-Ok-root_from.root
     c.args.bytes.now (sym c.in-Ok.ensures) (sym c.in-Ok-root_from.ensures) c.in-Ok-answer_to.answer c.in-Ok-answer_to.ensures.answer
     (string_bytes report.line) report.status c.in-Err-answer.refusal c.in-Err-answer.is c.in_ok-report-in-Err-answer.ensures.line
     c.in_ok-report-in-Err-answer.ensures.status
@@ -30,7 +30,7 @@ pub returns-clause-report : goal.returns-clause-report
 returns-clause-report g c =
     let report = c.in_ok-report.report in
     let proof = c.in-Ok-answer.proof in
-    accepted-report g.H.ByteHasher32.digest c.args.hasher.now c.args.bits c.args.left.now c.args.right.now c.in-Ok.root c.in-Ok-root_from.root
+    accepted-report g.H.ByteHasher32.digest c.args.hasher.now c.args.bits c.args.field c.args.left.now c.args.right.now c.in-Ok.root c.in-Ok-root_from.root
     c.args.bytes.now (sym c.in-Ok.ensures) (sym c.in-Ok-root_from.ensures) c.in-Ok-answer_to.answer c.in-Ok-answer_to.ensures.answer
     (string_bytes report.line) report.status proof c.in-Ok-answer.is (
       c.in_ok-report.ensures.status,

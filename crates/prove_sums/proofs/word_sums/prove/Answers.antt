@@ -16,5 +16,5 @@ returns g c =
     honest-on_states state_of _ _ _ _ (λ old x new is. is) (λ old x new is. (x.in_range, is)) _ _ _ _ _ _ (λ old bits witness. refl)
     (λ old bits witness new is. is) (λ old bits number new is. is) repr_of repr_of shape.queries shape.rounds sent.elements.items 128 word_times
     left.elements.items right.elements.items left.held.columns.items right.held.columns.items left.held.tree right.held.tree sent.nodes.items
-    c.in_ok-challenger.challenger (c.args.hasher.now, file_bytes shape.queries shape.rounds roots.left roots.right [] [], [])
+    c.in_ok-challenger.challenger (c.args.hasher.now, file_bytes roots.field shape.queries shape.rounds roots.left roots.right [] [], [])
     c.in_ok-challenger.ensures.state c.in_ok-sent.ensures

@@ -11,7 +11,7 @@ pub returns-clause-verdict : goal.returns-clause-verdict
 returns-clause-verdict g c =
     let proof = c.args.proof.now in
     let hasher = c.args.hasher.now in
-    let front = file_bytes proof.shape.queries proof.shape.rounds proof.roots.left proof.roots.right [] [] in
+    let front = file_bytes proof.roots.field proof.shape.queries proof.shape.rounds proof.roots.left proof.roots.right [] [] in
     verdict-on_states state_of _ _ _ _ (λ old x new is. is) (λ old x new is. (x.in_range, is)) _ _ _ _ _ _ (λ old bits witness. refl)
     (λ old bits witness new is. is) (λ old bits number new is. is) repr_of repr_of proof.shape.queries proof.shape.rounds proof.elements.items
     (g.H.ByteHasher32.digest hasher) 16 128 word_times word_vector proof.roots.left proof.roots.right proof.nodes.now
