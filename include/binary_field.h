@@ -27,11 +27,12 @@
  *
  * Sections, in this order: gf2, t2, t4, t8, t16, t32, t64, t128, r8, p64, g128, p192, matrices over each field, changes
  * of basis and linear maps, packed matrices over GF(2), fields of the caller's choice, transforms, tags, codes over
- * bytes, codes that correct errors, codes by transforms, shares of a secret, lines of text. Each field has functions
- * bf_FIELD_NAME of these names: add, multiply, multiply_by, add_scaled, square, inverse, batch_inverse, square_root,
- * power, product, dot_product, evaluate, add_in_place, multiply_in_place, multiply_by_in_place, square_in_place,
- * inverse_in_place, square_root_in_place, power_in_place, generator, matrix_multiply, matrix_row_reduce, matrix_rank,
- * matrix_determinant, matrix_inverse, matrix_solve.
+ * bytes, codes that correct errors, codes over fields of the caller's choice, binary codes that correct errors, codes
+ * by transforms, shares of a secret, lines of text. Each field has functions bf_FIELD_NAME of these names: add,
+ * multiply, multiply_by, add_scaled, square, inverse, batch_inverse, square_root, power, product, dot_product,
+ * evaluate, add_in_place, multiply_in_place, multiply_by_in_place, square_in_place, inverse_in_place,
+ * square_root_in_place, power_in_place, generator, matrix_multiply, matrix_row_reduce, matrix_rank, matrix_determinant,
+ * matrix_inverse, matrix_solve.
  */
 #ifndef BINARY_FIELD_H
 #define BINARY_FIELD_H
@@ -1744,6 +1745,13 @@ uint32_t bf_field_evaluate(const bf_field *field, const bf_u128 *coefficients, s
  * 65536, as in every field that has been looked at. */
 uint32_t bf_field_primitive_element(const bf_field *field, bf_u128 *element) BF_CHECKED BF_NONNULL(1) BF_NONNULL(2);
 
+/* logarithms: the logarithm of each element to the base: the least exponent to which the power of the base is the
+ * element, found in as many steps as the greatest prime factor of the order of the base is. BF_UNSOLVABLE unless
+ * each element is a power of the base. BF_LENGTH unless values and logarithms have one length. BF_NOT_AN_ELEMENT
+ * unless each word that is read is below 2^degree. */
+uint32_t bf_field_logarithm(const bf_field *field, const bf_u128 *values, size_t values_length, const bf_u128 *base,
+    bf_u128 *logarithms, size_t logarithms_length) BF_CHECKED BF_NONNULL(1) BF_NONNULL(4);
+
 /* root: an element of target that is a root of the modulus of source, by which bf_field_embed takes elements of
  * source to target. BF_UNSOLVABLE unless the degree of source divides that of target. */
 uint32_t bf_field_embedding(const bf_field *source, const bf_field *target,
@@ -1968,6 +1976,14 @@ uint32_t bf_rs_shard_factors(size_t data, size_t parity, const uint8_t *present,
 uint32_t bf_rs_add_multiple(uint8_t factor, const uint8_t *shard, size_t shard_length,
     uint8_t *sums, size_t sums_length) BF_CHECKED;
 
+/* The tables of the missing shards, by which bf_rs_reconstruct_prepared and bf_rs_reconstruct_data_prepared restore
+ * them in every stripe that lacks the same ones; they have as many bytes as those of the code, whatever shards are
+ * missing, and of the bytes behind them nothing is said. BF_CODE if data and parity are not both at least 1 and
+ * together at most 256. BF_LENGTH unless tables has the bytes that bf_rs_tables_length gives, and present has data +
+ * parity. BF_TOO_FEW_SHARDS unless at least as many entries of present as data are not 0. */
+uint32_t bf_rs_prepare_reconstruct(size_t data, size_t parity, const uint8_t *present, size_t present_length,
+    uint8_t *tables, size_t tables_length) BF_CHECKED;
+
 /* Writes the missing shards: shard i is missing where present[i] is 0. BF_CODE if data and parity are not both at
  * least 1 and together at most 256. BF_LENGTH unless shards has a multiple, but not 0, of data + parity bytes, and
  * present has data + parity. BF_TOO_FEW_SHARDS unless at least as many entries of present as data are not 0. */
@@ -1979,6 +1995,21 @@ uint32_t bf_rs_reconstruct(size_t data, size_t parity, uint8_t *shards, size_t s
  * BF_TOO_FEW_SHARDS unless at least as many entries of present as data are not 0. */
 uint32_t bf_rs_reconstruct_data(size_t data, size_t parity, uint8_t *shards, size_t shards_length,
     const uint8_t *present, size_t present_length) BF_CHECKED;
+
+/* Writes the missing shards, as bf_rs_reconstruct does, by the tables that bf_rs_prepare_reconstruct wrote for this
+ * code and these flags; by other bytes it writes missing shards of which nothing is said, and those present stay.
+ * BF_CODE if data and parity are not both at least 1 and together at most 256. BF_LENGTH unless tables has the bytes
+ * that bf_rs_tables_length gives, shards a multiple, but not 0, of data + parity, and present data + parity.
+ * BF_TOO_FEW_SHARDS unless at least as many entries of present as data are not 0. */
+uint32_t bf_rs_reconstruct_prepared(size_t data, size_t parity, const uint8_t *tables, size_t tables_length,
+    uint8_t *shards, size_t shards_length, const uint8_t *present, size_t present_length) BF_CHECKED;
+
+/* Writes the missing shards of data alone, by the same tables. BF_CODE if data and parity are not both at least 1
+ * and together at most 256. BF_LENGTH unless tables has the bytes that bf_rs_tables_length gives, shards a multiple,
+ * but not 0, of data + parity, and present data + parity. BF_TOO_FEW_SHARDS unless at least as many entries of
+ * present as data are not 0. */
+uint32_t bf_rs_reconstruct_data_prepared(size_t data, size_t parity, const uint8_t *tables, size_t tables_length,
+    uint8_t *shards, size_t shards_length, const uint8_t *present, size_t present_length) BF_CHECKED;
 
 /* Writes the missing shards of shards that stand apart, each of size bytes. shards has the pointers of those of
  * data, and then of those of parity; a shard that is missing overlaps no other. Shard i is missing where present[i]
@@ -2076,6 +2107,84 @@ uint32_t bf_code_syndromes_interleaved(uint64_t modulus, size_t symbols, size_t 
 uint32_t bf_code_correct_interleaved(uint64_t modulus, size_t symbols, size_t data, uint64_t first_root,
     uint64_t root_step, uint8_t *words, size_t words_length, const uint8_t *erasures, size_t erasures_length,
     uint8_t *syndromes, size_t syndromes_length, bool *corrected, size_t corrected_length) BF_CHECKED;
+
+/* ------------------------------------------------------------------------------------------------------------------ */
+/* The same codes over a field of the caller's choice, of up to 65536 elements, with words of up to 65535 symbols. A
+ * symbol is an element, bit i for x^i. The roots are root to the power of first_root + m, for each m below symbols -
+ * data, where root is any element of an order that is at least symbols. The same words over bytes are faster by the
+ * functions above. */
+
+/* Writes the symbols behind the data of each word, so that it is a word of the code; what stood there is not read.
+ * BF_REDUCIBLE unless field is what bf_field_init made. BF_CODE if the field has more than 65536 elements, data is 0
+ * or not below symbols, symbols is above 65535, root is 0 or no element, or a power of it with an exponent from 1 to
+ * symbols - 1 is 1. BF_LENGTH unless words has a multiple of symbols, and space symbols - data + 1.
+ * BF_NOT_AN_ELEMENT unless each symbol of data is an element. */
+uint32_t bf_field_code_encode(const bf_field *field, size_t symbols, size_t data, uint64_t first_root, uint64_t root,
+    uint16_t *words, size_t words_length, uint16_t *space, size_t space_length) BF_CHECKED BF_NONNULL(1);
+
+/* syndromes: the values of each word at the roots, that at the first root first; symbols - data of them a word.
+ * BF_REDUCIBLE unless field is what bf_field_init made. BF_CODE if the field has more than 65536 elements, data is 0
+ * or not below symbols, symbols is above 65535, root is 0 or no element, or a power of it with an exponent from 1 to
+ * symbols - 1 is 1. BF_LENGTH unless words has a multiple of symbols, and syndromes symbols - data for each word.
+ * BF_NOT_AN_ELEMENT unless each symbol is an element. */
+uint32_t bf_field_code_syndromes(const bf_field *field, size_t symbols, size_t data, uint64_t first_root, uint64_t root,
+    const uint16_t *words, size_t words_length, uint16_t *syndromes, size_t syndromes_length) BF_CHECKED BF_NONNULL(1);
+
+/* flags: 1 for each word that is one of the code, 0 for each other. BF_REDUCIBLE unless field is what bf_field_init
+ * made. BF_CODE if the field has more than 65536 elements, data is 0 or not below symbols, symbols is above 65535,
+ * root is 0 or no element, or a power of it with an exponent from 1 to symbols - 1 is 1. BF_LENGTH unless words has
+ * a multiple of symbols, and flags one for each word. BF_NOT_AN_ELEMENT unless each symbol is an element. */
+uint32_t bf_field_code_are_words(const bf_field *field, size_t symbols, size_t data, uint64_t first_root, uint64_t root,
+    const uint16_t *words, size_t words_length, uint8_t *flags, size_t flags_length) BF_CHECKED BF_NONNULL(1);
+
+/* Corrects each word as bf_code_correct does, and writes how many of its symbols changed, or 65535 where it is near
+ * to no word of the code. A bool is the byte 0 or 1, before the call too. BF_REDUCIBLE unless field is what
+ * bf_field_init made. BF_CODE if the field has more than 65536 elements, data is 0 or not below symbols, symbols is
+ * above 65535, root is 0 or no element, or a power of it with an exponent from 1 to symbols - 1 is 1. BF_LENGTH
+ * unless words has a multiple of symbols, erasures as many bytes or none, corrected one for each word, space 2 *
+ * symbols + 5 * (symbols - data) + 3, marks 2 * symbols, and places symbols. BF_NOT_AN_ELEMENT unless each symbol is
+ * an element. */
+uint32_t bf_field_code_correct(const bf_field *field, size_t symbols, size_t data, uint64_t first_root, uint64_t root,
+    uint16_t *words, size_t words_length, const uint8_t *erasures, size_t erasures_length,
+    uint16_t *corrected, size_t corrected_length, uint16_t *space, size_t space_length,
+    bool *marks, size_t marks_length, size_t *places, size_t places_length) BF_CHECKED BF_NONNULL(1);
+
+/* ------------------------------------------------------------------------------------------------------------------ */
+/* Binary BCH codes: words of so many bits, at most 255, each a byte that is 0 or 1, of which the data come first.
+ * The first bit is the coefficient of the highest power, and a word is one of the code where its polynomial is 0 at
+ * the powers 1 to 2 * errors of g^root_step, of the field of the modulus as above. The order of that power is the
+ * length of a whole word: 255 for root_step 1, and 15 for 17, which is the code over the field of 16 elements. With
+ * fewer bits a word is shortened: it lacks data at its front. */
+
+/* data: how many bits of a word are data: all but one for each root and each square of a root, of a square and so
+ * on. BF_CODE if modulus is none of those above, errors is 0, 2 * errors is not below bits, bits is above 255, a
+ * power of g^root_step with an exponent from 1 to bits - 1 is 1, or no bits are left for data. */
+uint32_t bf_bch_data(uint64_t modulus, size_t bits, size_t errors, uint64_t root_step,
+    uint64_t *data) BF_CHECKED BF_NONNULL(5);
+
+/* Writes the bits behind the data of each word, so that it is a word of the code; what stood there is not read.
+ * BF_CODE if modulus is none of those above, errors is 0, 2 * errors is not below bits, bits is above 255, a power
+ * of g^root_step with an exponent from 1 to bits - 1 is 1, or no bits are left for data. BF_LENGTH unless words has
+ * a multiple of bits. BF_NOT_AN_ELEMENT unless each byte of data is 0 or 1. */
+uint32_t bf_bch_encode(uint64_t modulus, size_t bits, size_t errors, uint64_t root_step,
+    uint8_t *words, size_t words_length) BF_CHECKED;
+
+/* flags: 1 for each word that is one of the code, 0 for each other; a byte above 1 is in no word. BF_CODE if modulus
+ * is none of those above, errors is 0, 2 * errors is not below bits, bits is above 255, a power of g^root_step with
+ * an exponent from 1 to bits - 1 is 1, or no bits are left for data. BF_LENGTH unless words has a multiple of bits,
+ * and flags one for each word. */
+uint32_t bf_bch_are_words(uint64_t modulus, size_t bits, size_t errors, uint64_t root_step,
+    const uint8_t *words, size_t words_length, uint8_t *flags, size_t flags_length) BF_CHECKED;
+
+/* corrected: corrects each word, and writes how many of its bits changed; a bit is erased where its byte of erasures
+ * is not 0. A word becomes the only word of the code from which it differs at t places beside e erased ones, with t
+ * + e / 2 at most errors. Where there is none it stays, and corrected is 65535. BF_CODE if modulus is none of those
+ * above, errors is 0, 2 * errors is not below bits, bits is above 255, a power of g^root_step with an exponent from
+ * 1 to bits - 1 is 1, or no bits are left for data. BF_LENGTH unless words has a multiple of bits, erasures as many
+ * or none, and corrected one for each word. */
+uint32_t bf_bch_correct(uint64_t modulus, size_t bits, size_t errors, uint64_t root_step,
+    uint8_t *words, size_t words_length, const uint8_t *erasures, size_t erasures_length,
+    uint16_t *corrected, size_t corrected_length) BF_CHECKED;
 
 /* ------------------------------------------------------------------------------------------------------------------ */
 /* Reed-Solomon codes over t16 by additive transforms, of thousands of shards: column i of the shards, their word i,

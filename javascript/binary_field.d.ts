@@ -109,6 +109,29 @@ export interface Erasure {
   };
 }
 
+/** A code that corrects errors. Words stand one after the other in one array, each with its data first. */
+export interface CorrectingCode<A extends Uint8Array | Uint16Array> {
+  readonly symbols: number;
+  readonly data: number;
+  /** Writes the symbols behind the data of each word. */
+  encode(words: A): A;
+  areWords(words: A): boolean[];
+  /** Corrects each word in place, and tells how many symbols of it changed, and -1 of one that is near to none. */
+  correct(words: A, erasures?: Present): number[];
+}
+
+/** Codes that correct errors: Reed-Solomon codes over bytes and over fields of up to 2^16 elements, and binary BCH
+ * codes. */
+export interface Correcting {
+  overBytes(code: {
+    modulus?: Count; symbols: Count; data: Count; firstRoot?: Count; rootStep?: Count;
+  }): CorrectingCode<Uint8Array>;
+  overField(code: {
+    degree: Count; tail: Count; symbols: Count; data: Count; firstRoot?: Count; root?: Count;
+  }): CorrectingCode<Uint16Array>;
+  binary(code: { modulus?: Count; bits: Count; errors: Count; rootStep?: Count }): CorrectingCode<Uint8Array>;
+}
+
 /** A share of a secret, at its index from 1 to 255. */
 export interface Share {
   readonly index: number;
@@ -135,6 +158,7 @@ export interface BinaryField extends Fields {
   readonly tags: Tags;
   readonly ReedSolomon: ReedSolomon;
   readonly erasure: Erasure;
+  readonly correcting: Correcting;
   readonly secrets: Secrets;
   readonly module: WebAssembly.Module;
   /** What the program binfield answers to a line. */

@@ -5,7 +5,7 @@
 //     bf.Ghash128.multiply(1n << 127n, 2n); // 0x87n
 //
 // Trusted and not proved are this package, the compiler that made the module, and the engine that runs it.
-import { answerOf, erasureOf, reedSolomonOf, tagsOf } from "./codes.mjs";
+import { answerOf, correctingOf, erasureOf, reedSolomonOf, tagsOf } from "./codes.mjs";
 import { fieldsOf } from "./fields.mjs";
 import { Library } from "./memory.mjs";
 import { secretsOf } from "./secrets.mjs";
@@ -67,6 +67,7 @@ export async function load(source, { maximumBytes = MOST_BYTES } = {}) {
     }),
     ReedSolomon: reedSolomonOf(library),
     erasure: erasureOf(library),
+    correcting: correctingOf(library),
     secrets: secretsOf(library),
     answer: answerOf(library),
     /** How many bytes the module's memory has now. It grows with the largest call, and does not shrink. */

@@ -1,16 +1,21 @@
 // Hashes of authentication tags, erasure codes, and lines of text.
 import { describe, lengthOf, typeOfArray, wholeNumber } from "./memory.mjs";
-import { STATE_WORDS } from "./tables.mjs";
+import { FIELD_WORDS, STATE_WORDS } from "./tables.mjs";
 
 const HASH_BYTES = 16;
 const ANSWER_BYTES = 48;
 
-// The flags of shards as the library takes them: one that is there is 1.
-function flags(present) {
-  if (present === null || typeof present !== "object" || typeof present[Symbol.iterator] !== "function") {
-    throw new TypeError(`present is ${describe(present)}, and not a list of which shards are there`);
+// Flags as the library takes them, of which `what` says what they tell.
+function flagsOf(list, what) {
+  if (list === null || typeof list !== "object" || typeof list[Symbol.iterator] !== "function") {
+    throw new TypeError(`${what} is ${describe(list)}, and not a list of flags`);
   }
-  return Uint8Array.from(present, (it) => (it ? 1 : 0));
+  return Uint8Array.from(list, (it) => (it ? 1 : 0));
+}
+
+// The flags of shards: one that is there is 1.
+function flags(present) {
+  return flagsOf(present, "present");
 }
 
 /** Hashes of messages under a key of 16 bytes, as GCM and GCM-SIV use them. Nothing is claimed on timing. */
@@ -121,6 +126,75 @@ export function erasureOf(library) {
     reconstruct(data, parity, shards, parityShards, present) {
       library.call("erasure_reconstruct", data, parity, shards, parityShards, flags(present), space(data, parity));
       return { shards, parityShards };
+    },
+  });
+}
+
+// What a call writes of a word that is near to no word of a code.
+const NOT_CORRECTED = 65535;
+
+// A code by the calls that begin with a name and the numbers that say which code it is: words of so many symbols stand
+// one after the other in one array, each with its data first. Behind these a call that encodes takes `space`, and one
+// that corrects `room`.
+function codeOf(library, prefix, numbers, symbols, data, { space = [], room = [] } = {}) {
+  const countOf = (words) => Math.floor(lengthOf(words) / symbols);
+  return Object.freeze({
+    symbols,
+    data,
+    /** Writes the symbols behind the data of each word, and returns the words. */
+    encode(words) {
+      library.call(`${prefix}_encode`, ...numbers, words, ...space);
+      return words;
+    },
+    /** Whether each word is one of the code. */
+    areWords(words) {
+      const answers = new Uint8Array(countOf(words));
+      library.call(`${prefix}_are_words`, ...numbers, words, answers);
+      return Array.from(answers, (it) => it === 1);
+    },
+    /** Corrects each word where it is near enough to one of the code: where it differs at t places beside e erased
+     * ones, and 2 t + e is at most the number of checks. It tells how many symbols of each changed, and -1 where it is
+     * near to none; that one stays. `erasures` has a flag for each symbol. */
+    correct(words, erasures = []) {
+      const changed = new Uint16Array(countOf(words));
+      library.call(`${prefix}_correct`, ...numbers, words, flagsOf(erasures, "erasures"), changed, ...room);
+      return Array.from(changed, (it) => (it === NOT_CORRECTED ? -1 : it));
+    },
+  });
+}
+
+/** Codes that correct errors. Where no code has the numbers, these throw. */
+export function correctingOf(library) {
+  const whole = (value, what) => Number(wholeNumber(value, 32, what));
+  return Object.freeze({
+    /** A Reed-Solomon code over bytes, by the modulus of the field: words are a Uint8Array. Its roots are the powers
+     * rootStep * firstRoot, rootStep * (firstRoot + 1), .. of the field's generator. */
+    overBytes({ modulus = 0x11d, symbols, data, firstRoot = 0, rootStep = 1 }) {
+      const [n, k] = [whole(symbols, "symbols"), whole(data, "data")];
+      const code = codeOf(library, "code", [modulus, n, k, firstRoot, rootStep], n, k);
+      code.encode(new Uint8Array(0));
+      return code;
+    },
+    /** The same over the field of 2^degree elements modulo x^degree + tail, up to 2^16 of them: words are a
+     * Uint16Array. Its roots are the powers firstRoot, firstRoot + 1, .. of the element `root`. */
+    overField({ degree, tail, symbols, data, firstRoot = 0, root = 2 }) {
+      const [n, k, field] = [whole(symbols, "symbols"), whole(data, "data"), new BigUint64Array(FIELD_WORDS)];
+      library.call("field_init", field, degree, tail);
+      const named = field.reduceRight((number, word) => (number << 64n) | word, 0n);
+      const checks = Math.max(n - k, 0);
+      const code = codeOf(library, "field_code", [named, n, k, firstRoot, root], n, k, {
+        space: [checks + 1],
+        room: [2 * n + 5 * checks + 3, 2 * n, n],
+      });
+      code.areWords(new Uint16Array(0));
+      return code;
+    },
+    /** A binary BCH code that corrects so many errors: words are a Uint8Array of bits. Its roots are powers of
+     * generator^rootStep; a whole word has 255 bits for the step 1, and 15 for 17. */
+    binary({ modulus = 0x11d, bits, errors, rootStep = 1 }) {
+      const [n, data] = [whole(bits, "bits"), new BigUint64Array(1)];
+      library.call("bch_data", modulus, n, errors, rootStep, data);
+      return codeOf(library, "bch", [modulus, n, errors, rootStep], n, Number(data[0]));
     },
   });
 }

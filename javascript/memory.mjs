@@ -110,6 +110,8 @@ function parameterOf([kind, name, word]) {
     isNumber: kind === "number" || kind === "count" || (kind === "scalar" && bytes <= 8),
     isWideScalar: kind === "scalar" && bytes > 8,
     isBig: bytes === 8,
+    // A bool is the byte 0 or 1, before a call too.
+    isCleared: kind === "space" && word === "bool",
     type: ARRAY_OF[word] ?? "BigUint64Array",
   };
 }
@@ -194,6 +196,7 @@ export class Library {
         continue;
       }
       if (it.view) memory.set(it.view, it.place);
+      if (it.parameter.isCleared) memory.fill(0, it.place, it.place + it.size);
       if (it.scalar !== undefined) writeNumber(memory.subarray(it.place, it.place + it.size), it.scalar);
       passed.push(BigInt(it.place));
       if (it.parameter.isArray) passed.push(BigInt(it.size / it.parameter.bytes));

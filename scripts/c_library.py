@@ -106,6 +106,28 @@ CODE_FUNCTIONS = [
      "0 or 1, before the call too"),
 ]
 
+# Of such codes over a field that the caller chooses, as bf_field_code_NAME, and of binary BCH codes, as bf_bch_NAME.
+FIELD_CODE_FUNCTIONS = [
+    ("encode", [("inout", "words", "u16"), ("space", "space", "u16")],
+     "writes the symbols behind the data of each word, so that it is a word of the code; what stood there is not read"),
+    ("syndromes", [("in", "words", "u16"), ("out", "syndromes", "u16")],
+     "the values of each word at the roots, that at the first root first; symbols - data of them a word"),
+    ("are_words", [("in", "words", "u16"), ("out", "flags", "u8")], "1 for each word that is one of the code, 0 for each other"),
+    ("correct", [("inout", "words", "u16"), ("in", "erasures", "u8"), ("out", "corrected", "u16"), ("space", "space", "u16"),
+                 ("space", "marks", "bool"), ("space", "places", "usize")],
+     "corrects each word as code_correct does, and writes how many of its symbols changed, or 65535 where it is near to no word of the code. A bool is the "
+     "byte 0 or 1, before the call too"),
+]
+BCH_FUNCTIONS = [
+    ("data", [("result", "data", "u64")], "how many bits of a word are data: all but one for each root and each square of a root, of a square and so on"),
+    ("encode", [("inout", "words", "u8")],
+     "writes the bits behind the data of each word, so that it is a word of the code; what stood there is not read"),
+    ("are_words", [("in", "words", "u8"), ("out", "flags", "u8")], "1 for each word that is one of the code, 0 for each other; a byte above 1 is in no word"),
+    ("correct", [("inout", "words", "u8"), ("in", "erasures", "u8"), ("out", "corrected", "u16")],
+     "corrects each word, and writes how many of its bits changed; a bit is erased where its byte of erasures is not 0. A word becomes the only word of the "
+     "code from which it differs at t places beside e erased ones, with t + e / 2 at most errors. Where there is none it stays, and corrected is 65535"),
+]
+
 # (name, parameters, what it computes). The word of every parameter stands in it.
 OTHER_FUNCTIONS = [
     *[(f"{a.name}_to_{b.name}", [("in", "values", a.word), ("out", "images", a.word)],
@@ -147,6 +169,9 @@ OTHER_FUNCTIONS = [
         ("evaluate", [("in", "coefficients", "u128"), ("in", "points", "u128"), ("out", "values", "u128")],
          "the value at each point of the polynomial with these coefficients, the constant one first; of none it is 0"),
         ("primitive_element", [("result", "element", "u128")], "the least primitive element, whose powers are all elements but 0"),
+        ("logarithm", [("in", "values", "u128"), ("scalar", "base", "u128"), ("out", "logarithms", "u128")],
+         "the logarithm of each element to the base: the least exponent to which the power of the base is the element, found in as many steps as "
+         "the greatest prime factor of the order of the base is"),
     ]],
     ("field_embedding", [("scalar", "source", "field"), ("scalar", "target", "field"), ("result", "root", "u128")],
      "an element of target that is a root of the modulus of source, by which field_embed takes elements of source to target"),
@@ -218,8 +243,21 @@ OTHER_FUNCTIONS = [
      "writes the missing shards: shard i is missing where present[i] is 0"),
     ("rs_reconstruct_data", [("count", "data"), ("count", "parity"), ("inout", "shards", "u8"), ("in", "present", "u8")],
      "writes the missing shards of data alone"),
+    ("rs_prepare_reconstruct", [("count", "data"), ("count", "parity"), ("in", "present", "u8"), ("inout", "tables", "u8")],
+     "the tables of the missing shards, by which rs_reconstruct_prepared and rs_reconstruct_data_prepared restore them in every stripe that lacks "
+     "the same ones; they have as many bytes as those of the code, whatever shards are missing, and of the bytes behind them nothing is said"),
+    ("rs_reconstruct_prepared", [("count", "data"), ("count", "parity"), ("in", "tables", "u8"), ("inout", "shards", "u8"), ("in", "present", "u8")],
+     "writes the missing shards, as rs_reconstruct does, by the tables that rs_prepare_reconstruct wrote for this code and these flags; by other "
+     "bytes it writes missing shards of which nothing is said, and those present stay"),
+    ("rs_reconstruct_data_prepared", [("count", "data"), ("count", "parity"), ("in", "tables", "u8"), ("inout", "shards", "u8"),
+                                      ("in", "present", "u8")],
+     "writes the missing shards of data alone, by the same tables"),
     *[(f"code_{name}", [("number", "modulus"), ("count", "symbols"), ("count", "data"), ("number", "first_root"), ("number", "root_step"), *parameters],
        text) for name, parameters, text in CODE_FUNCTIONS],
+    *[(f"field_code_{name}", [("scalar", "field", "field"), ("count", "symbols"), ("count", "data"), ("number", "first_root"), ("number", "root"),
+                              *parameters], text) for name, parameters, text in FIELD_CODE_FUNCTIONS],
+    *[(f"bch_{name}", [("number", "modulus"), ("count", "bits"), ("count", "errors"), ("number", "root_step"), *parameters], text)
+      for name, parameters, text in BCH_FUNCTIONS],
     ("erasure_space", [("count", "data"), ("count", "parity"), ("result", "length", "u64")],
      "how many words of space each call of the code takes: 40 times the least power of two that is at least data, counted up to a power of two, "
      "and parity together"),

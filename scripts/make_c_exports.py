@@ -89,6 +89,8 @@ field_divide  chosen  fields::divide  OverField field.now (TakesQuotients (chose
 result) quotients.old quotients.new result
 field_primitive_element  chosen  fields::primitive_element  OverField field.now (TakesPrimitive (chosen_field field.now) element.old element.new \
 result) element.old element.new result
+field_logarithm  chosen  fields::logarithm  OverField field.now (TakesLogarithms (chosen_field field.now) base.now values.now logarithms.old \
+logarithms.new result) logarithms.old logarithms.new result
 field_embedding  chosen  fields::embedding  FindsARootOver source.now target.now root.old root.new result
 field_embed  chosen  fields::embed  EmbedsOver source.now target.now root.now values.now images.old images.new result
 field_dot_product  chosen  fields::dot_product  OverField field.now (TakesDotProduct (chosen_field field.now) left.now right.now sum.old sum.new \
@@ -133,6 +135,11 @@ rs_shard_factors        shards      factors_of         TellsFactors «data» par
 rs_add_multiple         shards      add_multiple       AddsOneMultiple factor shard.now sums.old sums.new result
 rs_reconstruct          shards      reconstruct        Reconstructs «data» parity («data» + parity) present.now shards.old shards.new result
 rs_reconstruct_data     shards      reconstruct_data   Reconstructs «data» parity «data» present.now shards.old shards.new result
+rs_prepare_reconstruct  shards      prepare_reconstruct  PreparesMissing «data» parity present.now tables.old tables.new result
+rs_reconstruct_prepared  shards     reconstruct_prepared  ReconstructsPrepared «data» parity («data» + parity) present.now tables.now \
+shards.old shards.new result
+rs_reconstruct_data_prepared  shards  reconstruct_data_prepared  ReconstructsPrepared «data» parity «data» present.now tables.now \
+shards.old shards.new result
 """.splitlines()}
 
 # The transforms over levels of the tower, which are written once over the level.
@@ -171,6 +178,21 @@ for _name, _contract, _clause in (
     OTHER_CALLS[f"code_{_name}_interleaved"] = [
         "codes", f"interleaved_codes::{_name}", f"{_contract} modulus symbols «data» first_root root_step {_clause}",
     ]
+for _name, _contract, _clause in (
+    ("encode", "EncodesWordsOver", "(length space.old) words.old words.new result"),
+    ("syndromes", "WritesSyndromesOver", "words.now syndromes.old syndromes.new result"),
+    ("are_words", "TellsCodeWordsOver", "words.now flags.old flags.new result"),
+    ("correct", "CorrectsWordsOver", "(length space.old) (length marks.old) (length places.old) erasures.now words.old corrected.old words.new corrected.new "
+     "result"),
+):
+    OTHER_CALLS[f"field_code_{_name}"] = ["field_codes", f"field_codes::{_name}", f"{_contract} field.now symbols «data» first_root root {_clause}"]
+for _name, _call, _contract, _clause in (
+    ("data", "dimension", "TellsDataBits", "«data».old «data».new result"),
+    ("encode", "encode", "EncodesBits", "words.old words.new result"),
+    ("are_words", "are_words", "TellsBinaryWords", "words.now flags.old flags.new result"),
+    ("correct", "correct", "CorrectsBits", "erasures.now words.old corrected.old words.new corrected.new result"),
+):
+    OTHER_CALLS[f"bch_{_name}"] = ["binary_codes", f"binary_codes::{_call}", f"{_contract} modulus bits errors root_step {_clause}"]
 
 # The functions of matrices: the contract over a field.
 MATRIX_CALLS = {row.split()[0]: row.split(maxsplit=1)[1] for row in """\
@@ -184,11 +206,13 @@ matrix_solve        SolvesEquations {} rows columns matrix.now right.now (length
 
 # What each file of such functions has.
 ABOUT = {
+    "binary_codes": "Calls of binary BCH codes, on words of bits that stand one after the other, a byte each.",
     "bit_matrices": "Calls over matrices over GF(2), whose rows are packed in words of 64 bits.",
     "changes": "Calls over slices of elements of a level of the tower, and of their images in a field of polynomials.",
     "codes": "Calls of Reed-Solomon codes over bytes that correct errors, on words that stand one after the other or interleaved.",
     "chosen": "Calls over slices of elements of a field that the caller chooses.",
     "erasure": "Calls of erasure codes by transforms, over words of 16 bits: shards of data, and those of parity, stand one after the other.",
+    "field_codes": "Calls of Reed-Solomon codes that correct errors over a field that the caller chooses, on words that stand one after the other.",
     "linear": "Calls that map words linearly.",
     "lines": "Calls over lines of text.",
     "transforms": "Calls that transform values in the field of GHASH, and in levels of the tower.",
@@ -208,15 +232,18 @@ HOMES = {
     "tags.specs.Gcm": ["ghash"],
     "tags.specs.Pieces": ["hash_with_lengths"],
     "tags.specs.Polyval": ["polyval"],
+    "c_calls.specs.BinaryCodes": ["CorrectsBits", "EncodesBits", "TellsBinaryWords", "TellsDataBits"],
     "c_calls.specs.BitMatrices": ["MultipliesBits", "ReducesBitRows", "TakesBitRank", "TransposesBits"],
     "c_calls.specs.Bytes": [
         "AddsOneMultiple", "AddsOneShard", "BeginsHash", "ChangesMessage", "Compares", "Encodes", "EncodesPrepared", "EndsHash", "Hashes",
-        "Prepares", "Reconstructs", "TellsFactors", "TellsTablesLength", "Verifies", "VerifiesPrepared",
+        "Prepares", "PreparesMissing", "Reconstructs", "ReconstructsPrepared", "TellsFactors", "TellsTablesLength", "Verifies",
+        "VerifiesPrepared",
     ],
+    "c_calls.specs.ChosenCodes": ["CorrectsWordsOver", "EncodesWordsOver", "TellsCodeWordsOver", "WritesSyndromesOver"],
     "c_calls.specs.Codes": ["CorrectsWords", "EncodesWords", "TellsCodeWords", "WritesSyndromes"],
     "c_calls.specs.InterleavedCodes": ["CorrectsInterleaved", "EncodesInterleaved", "WritesInterleavedSyndromes"],
     "c_calls.specs.ChosenFields": [
-        "EmbedsOver", "FindsARootOver", "OverField", "PreparesField", "TakesPrimitive", "TakesQuotients", "TakesTraces", "chosen_field",
+        "EmbedsOver", "FindsARootOver", "OverField", "PreparesField", "TakesLogarithms", "TakesPrimitive", "TakesQuotients", "TakesTraces", "chosen_field",
     ],
     "c_calls.specs.Erasure": ["EncodesErasure", "ReconstructsErasure", "TellsSpace", "VerifiesErasure"],
     "c_calls.specs.Linear": ["MapsLinearly"],

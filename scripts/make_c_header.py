@@ -55,6 +55,9 @@ LENGTHS = {
     "prepared": "tables has the bytes that bf_rs_tables_length gives, and shards a multiple, but not 0, of data + parity",
     "reconstruct": "shards has a multiple, but not 0, of data + parity bytes, and present has data + parity",
     "reconstruct_data": "shards has a multiple, but not 0, of data + parity bytes, and present has data + parity",
+    "prepare_reconstruct": "tables has the bytes that bf_rs_tables_length gives, and present has data + parity",
+    "reconstruct_prepared": "tables has the bytes that bf_rs_tables_length gives, shards a multiple, but not 0, of data + parity, and present data + parity",
+    "data_prepared": "tables has the bytes that bf_rs_tables_length gives, shards a multiple, but not 0, of data + parity, and present data + parity",
     "matrix_multiply": "left has rows * inner elements, right inner * columns, and product rows * columns",
     "matrix_row_reduce": "matrix has rows * columns elements, and pivots rows places",
     "matrix_rank": "matrix and space have rows * columns elements, and places has rows places",
@@ -74,6 +77,13 @@ LENGTHS = {
     "code_correct_interleaved": "words has a multiple of symbols, erasures one byte for each symbol of a word or none, syndromes symbols - data for each "
     "word, and corrected one for each",
     "code_are_words": "words has a multiple of symbols, and flags one for each word",
+    "field_code_encode": "words has a multiple of symbols, and space symbols - data + 1",
+    "field_code_correct": "words has a multiple of symbols, erasures as many bytes or none, corrected one for each word, space 2 * symbols + "
+    "5 * (symbols - data) + 3, marks 2 * symbols, and places symbols",
+    "bch_data": "",
+    "bch_encode": "words has a multiple of bits",
+    "bch_are_words": "words has a multiple of bits, and flags one for each word",
+    "bch_correct": "words has a multiple of bits, erasures as many or none, and corrected one for each word",
     "secret_split": "secret has a byte or more, draws needed - 1 times as many, and shares count times as many",
     "secret_combine": "secret has a byte or more, and shares as many for each of indexes",
     "secret_combine_correcting": "secret has a byte or more, and shares as many for each of indexes",
@@ -103,6 +113,9 @@ def statuses_of(name, parameters, bits):
     if name == "field_init":
         yield "BF_REDUCIBLE", "that polynomial is irreducible, of a degree from 1 to 128, and tail has lower terms alone"
         return
+    if name.startswith("field_code_"):
+        yield from field_code_statuses(name, parameters)
+        return
     if name.startswith("field_"):
         yield from field_statuses(name, parameters)
         return
@@ -114,6 +127,11 @@ def statuses_of(name, parameters, bits):
         yield "BF_CODE", (
             "modulus is none of those above, data is 0 or not below symbols, symbols is above 255, or a power of g^root_step with an exponent from 1 to "
             "symbols - 1 is 1"
+        )
+    if name.startswith("bch_"):
+        yield "BF_CODE", (
+            "modulus is none of those above, errors is 0, 2 * errors is not below bits, bits is above 255, a power of g^root_step with an exponent from 1 to "
+            "bits - 1 is 1, or no bits are left for data"
         )
     if name == "secret_split":
         yield "BF_CODE", "modulus is another number, or not 2 <= needed <= count <= 255"
@@ -129,6 +147,8 @@ def statuses_of(name, parameters, bits):
     lengths = lengths_of(name, parameters)
     if lengths:
         yield "BF_LENGTH", lengths
+    if name == "bch_encode":
+        yield "BF_NOT_AN_ELEMENT", "each byte of data is 0 or 1"
     if name == "secret_combine":
         yield "BF_UNSOLVABLE", "the shares lie, byte by byte, on polynomials of needed coefficients"
     if name == "secret_combine_correcting":
@@ -143,10 +163,23 @@ def statuses_of(name, parameters, bits):
         yield "BF_TOO_FEW_SHARDS", "at least as many entries of present as data are not 0"
 
 
+def field_code_statuses(name, parameters):
+    """Those of a code over such a field."""
+    yield "BF_REDUCIBLE", "field is what bf_field_init made"
+    yield "BF_CODE", (
+        "the field has more than 65536 elements, data is 0 or not below symbols, symbols is above 65535, root is 0 or no element, or a power of it with an "
+        "exponent from 1 to symbols - 1 is 1"
+    )
+    yield "BF_LENGTH", lengths_of(name, parameters)
+    yield "BF_NOT_AN_ELEMENT", f"each symbol{' of data' if name == 'field_code_encode' else ''} is an element"
+
+
 def field_statuses(name, parameters):
     """Those of a function over a field that the caller chooses."""
     if name == "field_primitive_element":
         yield "BF_UNSOLVABLE", "there is one below 65536, as in every field that has been looked at"
+    if name == "field_logarithm":
+        yield "BF_UNSOLVABLE", "each element is a power of the base"
     if name == "field_embedding":
         yield "BF_UNSOLVABLE", "the degree of source divides that of target"
     if name == "field_embed":
@@ -339,6 +372,19 @@ root_step 1, DVB has 204, 188, 0 and 1, and CCSDS 255, 223, 112 and 11, its byte
 other, and each call finds the code anew, which takes as long as some words: many words at once are faster.
 """
 
+FIELD_CODES = """\
+The same codes over a field of the caller's choice, of up to 65536 elements, with words of up to 65535 symbols. A symbol is an element, bit
+i for x^i. The roots are root to the power of first_root + m, for each m below symbols - data, where root is any element of an order that
+is at least symbols. The same words over bytes are faster by the functions above.
+"""
+
+BCH = """\
+Binary BCH codes: words of so many bits, at most 255, each a byte that is 0 or 1, of which the data come first. The first bit is the
+coefficient of the highest power, and a word is one of the code where its polynomial is 0 at the powers 1 to 2 * errors of g^root_step, of
+the field of the modulus as above. The order of that power is the length of a whole word: 255 for root_step 1, and 15 for 17, which is the
+code over the field of 16 elements. With fewer bits a word is shortened: it lacks data at its front.
+"""
+
 ERASURE = """\
 Reed-Solomon codes over t16 by additive transforms, of thousands of shards: column i of the shards, their word i, has the values of one
 polynomial. With 2^n the least power of two that is at least data, it has a degree below 2^n; shard j of data is its value at point j,
@@ -449,14 +495,17 @@ CASES    default: return "unknown status";
 SUBJECTS = [
     ("changes of basis and linear maps", "Changes of basis, and linear maps over GF(2).", [r"_to_", r"_linear_map$"]),
     ("packed matrices over GF(2)", PACKED, [r"^bit_matrix_"]),
-    ("fields of the caller's choice", CHOSEN, [rf"^field_{it}" for it in ("init$", "")]),
+    ("fields of the caller's choice", CHOSEN, [rf"^field_{it}" for it in ("init$", "(?!code_)")]),
     ("transforms", TRANSFORMS, [r"_butterfly_|_low_stages$", r"_transform$"]),
     ("tags", TAGS, [r"ghash|polyval", r"^tags_"]),
     # What others call comes first.
     ("codes over bytes", CODES, [
-        rf"^rs_{it}" for it in ("tables_length$", "prepare$", "add_shard$", "encode", "verify", "shard_factors$", "add_multiple$", "reconstruct")
+        rf"^rs_{it}" for it in ("tables_length$", "prepare$", "add_shard$", "encode", "verify", "shard_factors$", "add_multiple$",
+                          "prepare_reconstruct$", "reconstruct")
     ]),
     ("codes that correct errors", CORRECTING, [r"^code_"]),
+    ("codes over fields of the caller's choice", FIELD_CODES, [r"^field_code_"]),
+    ("binary codes that correct errors", BCH, [rf"^bch_{it}" for it in ("data$", "")]),
     ("codes by transforms", ERASURE, [r"^erasure_"]),
     ("shares of a secret", SECRETS, [r"^secret_"]),
     ("lines of text", LINES, ["^answer$"]),

@@ -48,7 +48,8 @@ def case(name, *values, each=None, whole=(), status="BF_OK"):
         elif kind in ("out", "result"):
             before, after = None, value
         elif kind == "space":
-            before, after = None, [0] * value
+            # A bool is the byte 0 or 1, before the call too.
+            before, after = [1] * value if word == "bool" else None, [0] * value
         else:
             before = after = list(value) if kind == "in" else [value]
         cut = each is not None and kind in (*ARRAYS, "result") and parameter not in whole

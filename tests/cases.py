@@ -12,6 +12,7 @@ import random
 import correcting
 import definitions
 import embeddings
+import field_correcting
 import published
 from called import ARRAYS, FUNCTIONS, case, refused, with_argument
 from definitions import FIELDS
@@ -164,6 +165,8 @@ def chosen_cases(draw):
         times = lambda a, b: definitions.chosen_product(modulus, a, b)
         yield case("field_add", words, left, right, [a ^ b for a, b in zip(left, right)], each=size)
         yield case("field_multiply", words, left, right, [times(a, b) for a, b in zip(left, right)], each=size)
+        many, others = ([draw.getrandbits(degree) for _ in range(70)] for _ in range(2))
+        yield case("field_multiply", words, many, others, [times(a, b) for a, b in zip(many, others)], each=70)
         for scalar in (1, few[2], few[-1]):
             yield case("field_multiply_by", words, left, scalar, [times(a, scalar) for a in left], each=size)
         yield case("field_square", words, left, [times(a, a) for a in left], each=size)
@@ -176,7 +179,12 @@ def chosen_cases(draw):
         quotients = [times(a, power(b, (1 << degree) - 2)) if b else 0 for a, b in zip(left, right)]
         yield case("field_divide", words, left, right, quotients, each=size)
         is_primitive = lambda a: a and all(power(a, ((1 << degree) - 1) // p) != 1 for p in definitions.group_primes(degree))
-        yield case("field_primitive_element", words, [next(it for it in range(1 << degree) if is_primitive(it))])
+        generator = next(it for it in range(1 << degree) if is_primitive(it))
+        yield case("field_primitive_element", words, [generator])
+        exponents = [it % ((1 << degree) - 1) for it in (0, 1, 2, 5, 77, 300)]
+        yield case("field_logarithm", words, [power(generator, it) for it in exponents], generator, exponents, each=len(exponents))
+        yield case("field_logarithm", words, [0, 1], 0, [1, 0], each=2)
+        yield refused(case("field_logarithm", words, [1, 0], generator, [0, 0]), "BF_UNSOLVABLE")
         dot = lambda a, b: definitions.total(times(x, y) for x, y in zip(a, b))
         value = lambda coefficients, x: definitions.total(times(c, power(x, i)) for i, c in enumerate(coefficients))
         for count in (0, 1, size):
@@ -194,6 +202,8 @@ def chosen_cases(draw):
                 yield refused(case("field_dot_product", words, wrong, right, [0]), "BF_NOT_AN_ELEMENT")
                 yield refused(case("field_dot_product", words, right, wrong, [0]), "BF_NOT_AN_ELEMENT")
             yield refused(case("field_multiply_by", words, left, 1 << degree, [0] * size), "BF_NOT_AN_ELEMENT")
+            yield refused(case("field_logarithm", words, [1], 1 << degree, [0]), "BF_NOT_AN_ELEMENT")
+            yield refused(case("field_logarithm", words, [1, 1 << degree], 1, [0, 0]), "BF_NOT_AN_ELEMENT")
     for degree, tail in ((0, 0), (0, 1), (129, 3), ((1 << 64) - 1, 1), (4, 0b101), (8, 0x11B), (8, 1), (8, 0), (2, 0), (128, 0), (64, 1 << 64 | 0x1B)):
         yield refused(case("field_init", [0], degree, tail), "BF_REDUCIBLE")
     for name, values, each, status in embeddings.rows(draw):
@@ -366,10 +376,17 @@ def code_cases(draw):
             yield case("rs_reconstruct", data, parity, (damaged, shards), present)
             data_alone = [shards[at] if at < data * size else it for at, it in enumerate(damaged)]
             yield case("rs_reconstruct_data", data, parity, (damaged, data_alone), present)
+            made, room = list(definitions.missing_tables(data, present)), list(draw.randbytes(len(tables)))
+            made += room[len(made) :]
+            yield case("rs_prepare_reconstruct", data, parity, present, (room, made))
+            yield case("rs_reconstruct_prepared", data, parity, made, (damaged, shards), present)
+            yield case("rs_reconstruct_data_prepared", data, parity, made, (damaged, data_alone), present)
         few = [0] * (parity + 1) + [1] * (data - 1)
         yield refused(case("rs_shard_factors", data, parity, few, 0, [0] * total), "BF_TOO_FEW_SHARDS")
         for name in ("rs_reconstruct", "rs_reconstruct_data"):
             yield refused(case(name, data, parity, (shards, shards), few), "BF_TOO_FEW_SHARDS")
+            yield refused(case(f"{name}_prepared", data, parity, tables, (shards, shards), few), "BF_TOO_FEW_SHARDS")
+        yield refused(case("rs_prepare_reconstruct", data, parity, few, (tables, tables)), "BF_TOO_FEW_SHARDS")
 
 
 def factor_cases(draw, data, parity):
@@ -473,8 +490,8 @@ def length_cases(it):
             no_values = it.name == "g128_low_stages" and at == 0 and other == 0
             shards = it.name.startswith("rs_") and it.arguments[at].name == "shards"
             more_space = it.arguments[at].kind == "space" and other > length
-            whole_words = it.name in ("code_encode", "code_encode_interleaved") and other % it.arguments[1].after[0] == 0
-            no_flags = it.name in ("code_correct", "code_correct_interleaved") and at == 6 and other == 0
+            whole_words = it.name in ("code_encode", "code_encode_interleaved", "field_code_encode") and other % it.arguments[1].after[0] == 0
+            no_flags = it.arguments[at].name == "erasures" and other == 0
             whole_shards = shards and other and other % (it.arguments[0].after[0] + it.arguments[1].after[0]) == 0
             if other >= 0 and not (power or longer_basis or no_values or more_space or whole_words or no_flags or whole_shards):
                 yield refused(of_length(it, at, other), "BF_LENGTH")
@@ -557,8 +574,9 @@ def empty_cases():
         own = name.partition("_")[2]
         taken = sum(kind == "count" for kind, _, _ in parameters)
         for counts in itertools.product((0, 1 << 63, most), repeat=taken) if taken else ():
-            refusing = ("rs_", "erasure_", "code_", "secret_")
-            status = "BF_CODE" if name.startswith(refusing) else "BF_REDUCIBLE" if name == "field_init" else "BF_LENGTH"
+            refusing = ("rs_", "erasure_", "code_", "secret_", "bch_")
+            reducible = name == "field_init" or name.startswith("field_code_")
+            status = "BF_CODE" if name.startswith(refusing) else "BF_REDUCIBLE" if reducible else "BF_LENGTH"
             if name.startswith("secret_combine") and counts[0]:
                 status = "BF_TOO_FEW_SHARDS"
             if own in EMPTY and EMPTY[own](*counts):
@@ -595,7 +613,7 @@ def all_cases():
         cases += field_cases(field, draw)
         cases += matrix_cases(field, draw)
     others = (
-        basis_cases, chosen_cases, bit_matrix_cases, stage_cases, tag_cases, code_cases, *correcting.CASES, erasure_cases, long_cases,
+        basis_cases, chosen_cases, bit_matrix_cases, stage_cases, tag_cases, code_cases, *correcting.CASES, *field_correcting.CASES, erasure_cases, long_cases,
         line_cases,
     )
     for them in others:

@@ -720,7 +720,7 @@ class Examples(unittest.TestCase):
 
     def test_every_function_has_one(self):
         functions = {name: getattr(bf, name) for name in bf.__all__ if not isinstance(getattr(bf, name), type)}
-        codes = (bf._bytes._Code, bf.ReedSolomon, bf.TransformCode)
+        codes = (bf._bytes._Code, bf.ReedSolomon, bf.PreparedReconstruct, bf.TransformCode)
         for kind in (bf._storage.Stored, bf._draws.Drawn, bf._facts.Facts, bf._matrices.Matrices, bf.FieldArray, bf.Poly, *bf.Ghash.__mro__[:-1], *codes):
             functions |= {name: it for name, it in vars(kind).items() if not name.startswith("_") and not isinstance(it, property)}
         lacking = [name for name, it in functions.items() if callable(it) or isinstance(it, classmethod) if ">>> " not in (it.__doc__ or "")]

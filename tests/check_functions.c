@@ -7,7 +7,7 @@
 #include <stdlib.h>
 #include <string.h>
 
-enum { PARAMETERS = 9, FILL = 0xa5 };
+enum { PARAMETERS = 11, FILL = 0xa5 };
 
 /* One argument of a call: its bytes, at the end of a block. */
 struct buffer {

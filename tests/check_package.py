@@ -504,7 +504,7 @@ class CorrectingCodes(unittest.TestCase):
     def test_what_is_no_code_or_no_word_is_refused(self):
         for n, k in ((256, 9), (5, 5), (5, 0), (5, -1), (1 << 64, 3)):
             self.assertRaises(ValueError, bf.CorrectingCode, n, k)
-        self.assertRaises(ValueError, bf.CorrectingCode, 5, 3, field=0x12D)
+        self.assertRaises(ValueError, bf.CorrectingCode, 5, 3, field=0x12C)
         self.assertRaises(ValueError, bf.CorrectingCode, 4, 2, root_step=85)
         self.assertRaises(ValueError, bf.CorrectingCode, 5)
         self.assertRaises(ValueError, bf.CorrectingCode, 5, 3, 3)
@@ -622,6 +622,7 @@ class Bytes(unittest.TestCase):
         for given in ([None] * 6, [None] * 3 + damaged[1:4], damaged[:5], [b"ab", b"a", b"a", b"a", None, None]):
             self.assertRaises(ValueError, code.reconstruct, given)
         self.restore_apart(code, shards)
+        self.restore_prepared(code, shards)
         self.assertRaises(ValueError, code.encode, np.zeros((3, 9), np.uint8))
         self.assertRaises(ValueError, code.encode, np.zeros((4, 0), np.uint8))
         for data, parity in ((0, 1), (1, 0), (200, 57), (-1, 3)):
@@ -636,6 +637,24 @@ class Bytes(unittest.TestCase):
         self.assertTrue((code.encode(rows[:4]) == shards).all() and code.verify(rows.T.copy().T))
         self.assertTrue((code.reconstruct([None, *rows[1:]]) == shards).all())
         self.assertRaises(TypeError, code.encode, bf.BinaryField16.zeros((4, 9)))
+
+    def restore_prepared(self, code, shards):
+        prepared = code.prepare_reconstruct([False, True, True, True, True, False])
+        for stripe in (shards, code.encode(shards[:4] ^ 7)):
+            damaged = [None if it in (0, 5) else row.tobytes() for it, row in enumerate(stripe)]
+            self.assertTrue((prepared.reconstruct(damaged) == stripe).all())
+            self.assertTrue((prepared.reconstruct([b"wrong byt", *damaged[1:]]) == stripe).all())
+            self.assertTrue((prepared.reconstruct_data(damaged) == stripe[:4]).all())
+            room = stripe.copy()
+            room[0] = room[5] = 9
+            prepared.reconstruct_in_place(room)
+            self.assertTrue((room == stripe).all())
+        for given in (damaged[:5], damaged + [None], [None, None, *damaged[2:]], [None] * 6):
+            self.assertRaises(ValueError, prepared.reconstruct, given)
+        for given in (list(shards), shards[:5], shards.astype(np.uint16)):
+            self.assertRaises(ValueError, prepared.reconstruct_in_place, given)
+        for flags in ([True] * 5, [False] * 3 + [True] * 3):
+            self.assertRaises(ValueError, code.prepare_reconstruct, flags)
 
     def restore_apart(self, code, shards):
         """Shards that lie apart: restored where they lie, or left out."""

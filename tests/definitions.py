@@ -401,17 +401,29 @@ def parity_factor(data, parity_at, own):
     return lagrange_factor(CodeBytes, range(data), own, data + parity_at)
 
 
-def parity_tables(data, parity):
-    """The tables of a code: of four shards of parity at once, for each shard of data the products of its four factors by 0, .., 15 and by
-    0, 16, .., 240. Where fewer than four shards are left, the others keep what the four before had, and zeros where there are none."""
+def row_tables(data, rows):
+    """The tables of rows of factors: of four rows at once, for each shard of data the products of its four factors by 0, .., 15 and by
+    0, 16, .., 240. Where fewer than four rows are left, the others keep what the four before had, and zeros where there are none."""
     tables, group = b"", bytearray(128 * data)
-    for at in range(parity):
-        for own in range(data):
-            start, factor = 128 * own + 32 * (at % 4), parity_factor(data, at, own)
+    for at, factors in enumerate(rows):
+        for own, factor in enumerate(factors):
+            start = 128 * own + 32 * (at % 4)
             group[start : start + 32] = bytes(make_shards.multiply(factor, it) for it in [*range(16), *range(0, 256, 16)])
-        if at % 4 == 3 or at == parity - 1:
+        if at % 4 == 3 or at == len(rows) - 1:
             tables += group
     return tables
+
+
+def parity_tables(data, parity):
+    """The tables of a code."""
+    return row_tables(data, [[parity_factor(data, at, own) for own in range(data)] for at in range(parity)])
+
+
+def missing_tables(data, present):
+    """The tables of the missing shards, of the first that are present, as many as there are of data."""
+    points = [i for i, it in enumerate(present) if it][:data]
+    missing = [i for i, it in enumerate(present) if not it]
+    return row_tables(data, [[lagrange_factor(CodeBytes, points, i, shard) for i in points] for shard in missing])
 
 
 def added_shard(data, own, parity_at, shard, sums):
@@ -432,30 +444,50 @@ def encoded(data, parity, content):
     return b"".join(bytes(shard) for shard in zip(*columns))
 
 
-# ---- codes that correct errors, over bytes
+# ---- codes that correct errors
 
-# The generators that standards take, by moduli.
+# The generators that standards take, by moduli of fields of bytes.
 CODE_GENERATORS = {0x11D: 2, 0x187: 2, 0x11B: 3}
 
 
 @functools.cache
 def code_product(modulus, a, b):
-    """The product of two bytes, bit by bit."""
-    product = total(a << place for place in range(8) if b >> place & 1)
-    for place in range(14, 7, -1):
-        product ^= (product >> place & 1) * (modulus << place - 8)
+    """The product of two elements of the field with a modulus, bit by bit."""
+    bits = modulus.bit_length() - 1
+    product = total(a << place for place in range(bits) if b >> place & 1)
+    for place in range(2 * bits - 2, bits - 1, -1):
+        product ^= (product >> place & 1) * (modulus << place - bits)
     return product
 
 
-@functools.cache
-def code_power(modulus, exponent):
-    """A power of the generator."""
-    return 1 if exponent == 0 else code_product(modulus, code_power(modulus, exponent - 1), CODE_GENERATORS[modulus])
+def code_power(modulus, exponent, base=None):
+    """A power of the generator, or of another element."""
+    result, square = 1, CODE_GENERATORS[modulus] if base is None else base
+    while exponent:
+        result = code_product(modulus, result, square) if exponent & 1 else result
+        square, exponent = code_product(modulus, square, square), exponent >> 1
+    return result
 
 
 def code_roots(modulus, symbols, data, first_root, root_step):
-    """The roots of a code."""
+    """The roots of a code over bytes."""
     return [code_power(modulus, root_step * (first_root + m) % 255) for m in range(symbols - data)]
+
+
+def field_code_roots(modulus, symbols, data, first_root, root):
+    """The roots of a code over any field."""
+    return [code_power(modulus, first_root + m, root) for m in range(symbols - data)]
+
+
+def bch_roots(modulus, bits, errors, root_step):
+    """The roots of a binary code: the powers of an element, and their squares, the squares of these and so on."""
+    found = set()
+    for exponent in range(1, 2 * errors + 1):
+        root = code_power(modulus, root_step * exponent)
+        while root not in found:
+            found.add(root)
+            root = code_product(modulus, root, root)
+    return sorted(found)
 
 
 def code_value(modulus, word, x):
@@ -468,13 +500,12 @@ def code_value(modulus, word, x):
 
 
 def code_syndromes(code, word):
-    """The values of a word at the roots of a code, which is the numbers that a call takes."""
+    """The values of a word at the roots of a code over bytes, which is the numbers that a call takes."""
     return [code_value(code[0], word, it) for it in code_roots(*code)]
 
 
-def code_word(code, data):
+def word_with_roots(modulus, roots, data):
     """The word with these data, behind which stands the rest of their polynomial, times a power of x, by the product of x + r over the roots r."""
-    modulus, roots = code[0], code_roots(*code)
     generator = [1]
     for root in roots:
         generator = [a ^ code_product(modulus, root, b) for a, b in zip([*generator, 0], [0, *generator])]
@@ -484,6 +515,11 @@ def code_word(code, data):
         for place, it in enumerate(generator):
             rest[at + place] ^= code_product(modulus, factor, it)
     return [*data, *rest[len(data):]]
+
+
+def code_word(code, data):
+    """The word of a code over bytes with these data."""
+    return word_with_roots(code[0], code_roots(*code), data)
 
 
 def code_meant(checks, words, received, erased):

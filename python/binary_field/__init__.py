@@ -21,9 +21,11 @@ from . import _orders as _orders
 from . import _products as _products
 from . import _sums as _sums
 from ._arrays import FieldArray
+from ._bch import BCH
 from ._bytes import (
     Ghash,
     Polyval,
+    PreparedReconstruct,
     ReedSolomon,
     TransformCode,
     answer,
@@ -71,9 +73,9 @@ for _module in [it for name, it in _sys.modules.items() if name.startswith(f"{__
     vars(_module).update(bf=_sys.modules[__name__], np=_np)
 
 __all__ = [
-    "BinaryField128", "BinaryField16", "BinaryField2", "BinaryField32", "BinaryField4", "BinaryField64",
+    "BCH", "BinaryField128", "BinaryField16", "BinaryField2", "BinaryField32", "BinaryField4", "BinaryField64",
     "BinaryField8", "CorrectingCode", "FieldArray", "GF", "Gf2", "Ghash", "Ghash128", "Poly", "Poly192", "Poly64",
-    "Polyval", "ReedSolomon", "Rijndael8b", "TransformCode", "answer", "butterfly_forward", "butterfly_inverse",
+    "Polyval", "PreparedReconstruct", "ReedSolomon", "Rijndael8b", "TransformCode", "answer", "butterfly_forward", "butterfly_inverse",
     "combine_secret", "conway_poly", "correct_secret", "crt", "egcd", "from_powers", "gcd", "gcm_ghash", "get_workers", "ghash",
     "hardware", "inverse_transform", "irreducible_poly", "lagrange_poly", "lcm", "linear_map", "low_stages",
     "polyval", "primitive_poly", "processor", "set_workers", "split_secret", "tags_are_equal", "to_powers",

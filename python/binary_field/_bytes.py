@@ -390,9 +390,74 @@ class ReedSolomon(_Code):
         """
         return self._restored("rs_reconstruct_data", shards, present)[: self.data]
 
+    def prepare_reconstruct(self, present: Sequence[bool]) -> PreparedReconstruct:
+        """What restores many stripes that lack the same shards, by tables that are made once. A shard is missing where `present` has False.
+
+        >>> code = bf.ReedSolomon(data=2, parity=1)
+        >>> stripes = [code.encode([b"ab", b"cd"]), code.encode([b"ef", b"gh"])]
+        >>> prepared = code.prepare_reconstruct([False, True, True])
+        >>> [prepared.reconstruct_data([None, *shards[1:]]).tobytes() for shards in stripes]
+        [b'abcd', b'efgh']
+        """
+        return PreparedReconstruct(self, present)
+
     def _restored(self, name: str, shards: Any, present: Any) -> Words:
         all_shards, flags = self._with_flags(shards, present)
         call(name, self.data, self.parity, all_shards, flags)
+        return all_shards
+
+
+class PreparedReconstruct:
+    """What restores the missing shards of stripes that all lack the same ones, by tables that are made once and kept: `ReedSolomon.prepare_reconstruct`
+    makes it."""
+
+    def __init__(self, code: ReedSolomon, present: Sequence[bool]) -> None:
+        flags = np.array([bool(it) for it in present], np.uint8)
+        if len(flags) != code.data + code.parity:
+            raise ValueError(f"expected {code.data + code.parity} flags")
+        tables = np.zeros(code._tables.size, np.uint8)
+        call("rs_prepare_reconstruct", code.data, code.parity, flags, tables)
+        tables.flags.writeable = flags.flags.writeable = False
+        self.code, self._flags, self._made = code, flags, tables
+
+    def reconstruct(self, shards: Sequence[Any] | Words) -> Words:
+        """All shards, the missing ones restored, whatever stands at their places: None, or as many bytes as a shard has.
+
+        >>> code = bf.ReedSolomon(data=2, parity=1)
+        >>> code.prepare_reconstruct([True, False, True]).reconstruct([b"ab", None, code.encode([b"ab", b"cd"])[2]])[1].tobytes()
+        b'cd'
+        """
+        return self._restored("rs_reconstruct_prepared", shards)
+
+    def reconstruct_data(self, shards: Sequence[Any] | Words) -> Words:
+        """The shards of data, the missing ones restored.
+
+        >>> code = bf.ReedSolomon(data=2, parity=1)
+        >>> code.prepare_reconstruct([True, False, True]).reconstruct_data([b"ab", b"??", code.encode([b"ab", b"cd"])[2]]).tobytes()
+        b'abcd'
+        """
+        return self._restored("rs_reconstruct_data_prepared", shards)[: self.code.data]
+
+    def reconstruct_in_place(self, shards: Words) -> None:
+        """Writes the missing rows of an array of bytes, which is not copied.
+
+        >>> code = bf.ReedSolomon(data=2, parity=1)
+        >>> shards = code.encode([b"ab", b"cd"])
+        >>> shards[1] = 0
+        >>> code.prepare_reconstruct([True, False, True]).reconstruct_in_place(shards)
+        >>> shards[1].tobytes()
+        b'cd'
+        """
+        if not isinstance(shards, np.ndarray) or shards.dtype != np.uint8 or shards.ndim != 2 or len(shards) != len(self._flags):
+            raise ValueError(f"expected an array of {len(self._flags)} rows of bytes")
+        call("rs_reconstruct_prepared", self.code.data, self.code.parity, self._made, shards, self._flags)
+
+    def _restored(self, name: str, shards: Any) -> Words:
+        given = [it if flag else None for it, flag in zip(shards, self._flags)] if len(shards) == len(self._flags) else shards
+        all_shards, present = self.code._with_flags(given, None)
+        if (present != self._flags).any():
+            raise ValueError("a shard that is present is None")
+        call(name, self.code.data, self.code.parity, self._made, all_shards, self._flags)
         return all_shards
 
 

@@ -23,6 +23,8 @@ from ._storage import _Constants
 
 _MOST_BITS = 128
 _WIDE = WORDS["u128"]
+# Up to so many steps logarithms are those of the library, which takes about so many more for each element to find the order of the base.
+_MOST_STEPS, _STEPS_OF_ORDER = 1 << 18, 256
 # A polynomial over GF(2) as a caller gives it: an integer, a text, its coefficients from the highest on, or one of `Poly`.
 Polynomial = Union[int, str, Poly, Iterable[int]]
 # The fixed fields that are polynomials modulo one.
@@ -88,6 +90,17 @@ class ChosenField(FieldArray, metaclass=_Chosen):
         result = cls.zeros(elements.shape)
         result._words[...] = _narrow(images, result._words.dtype)
         return result
+
+    def _logarithms(self) -> Words:
+        """Those to the primitive element: by one call of the library where that takes few steps, as it goes along the powers in a group of
+        each prime order."""
+        group = type(self).order - 1
+        steps = max((it for it in self._group_primes() if group % it == 0), default=1) + _STEPS_OF_ORDER
+        if self.size * steps > _MOST_STEPS:
+            return super()._logarithms()
+        base, logarithms = type(self).primitive_element, np.empty(self.shape, _WIDE)
+        call("field_logarithm", self._field, _wide(self._words), _wide(base._words), logarithms)
+        return np.asarray(logarithms["words"][..., 0].astype(object))
 
     def _restricted(self, subfield: Any) -> Any:
         return self if subfield._name == self._name else self._narrowed(subfield)

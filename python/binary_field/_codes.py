@@ -1,4 +1,4 @@
-"""Reed-Solomon codes over bytes that correct errors, with the names of galois."""
+"""Reed-Solomon codes that correct errors, with the names of galois."""
 
 from __future__ import annotations
 
@@ -7,42 +7,21 @@ from typing import Any
 
 import numpy as np
 
-from ._library import Words, call
-from ._storage import Stored
+from ._chosen import GF, ChosenField
+from ._code_calls import BYTES, ByteCalls, Calls, FieldCalls, resized, symbols_of
+from ._fields import Rijndael8b
+from ._library import Words
 
 # What a call takes of an integer: a number of 64 bits.
 _END = 1 << 64
-# What a call writes of a word that is near to no word of the code.
-_NOT_CORRECTED = 65535
 
 
-def _symbols(value: Any) -> Words:
-    """Symbols as an array of bytes: of an object that lends them or a list of such, of elements that are bytes, or of integers."""
-    if isinstance(value, Stored):
-        value = value.to_words()
-    if isinstance(value, (bytes, bytearray, memoryview)):
-        return np.frombuffer(value, np.uint8)
-    if isinstance(value, (list, tuple)) and value and isinstance(value[0], (bytes, bytearray, memoryview)):
-        value = [np.frombuffer(it, np.uint8) for it in value]
-    symbols = np.asarray(value)
-    if symbols.dtype != np.uint8:
-        if symbols.dtype.kind not in "iu" or symbols.size and not 0 <= int(symbols.min()) <= int(symbols.max()) <= 255:
-            raise ValueError("expected symbols, which are integers from 0 to 255")
-        symbols = symbols.astype(np.uint8)
-    return np.asarray(symbols, order="C")
-
-
-def _interleaved(axis: int) -> tuple[str, int]:
-    """What the names of calls end with for words in an axis, and the axis: the last, or the first for words that stand interleaved."""
+def _axis(axis: int) -> int:
+    """The axis of words: the last, or the first for words that stand interleaved."""
     axis = operator.index(axis)
     if axis not in (-1, 0):
         raise ValueError("words stand in the last axis, -1, or in the first, 0")
-    return "_interleaved" if axis == 0 else "", axis
-
-
-def _resized(shape: tuple[int, ...], axis: int, count: int) -> tuple[int, ...]:
-    """A shape with another length in the first or last axis."""
-    return (count, *shape[1:]) if axis == 0 else (*shape[:-1], count)
+    return axis
 
 
 def _front(axis: int, count: int, behind: bool = False) -> Any:
@@ -51,16 +30,50 @@ def _front(axis: int, count: int, behind: bool = False) -> Any:
     return taken if axis == 0 else (..., taken)
 
 
+def modulus_of(field: Any) -> int:
+    """The modulus of a field, an integer itself or a class of arrays over a field modulo a polynomial."""
+    if not isinstance(field, type):
+        return operator.index(field)
+    if getattr(field, "degree", 0) < 2 or field not in (Rijndael8b,) and not issubclass(field, ChosenField):
+        raise ValueError(f"a code is over a field modulo a polynomial, as bf.GF makes it, and {field.__name__} is none")
+    return int(getattr(field, "irreducible_poly"))
+
+
+def _generator_of(field: Any, modulus: int) -> int:
+    """The element whose powers the roots are for the step 1: what a class names, or what standards and `GF` do."""
+    if isinstance(field, type):
+        return int(getattr(field, "primitive_element"))
+    return BYTES.get(modulus) or int(_kind(modulus).primitive_element)
+
+
+def _kind(modulus: int) -> Any:
+    """The class of arrays over the field with a modulus."""
+    return GF(1 << modulus.bit_length() - 1, irreducible_poly=modulus)
+
+
+def calls_of(field: Any, c: int, root_step: int, alpha: Any) -> Calls:
+    """The calls of a code over a field, by its first root and by the step of its roots, or by the element whose powers they are."""
+    modulus = modulus_of(field)
+    if modulus in BYTES and alpha is None and _generator_of(field, modulus) == BYTES[modulus]:
+        return ByteCalls(modulus, c, root_step)
+    if not 3 < modulus < 1 << 17:
+        raise ValueError("a code is over a field of 2**2 to 2**16 elements")
+    root = int(alpha) if alpha is not None else int(_kind(modulus)(_generator_of(field, modulus)) ** root_step)
+    return FieldCalls(modulus, c, root)
+
+
 class CorrectingCode:
-    """A Reed-Solomon code over bytes that corrects errors: words of `n` symbols, at most 255, of which the first `k` are data. `ReedSolomon`
-    is another code, which restores what is known to be lost.
+    """A Reed-Solomon code that corrects errors: words of `n` symbols, of which the first `k` are data. `ReedSolomon` is another code, which
+    restores what is known to be lost.
 
     The first symbol is the coefficient of the highest power, and a word is one of the code where its polynomial is 0 at each of n - k roots:
-    the powers root_step * c, root_step * (c + 1), .. of the field's generator. The field is given by its modulus, as an integer whose bit i
-    is that of x^i: 0x11d (QR codes, DVB) and 0x187 (CCSDS) with the generator 2, and 0x11b (AES) with 3. Instead of `k` there may be the
-    minimum distance `d`, which is n - k + 1. Calls take one word, or arrays of words in their last axis, and return bytes; with axis=0 words
-    are the columns of an array, as they stand interleaved, which is faster for many words. A word may be shortened: then it lacks symbols of
-    data at its front.
+    the powers root_step * c, root_step * (c + 1), .. of the field's generator, or the powers c, c + 1, .. of `alpha`. The field is given by
+    its modulus, as an integer whose bit i is that of x^i, or by its class: any of 2**2 to 2**16 elements, with words shorter than it has
+    elements. Three fields of bytes have calls of their own, which are faster: 0x11d (QR codes, DVB) and 0x187 (CCSDS) with the generator 2,
+    and 0x11b (AES) with 3. Instead of `k` there may be the minimum distance `d`, which is n - k + 1. Calls take one word, or arrays of words
+    in their last axis, and return arrays of integers of 8 bits, or 16 where the field has more than 256 elements; with axis=0 words are the
+    columns of an array, as they stand interleaved, which over bytes is faster for many words. A word may be shortened: then it lacks symbols
+    of data at its front.
 
     >>> code = bf.CorrectingCode(15, 9, c=1, field=0x11d)
     >>> code.n, code.k, code.d, code.t
@@ -75,18 +88,23 @@ class CorrectingCode:
     (11,)
     """
 
-    def __init__(self, n: int, k: int | None = None, d: int | None = None, *, c: int = 1, root_step: int = 1, field: int = 0x11D) -> None:
-        self._n, self._c, self._step, self._field = (operator.index(it) for it in (n, c, root_step, field))
+    def __init__(
+        self, n: int, k: int | None = None, d: int | None = None, *, c: int = 1, root_step: int = 1, field: Any = 0x11D, alpha: Any = None,
+    ) -> None:
+        self._n, self._c, self._step = (operator.index(it) for it in (n, c, root_step))
         if k is not None and d is None:
             self._k = operator.index(k)
         elif d is not None and k is None:
             self._k = self._n + 1 - operator.index(d)
         else:
             raise ValueError("expected k or d, and not both")
-        if not all(0 <= it < _END for it in (self._n, self._k, self._c, self._step, self._field)):
+        if not all(0 <= it < _END for it in (self._n, self._k, self._c, self._step)):
             raise ValueError("no code has a number below 0, or of more than 64 bits")
+        self._calls = calls_of(field, self._c, self._step, alpha)
+        if not 0 < self._k < self._n <= self._calls.most:
+            raise ValueError(f"a code has symbols of data and others, {self._calls.most} together at most")
         # This tells whether there is such a code.
-        call("code_encode", *self._of(self._n), np.empty(0, np.uint8))
+        self._calls.encode(np.empty((0, self._n), self._calls.dtype), self._n - self._k, -1)
 
     @classmethod
     def ccsds_223(cls) -> CorrectingCode:
@@ -148,7 +166,7 @@ class CorrectingCode:
     @property
     def field(self) -> int:
         """The modulus of the field."""
-        return self._field
+        return self._calls.modulus
 
     @property
     def is_systematic(self) -> bool:
@@ -185,7 +203,9 @@ class CorrectingCode:
         >>> bf.CorrectingCode.ccsds_223().alpha
         173
         """
-        return int(CorrectingCode(2, 1, c=1, root_step=self._step, field=self._field).roots[0])
+        if isinstance(self._calls, FieldCalls):
+            return self._calls.root
+        return int(CorrectingCode(2, 1, c=1, root_step=self._step, field=self.field).roots[0])
 
     @property
     def G(self) -> Words:
@@ -194,7 +214,7 @@ class CorrectingCode:
         >>> bf.CorrectingCode(5, 3).G.tolist()
         [[1, 0, 0, 120, 224], [0, 1, 0, 28, 48], [0, 0, 1, 6, 8]]
         """
-        return self.encode(np.eye(self._k, dtype=np.uint8))
+        return self.encode(np.eye(self._k, dtype=self._calls.dtype))
 
     @property
     def H(self) -> Words:
@@ -203,10 +223,11 @@ class CorrectingCode:
         >>> bf.CorrectingCode(5, 3).H.tolist()
         [[16, 8, 4, 2, 1], [29, 64, 16, 4, 1]]
         """
-        return np.ascontiguousarray(self.syndromes(np.eye(self._n, dtype=np.uint8)).T)
+        return np.ascontiguousarray(self.syndromes(np.eye(self._n, dtype=self._calls.dtype)).T)
 
     def __repr__(self) -> str:
-        return f"CorrectingCode({self.n}, {self.k}, c={self.c}, root_step={self.root_step}, field={self.field:#x})"
+        roots = f"alpha={self.alpha:#x}" if isinstance(self._calls, FieldCalls) else f"root_step={self.root_step}"
+        return f"CorrectingCode({self.n}, {self.k}, c={self.c}, {roots}, field={self.field:#x})"
 
     def encode(self, message: Any, output: str = "codeword", axis: int = -1) -> Words:
         """The words with these data, k symbols or fewer; with output="parity" only what stands behind the data.
@@ -218,14 +239,13 @@ class CorrectingCode:
         """
         if output not in ("codeword", "parity"):
             raise ValueError('output is "codeword" or "parity"')
-        data = _symbols(message)
-        name, axis = _interleaved(axis)
+        data, axis = symbols_of(message, self._calls.dtype, self._calls.bits), _axis(axis)
         if not data.ndim or not 0 < data.shape[axis] <= self._k:
             raise ValueError(f"expected 1 to {self._k} symbols of data in axis {axis}")
         count = data.shape[axis]
-        words = np.zeros(_resized(data.shape, axis, count + self._n - self._k), np.uint8)
+        words = np.zeros(resized(data.shape, axis, count + self._n - self._k), self._calls.dtype)
         words[_front(axis, count)] = data
-        call(f"code_encode{name}", *self._of(words.shape[axis]), words)
+        self._calls.encode(words, self._n - self._k, axis)
         if output == "codeword":
             return words
         return np.array(words[_front(axis, count, behind=True)])
@@ -236,11 +256,8 @@ class CorrectingCode:
         >>> bf.CorrectingCode(5, 3).syndromes([0, 0, 0, 1, 0]).tolist()
         [2, 4]
         """
-        name, axis = _interleaved(axis)
-        words = self._words(codeword, axis)
-        values = np.empty(_resized(words.shape, axis, self._n - self._k), np.uint8)
-        call(f"code_syndromes{name}", *self._of(words.shape[axis]), words, values)
-        return values
+        axis = _axis(axis)
+        return self._calls.syndromes(self._words(codeword, axis), self._n - self._k, axis)
 
     def detect(self, codeword: Any, axis: int = -1) -> Any:
         """Whether words have errors that are seen: those that are no words of the code. Fewer than d errors are always seen.
@@ -249,13 +266,9 @@ class CorrectingCode:
         >>> code.detect(code.encode([1, 2, 3])), code.detect([1, 2, 3, 74, 153])
         (False, True)
         """
-        if _interleaved(axis)[0]:
-            seen = self.syndromes(codeword, axis=axis).any(axis=0)
-            return seen if seen.ndim else bool(seen)
-        words = self._words(codeword)
-        flags = np.empty(words.shape[:-1], np.uint8)
-        call("code_are_words", *self._of(words.shape[-1]), words, flags)
-        return flags == 0 if flags.ndim else not flags
+        axis = _axis(axis)
+        flags = self._calls.are_words(self._words(codeword, axis), self._n - self._k, axis)
+        return ~flags if flags.ndim else not flags
 
     def decode(self, codeword: Any, output: str = "message", errors: bool = False, erasures: Any = None, axis: int = -1) -> Any:
         """The data of words, corrected where they are near enough to a word of the code: where they differ from one at t places beside e erased
@@ -276,44 +289,18 @@ class CorrectingCode:
         """
         if output not in ("codeword", "message"):
             raise ValueError('output is "message" or "codeword"')
-        name, axis = _interleaved(axis)
+        axis, checks = _axis(axis), self._n - self._k
         words = np.array(self._words(codeword, axis), order="C")
-        numbers = self._corrected_columns(words, erasures) if name else self._corrected(words, erasures)
-        result = words if output == "codeword" else words[_front(axis, words.shape[axis] - (self._n - self._k))].copy()
+        numbers = self._calls.correct(words, checks, erasures, axis)
+        result = words if output == "codeword" else words[_front(axis, words.shape[axis] - checks)].copy()
         if not errors:
             return result
         return result, numbers if numbers.ndim else int(numbers)
 
-    def _corrected(self, words: Words, erasures: Any) -> Words:
-        """Corrects words in their last axis, and tells how many symbols of each changed."""
-        flags = np.zeros(0, np.uint8)
-        if erasures is not None:
-            flags = np.ascontiguousarray(np.broadcast_to(np.asarray(erasures, bool), words.shape)).view(np.uint8)
-        counts = np.empty(words.shape[:-1], np.uint16)
-        call("code_correct", *self._of(words.shape[-1]), words, flags, counts)
-        numbers = counts.astype(np.int64)
-        numbers[numbers == _NOT_CORRECTED] = -1
-        return numbers
-
-    def _corrected_columns(self, words: Words, erasures: Any) -> Words:
-        """Corrects words in their first axis, and tells how many symbols of each changed."""
-        flags = np.zeros(0, np.uint8)
-        if erasures is not None:
-            flags = np.ascontiguousarray(np.broadcast_to(np.asarray(erasures, bool), words.shape[:1])).view(np.uint8)
-        received = words.copy()
-        values = np.empty(_resized(words.shape, 0, self._n - self._k), np.uint8)
-        corrected = np.zeros(words.shape[1:], np.bool_)
-        call("code_correct_interleaved", *self._of(words.shape[0]), words, flags, values, corrected)
-        return np.where(corrected, (words != received).sum(axis=0), -1)
-
     def _words(self, codeword: Any, axis: int = -1) -> Words:
         """Words, which may be shortened."""
-        words = _symbols(codeword)
+        words = symbols_of(codeword, self._calls.dtype, self._calls.bits)
         checks = self._n - self._k
         if not words.ndim or not checks < words.shape[axis] <= self._n:
             raise ValueError(f"expected {checks + 1} to {self._n} symbols of a word in axis {axis}")
         return words
-
-    def _of(self, symbols: int) -> tuple[int, int, int, int, int]:
-        """What a call is told of the code with words of so many symbols."""
-        return self._field, symbols, symbols - (self._n - self._k), self._c, self._step

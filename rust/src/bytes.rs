@@ -237,6 +237,23 @@ impl ReedSolomon {
         self.restored(bf_rs_reconstruct_data, shards, present)
     }
 
+    /// What restores the missing shards of stripes that all lack the same ones: its tables are written into `tables`, of `tables_length` bytes. They
+    /// are read faster from a multiple of 16 on.
+    pub fn prepare_reconstruct<'a>(
+        &self,
+        present: &'a [bool],
+        tables: &'a mut [u8],
+    ) -> Result<PreparedReconstruct<'a>, Error> {
+        Error::of(
+            call!(bf_rs_prepare_reconstruct: self.data, self.parity, [present], [mut tables]),
+        )?;
+        Ok(PreparedReconstruct {
+            code: *self,
+            present,
+            tables,
+        })
+    }
+
     /// Writes the missing shards of shards that stand apart, all of one size.
     pub fn reconstruct_shards<S: AsRef<[u8]> + AsMut<[u8]>>(
         &self,
@@ -309,6 +326,49 @@ fn two_of<S: AsRef<[u8]> + AsMut<[u8]>>(
     } else {
         let (front, back) = shards.split_at_mut(read);
         (back[0].as_ref(), front[written].as_mut())
+    }
+}
+
+/// What restores the missing shards of stripes that all lack the same ones, by tables that are made once.
+///
+/// ```
+/// use binary_field::ReedSolomon;
+///
+/// let code = ReedSolomon::new(3, 2)?;
+/// let (mut shards, mut tables) = (*b"abcdef....", vec![0; code.tables_length()]);
+/// code.encode(&mut shards)?;
+/// let whole = shards;
+/// let prepared = code.prepare_reconstruct(&[true, false, true, true, false], &mut tables)?;
+/// shards[2..4].fill(0);
+/// prepared.reconstruct_data(&mut shards)?;
+/// assert_eq!(shards, whole);
+/// # Ok::<(), binary_field::Error>(())
+/// ```
+#[derive(Clone, Copy, Debug)]
+pub struct PreparedReconstruct<'a> {
+    code: ReedSolomon,
+    present: &'a [bool],
+    tables: &'a [u8],
+}
+
+impl PreparedReconstruct<'_> {
+    /// The code.
+    pub fn code(&self) -> ReedSolomon {
+        self.code
+    }
+
+    /// Writes the missing shards.
+    pub fn reconstruct(&self, shards: &mut [u8]) -> Result<(), Error> {
+        Error::of(
+            call!(bf_rs_reconstruct_prepared: self.code.data, self.code.parity, [self.tables], [mut shards], [self.present]),
+        )
+    }
+
+    /// Writes the missing shards of data alone.
+    pub fn reconstruct_data(&self, shards: &mut [u8]) -> Result<(), Error> {
+        Error::of(
+            call!(bf_rs_reconstruct_data_prepared: self.code.data, self.code.parity, [self.tables], [mut shards], [self.present]),
+        )
     }
 }
 

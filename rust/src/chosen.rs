@@ -24,7 +24,7 @@ fn whole(words: [u64; 2]) -> u128 {
 /// degree, so that many elements in one call cost less an element.
 #[derive(Clone, Copy, Debug, PartialEq, Eq, Hash)]
 pub struct ChosenField {
-    words: [u64; 5],
+    pub(crate) words: [u64; 5],
 }
 
 impl ChosenField {
@@ -221,6 +221,31 @@ impl ChosenField {
         let mut element = [0; 2];
         Error::of(call!(bf_field_primitive_element: &raw const self.words, &raw mut element))?;
         Ok(whole(element))
+    }
+
+    /// Writes the logarithm of each element to the base, the least exponent to which the power of the base is the element:
+    /// `Error::Unsolvable` exactly where one of them is no power of the base. It takes as many steps as the greatest prime factor of the
+    /// order of the base is.
+    ///
+    /// ```
+    /// use binary_field::chosen::ChosenField;
+    ///
+    /// let mut logarithms = [0; 3];
+    /// ChosenField::new(8, 0x1b)?.logarithm(&[1, 2, 3], 3, &mut logarithms)?;
+    /// assert_eq!(logarithms, [0, 25, 1]);
+    /// # Ok::<(), binary_field::Error>(())
+    /// ```
+    pub fn logarithm(
+        &self,
+        values: &[u128],
+        base: u128,
+        logarithms: &mut [u128],
+    ) -> Result<(), Error> {
+        let (values, base) = (words_of(values), halves(base));
+        self.written(
+            logarithms,
+            |made| call!(bf_field_logarithm: &raw const self.words, [values], &raw const base, [mut made]),
+        )
     }
 
     /// An element of `target` that is a root of the modulus of this field, by which `embed` takes elements there: `Error::Unsolvable` exactly

@@ -2967,6 +2967,18 @@ unsafe extern "C" {
         field: *const [u64; 5],
         element: *mut [u64; 2],
     ) -> u32;
+    /// logarithms: the logarithm of each element to the base: the least exponent to which the power of the base is
+    /// the element, found in as many steps as the greatest prime factor of the order of the base is. BF_UNSOLVABLE
+    /// unless each element is a power of the base. BF_LENGTH unless values and logarithms have one length.
+    /// BF_NOT_AN_ELEMENT unless each word that is read is below 2^degree.
+    pub fn bf_field_logarithm(
+        field: *const [u64; 5],
+        values: *const [u64; 2],
+        values_length: usize,
+        base: *const [u64; 2],
+        logarithms: *mut [u64; 2],
+        logarithms_length: usize,
+    ) -> u32;
     /// root: an element of target that is a root of the modulus of source, by which bf_field_embed takes elements of
     /// source to target. BF_UNSOLVABLE unless the degree of source divides that of target.
     pub fn bf_field_embedding(
@@ -3287,6 +3299,19 @@ unsafe extern "C" {
         sums: *mut u8,
         sums_length: usize,
     ) -> u32;
+    /// The tables of the missing shards, by which bf_rs_reconstruct_prepared and bf_rs_reconstruct_data_prepared
+    /// restore them in every stripe that lacks the same ones; they have as many bytes as those of the code, whatever
+    /// shards are missing, and of the bytes behind them nothing is said. BF_CODE if data and parity are not both at
+    /// least 1 and together at most 256. BF_LENGTH unless tables has the bytes that bf_rs_tables_length gives, and
+    /// present has data + parity. BF_TOO_FEW_SHARDS unless at least as many entries of present as data are not 0.
+    pub fn bf_rs_prepare_reconstruct(
+        data: usize,
+        parity: usize,
+        present: *const u8,
+        present_length: usize,
+        tables: *mut u8,
+        tables_length: usize,
+    ) -> u32;
     /// Writes the missing shards: shard i is missing where present\[i\] is 0. BF_CODE if data and parity are not both
     /// at least 1 and together at most 256. BF_LENGTH unless shards has a multiple, but not 0, of data + parity
     /// bytes, and present has data + parity. BF_TOO_FEW_SHARDS unless at least as many entries of present as data are
@@ -3305,6 +3330,35 @@ unsafe extern "C" {
     pub fn bf_rs_reconstruct_data(
         data: usize,
         parity: usize,
+        shards: *mut u8,
+        shards_length: usize,
+        present: *const u8,
+        present_length: usize,
+    ) -> u32;
+    /// Writes the missing shards, as bf_rs_reconstruct does, by the tables that bf_rs_prepare_reconstruct wrote for
+    /// this code and these flags; by other bytes it writes missing shards of which nothing is said, and those present
+    /// stay. BF_CODE if data and parity are not both at least 1 and together at most 256. BF_LENGTH unless tables has
+    /// the bytes that bf_rs_tables_length gives, shards a multiple, but not 0, of data + parity, and present data +
+    /// parity. BF_TOO_FEW_SHARDS unless at least as many entries of present as data are not 0.
+    pub fn bf_rs_reconstruct_prepared(
+        data: usize,
+        parity: usize,
+        tables: *const u8,
+        tables_length: usize,
+        shards: *mut u8,
+        shards_length: usize,
+        present: *const u8,
+        present_length: usize,
+    ) -> u32;
+    /// Writes the missing shards of data alone, by the same tables. BF_CODE if data and parity are not both at least
+    /// 1 and together at most 256. BF_LENGTH unless tables has the bytes that bf_rs_tables_length gives, shards a
+    /// multiple, but not 0, of data + parity, and present data + parity. BF_TOO_FEW_SHARDS unless at least as many
+    /// entries of present as data are not 0.
+    pub fn bf_rs_reconstruct_data_prepared(
+        data: usize,
+        parity: usize,
+        tables: *const u8,
+        tables_length: usize,
         shards: *mut u8,
         shards_length: usize,
         present: *const u8,
@@ -3418,6 +3472,134 @@ unsafe extern "C" {
         syndromes: *mut u8,
         syndromes_length: usize,
         corrected: *mut bool,
+        corrected_length: usize,
+    ) -> u32;
+    /// Writes the symbols behind the data of each word, so that it is a word of the code; what stood there is not
+    /// read. BF_REDUCIBLE unless field is what bf_field_init made. BF_CODE if the field has more than 65536 elements,
+    /// data is 0 or not below symbols, symbols is above 65535, root is 0 or no element, or a power of it with an
+    /// exponent from 1 to symbols - 1 is 1. BF_LENGTH unless words has a multiple of symbols, and space symbols -
+    /// data + 1. BF_NOT_AN_ELEMENT unless each symbol of data is an element.
+    pub fn bf_field_code_encode(
+        field: *const [u64; 5],
+        symbols: usize,
+        data: usize,
+        first_root: u64,
+        root: u64,
+        words: *mut u16,
+        words_length: usize,
+        space: *mut u16,
+        space_length: usize,
+    ) -> u32;
+    /// syndromes: the values of each word at the roots, that at the first root first; symbols - data of them a word.
+    /// BF_REDUCIBLE unless field is what bf_field_init made. BF_CODE if the field has more than 65536 elements, data
+    /// is 0 or not below symbols, symbols is above 65535, root is 0 or no element, or a power of it with an exponent
+    /// from 1 to symbols - 1 is 1. BF_LENGTH unless words has a multiple of symbols, and syndromes symbols - data for
+    /// each word. BF_NOT_AN_ELEMENT unless each symbol is an element.
+    pub fn bf_field_code_syndromes(
+        field: *const [u64; 5],
+        symbols: usize,
+        data: usize,
+        first_root: u64,
+        root: u64,
+        words: *const u16,
+        words_length: usize,
+        syndromes: *mut u16,
+        syndromes_length: usize,
+    ) -> u32;
+    /// flags: 1 for each word that is one of the code, 0 for each other. BF_REDUCIBLE unless field is what
+    /// bf_field_init made. BF_CODE if the field has more than 65536 elements, data is 0 or not below symbols, symbols
+    /// is above 65535, root is 0 or no element, or a power of it with an exponent from 1 to symbols - 1 is 1.
+    /// BF_LENGTH unless words has a multiple of symbols, and flags one for each word. BF_NOT_AN_ELEMENT unless each
+    /// symbol is an element.
+    pub fn bf_field_code_are_words(
+        field: *const [u64; 5],
+        symbols: usize,
+        data: usize,
+        first_root: u64,
+        root: u64,
+        words: *const u16,
+        words_length: usize,
+        flags: *mut u8,
+        flags_length: usize,
+    ) -> u32;
+    /// Corrects each word as bf_code_correct does, and writes how many of its symbols changed, or 65535 where it is
+    /// near to no word of the code. A bool is the byte 0 or 1, before the call too. BF_REDUCIBLE unless field is what
+    /// bf_field_init made. BF_CODE if the field has more than 65536 elements, data is 0 or not below symbols, symbols
+    /// is above 65535, root is 0 or no element, or a power of it with an exponent from 1 to symbols - 1 is 1.
+    /// BF_LENGTH unless words has a multiple of symbols, erasures as many bytes or none, corrected one for each word,
+    /// space 2 * symbols + 5 * (symbols - data) + 3, marks 2 * symbols, and places symbols. BF_NOT_AN_ELEMENT unless
+    /// each symbol is an element.
+    pub fn bf_field_code_correct(
+        field: *const [u64; 5],
+        symbols: usize,
+        data: usize,
+        first_root: u64,
+        root: u64,
+        words: *mut u16,
+        words_length: usize,
+        erasures: *const u8,
+        erasures_length: usize,
+        corrected: *mut u16,
+        corrected_length: usize,
+        space: *mut u16,
+        space_length: usize,
+        marks: *mut bool,
+        marks_length: usize,
+        places: *mut usize,
+        places_length: usize,
+    ) -> u32;
+    /// data: how many bits of a word are data: all but one for each root and each square of a root, of a square and
+    /// so on. BF_CODE if modulus is none of those above, errors is 0, 2 * errors is not below bits, bits is above
+    /// 255, a power of g^root_step with an exponent from 1 to bits - 1 is 1, or no bits are left for data.
+    pub fn bf_bch_data(
+        modulus: u64,
+        bits: usize,
+        errors: usize,
+        root_step: u64,
+        data: *mut u64,
+    ) -> u32;
+    /// Writes the bits behind the data of each word, so that it is a word of the code; what stood there is not read.
+    /// BF_CODE if modulus is none of those above, errors is 0, 2 * errors is not below bits, bits is above 255, a
+    /// power of g^root_step with an exponent from 1 to bits - 1 is 1, or no bits are left for data. BF_LENGTH unless
+    /// words has a multiple of bits. BF_NOT_AN_ELEMENT unless each byte of data is 0 or 1.
+    pub fn bf_bch_encode(
+        modulus: u64,
+        bits: usize,
+        errors: usize,
+        root_step: u64,
+        words: *mut u8,
+        words_length: usize,
+    ) -> u32;
+    /// flags: 1 for each word that is one of the code, 0 for each other; a byte above 1 is in no word. BF_CODE if
+    /// modulus is none of those above, errors is 0, 2 * errors is not below bits, bits is above 255, a power of
+    /// g^root_step with an exponent from 1 to bits - 1 is 1, or no bits are left for data. BF_LENGTH unless words has
+    /// a multiple of bits, and flags one for each word.
+    pub fn bf_bch_are_words(
+        modulus: u64,
+        bits: usize,
+        errors: usize,
+        root_step: u64,
+        words: *const u8,
+        words_length: usize,
+        flags: *mut u8,
+        flags_length: usize,
+    ) -> u32;
+    /// corrected: corrects each word, and writes how many of its bits changed; a bit is erased where its byte of
+    /// erasures is not 0. A word becomes the only word of the code from which it differs at t places beside e erased
+    /// ones, with t + e / 2 at most errors. Where there is none it stays, and corrected is 65535. BF_CODE if modulus
+    /// is none of those above, errors is 0, 2 * errors is not below bits, bits is above 255, a power of g^root_step
+    /// with an exponent from 1 to bits - 1 is 1, or no bits are left for data. BF_LENGTH unless words has a multiple
+    /// of bits, erasures as many or none, and corrected one for each word.
+    pub fn bf_bch_correct(
+        modulus: u64,
+        bits: usize,
+        errors: usize,
+        root_step: u64,
+        words: *mut u8,
+        words_length: usize,
+        erasures: *const u8,
+        erasures_length: usize,
+        corrected: *mut u16,
         corrected_length: usize,
     ) -> u32;
     /// length: how many words of space each call of the code takes: 40 times the least power of two that is at least

@@ -38,6 +38,7 @@ extern crate alloc;
 mod field_macros;
 
 mod aes;
+mod binary_codes;
 pub mod bit_matrices;
 mod bits;
 mod bytes;
@@ -48,6 +49,7 @@ mod erasure;
 #[rustfmt::skip]
 mod error;
 mod field;
+mod field_codes;
 #[rustfmt::skip]
 mod fields;
 #[rustfmt::skip]
@@ -73,16 +75,21 @@ mod text;
 mod words;
 
 pub use aes::{ByteMatrix, LinearizedPoly8b};
+pub use binary_codes::BinaryBch;
 pub use bits::{
     Divisible, M128, M256, M512, PackedGf2, PackedGf2x8, PackedGf2x16, PackedGf2x32, PackedGf2x64,
     PackedGf2x128, PackedGf2x256, PackedGf2x512, Underlier, Word,
 };
-pub use bytes::{Ghash, Polyval, Prepared, ReedSolomon, gcm_ghash, ghash, polyval, tags_are_equal};
+pub use bytes::{
+    Ghash, Polyval, Prepared, PreparedReconstruct, ReedSolomon, gcm_ghash, ghash, polyval,
+    tags_are_equal,
+};
 pub use challenger::BinaryChallenger;
 pub use codes::{CorrectingCode, NOT_CORRECTED};
 pub use erasure::TransformCode;
 pub use error::Error;
 pub use field::Field;
+pub use field_codes::FieldCode;
 pub use fields::{
     BinaryField2, BinaryField4, BinaryField8, BinaryField16, BinaryField32, BinaryField64,
     BinaryField128, Gf2, Ghash128, Poly64, Poly192, Rijndael8b,

@@ -409,6 +409,35 @@ fn tags_in_pieces(key: &[u8; 16], text: &[u8; 16]) {
     assert_eq!(empty.finalize(), [0; 16]);
 }
 
+// Missing shards that are restored by tables that were made before.
+fn restored_by_tables(code: ReedSolomon, whole: &[u8; 12]) {
+    let (mut tables, mut shards) = ([0; 256], *whole);
+    let present = [false, true, true, false];
+    assert!(
+        code.prepare_reconstruct(&present, &mut tables[..255])
+            .is_err()
+    );
+    assert!(
+        code.prepare_reconstruct(&present[..3], &mut tables)
+            .is_err()
+    );
+    assert_eq!(
+        code.prepare_reconstruct(&[false, false, false, true], &mut tables)
+            .err(),
+        Some(Error::TooFewShards)
+    );
+    let prepared = code.prepare_reconstruct(&present, &mut tables).unwrap();
+    shards[..3].fill(0);
+    shards[9..].fill(0);
+    prepared.reconstruct_data(&mut shards).unwrap();
+    assert_eq!((&shards[..9], &shards[9..]), (&whole[..9], &[0; 3][..]));
+    shards[..3].fill(0);
+    prepared.reconstruct(&mut shards).unwrap();
+    assert_eq!(&shards, whole);
+    assert_eq!(prepared.reconstruct(&mut shards[..5]), Err(Error::Length));
+    assert_eq!(prepared.code(), code);
+}
+
 // Shards that stand apart, restored where they stand.
 fn shards_apart(code: ReedSolomon, whole: &[u8; 12]) {
     let mut shards: Vec<Vec<u8>> = whole.chunks(3).map(<[u8]>::to_vec).collect();
@@ -500,6 +529,7 @@ fn tags_and_codes() {
     assert_eq!((shards, prepared.verify(&whole)), (whole, Ok(true)));
     assert_eq!(prepared.encode(&mut shards[..5]), Err(Error::Length));
     assert_eq!(prepared.code(), code);
+    restored_by_tables(code, &whole);
     let (mut first, mut second) = ([9; 3], [9; 3]);
     prepared
         .encode_shards(

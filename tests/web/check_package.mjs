@@ -137,6 +137,38 @@ test("codes", () => {
   assert.throws(() => bf.ReedSolomon.reconstruct(4, 2, damaged, [0, 0, 0, 1, 1, 1]), { code: "BF_TOO_FEW_SHARDS" });
 });
 
+test("codes that correct errors", () => {
+  const dvb = bf.correcting.overBytes({ symbols: 204, data: 188 });
+  // The field of PAR2, and that of 16 elements, whose words are those of bits below.
+  const wide = bf.correcting.overField({ degree: 16, tail: 0x100b, symbols: 20, data: 12 });
+  const bits = bf.correcting.binary({ bits: 15, errors: 3, rootStep: 17 });
+  assert.deepEqual([dvb.data, wide.symbols, bits.data], [188, 20, 5]);
+  for (const [code, words] of [[dvb, new Uint8Array(408)], [wide, new Uint16Array(40)], [bits, new Uint8Array(30)]]) {
+    const sent = code.encode(words.map((_, at) => (code === bits ? at % 2 : at)));
+    const read = sent.slice();
+    read[1] ^= 1;
+    read[code.symbols - 1] ^= 1;
+    assert.deepEqual(code.areWords(read), [false, true]);
+    assert.deepEqual(code.correct(read), [2, 0]);
+    assert.deepEqual(read, sent);
+    const erased = sent.map((_, at) => (at < 6 ? 1 : 0));
+    const torn = sent.map((it, at) => (at < 6 ? 0 : it));
+    code.correct(torn, erased);
+    assert.deepEqual(torn, sent);
+    assert.deepEqual(code.correct(sent.slice(), sent.map(() => 1)), [-1, -1]);
+  }
+  // As libfec 1.0 writes it.
+  const data = [0x9e3e, 0x3c75, 0xdaac, 0x78e3, 0x171a, 0xb551, 0x5388, 0xf1bf, 0x8ff6, 0x2e2d, 0xcc64, 0x6a9b];
+  const checks = [0x9824, 0x2364, 0x04f9, 0xf876, 0x097f, 0x40e2, 0xc20c, 0xcb02];
+  assert.deepEqual([...wide.encode(Uint16Array.of(...data, 0, 0, 0, 0, 0, 0, 0, 0)).slice(12)], checks);
+  assert.throws(() => bf.correcting.overBytes({ symbols: 256, data: 3 }), { code: "BF_CODE" });
+  assert.throws(() => bf.correcting.overField({ degree: 4, tail: 3, symbols: 16, data: 3 }), { code: "BF_CODE" });
+  assert.throws(() => bf.correcting.overField({ degree: 4, tail: 5, symbols: 5, data: 3 }), { code: "BF_REDUCIBLE" });
+  assert.throws(() => bf.correcting.binary({ bits: 16, errors: 3, rootStep: 17 }), { code: "BF_CODE" });
+  assert.throws(() => bits.encode(new Uint8Array(15).fill(2)), { code: "BF_NOT_AN_ELEMENT" });
+  assert.throws(() => wide.correct(new Uint16Array(21)), { code: "BF_LENGTH" });
+});
+
 test("shares of a secret", () => {
   const secret = bytes(100);
   for (const field of ["aes", "gfshare"]) {

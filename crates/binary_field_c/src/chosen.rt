@@ -1,7 +1,7 @@
 // Calls over slices of elements of a field that the caller chooses.
 // Written by scripts/make_c_exports.py; do not edit.
-ghost use Rattle.c_calls.specs.ChosenFields.{EmbedsOver, FindsARootOver, OverField, PreparesField, TakesPrimitive, TakesQuotients};
-ghost use Rattle.c_calls.specs.ChosenFields.{TakesTraces, chosen_field};
+ghost use Rattle.c_calls.specs.ChosenFields.{EmbedsOver, FindsARootOver, OverField, PreparesField, TakesLogarithms, TakesPrimitive};
+ghost use Rattle.c_calls.specs.ChosenFields.{TakesQuotients, TakesTraces, chosen_field};
 ghost use Rattle.c_calls.specs.Calls.{Adds, Evaluates, Inverts, Multiplies, MultipliesBy, RaisesTo, Squares, TakesDotProduct};
 ghost use Rattle.c_calls.specs.Calls.{TakesRoots};
 ghost use Rattle.c_calls.specs.Fields.{wide_number};
@@ -162,6 +162,21 @@ pub extern "C" fn bf_field_primitive_element(field: &ChosenField, element: &mut 
     ensures { OverField field.now (TakesPrimitive (chosen_field field.now) element.old element.new result) element.old element.new result }
 {
     c_calls::fields::primitive_element(*field, element)
+}
+
+/// The logarithm of each element to the base: the least exponent to which the power of the base is the element, found in as many steps as
+/// the greatest prime factor of the order of the base is.
+#[unsafe(no_mangle)]
+pub extern "C" fn bf_field_logarithm(
+    field: &ChosenField,
+    values: &[Wide],
+    base: &Wide,
+    logarithms: &mut [Wide],
+) -> u32
+    ensures { OverField field.now (TakesLogarithms (chosen_field field.now) base.now values.now
+        logarithms.old logarithms.new result) logarithms.old logarithms.new result }
+{
+    c_calls::fields::logarithm(*field, values, *base, logarithms)
 }
 
 /// An element of target that is a root of the modulus of source, by which field_embed takes elements of source to target.

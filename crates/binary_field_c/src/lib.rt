@@ -3,11 +3,13 @@
 //! returns a status, and no call has a condition that its caller could break.
 #![tactic(auto)]
 
+mod binary_codes;
 mod bit_matrices;
 mod changes;
 mod chosen;
 mod codes;
 mod erasure;
+mod field_codes;
 mod g128;
 mod gf2;
 mod linear;

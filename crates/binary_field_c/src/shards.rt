@@ -1,8 +1,8 @@
 // Calls over shards, which stand one after the other and have one size: those of data, and then those of parity.
 // Written by scripts/make_c_exports.py; do not edit.
 ghost use Rattle.std.specs.Prelude.{◌+◌, length};
-ghost use Rattle.c_calls.specs.Bytes.{AddsOneMultiple, AddsOneShard, Encodes, EncodesPrepared, Prepares, Reconstructs, TellsFactors};
-ghost use Rattle.c_calls.specs.Bytes.{TellsTablesLength, Verifies, VerifiesPrepared};
+ghost use Rattle.c_calls.specs.Bytes.{AddsOneMultiple, AddsOneShard, Encodes, EncodesPrepared, Prepares, PreparesMissing};
+ghost use Rattle.c_calls.specs.Bytes.{Reconstructs, ReconstructsPrepared, TellsFactors, TellsTablesLength, Verifies, VerifiesPrepared};
 
 /// Writes the shards of parity, which stand behind those of data; all shards stand one after the other and have one size.
 #[unsafe(no_mangle)]
@@ -130,4 +130,48 @@ pub extern "C" fn bf_rs_reconstruct_data(
     ensures { Reconstructs «data» parity «data» present.now shards.old shards.new result }
 {
     c_calls::reconstruct_data(data, parity, shards, present)
+}
+
+/// The tables of the missing shards, by which rs_reconstruct_prepared and rs_reconstruct_data_prepared restore them in every stripe that
+/// lacks the same ones; they have as many bytes as those of the code, whatever shards are missing, and of the bytes behind them nothing is
+/// said.
+#[unsafe(no_mangle)]
+pub extern "C" fn bf_rs_prepare_reconstruct(
+    data: u64,
+    parity: u64,
+    present: &[u8],
+    tables: &mut [u8],
+) -> u32
+    ensures { PreparesMissing «data» parity present.now tables.old tables.new result }
+{
+    c_calls::prepare_reconstruct(data, parity, present, tables)
+}
+
+/// Writes the missing shards, as rs_reconstruct does, by the tables that rs_prepare_reconstruct wrote for this code and these flags; by
+/// other bytes it writes missing shards of which nothing is said, and those present stay.
+#[unsafe(no_mangle)]
+pub extern "C" fn bf_rs_reconstruct_prepared(
+    data: u64,
+    parity: u64,
+    tables: &[u8],
+    shards: &mut [u8],
+    present: &[u8],
+) -> u32
+    ensures { ReconstructsPrepared «data» parity («data» + parity) present.now tables.now shards.old shards.new result }
+{
+    c_calls::reconstruct_prepared(data, parity, tables, shards, present)
+}
+
+/// Writes the missing shards of data alone, by the same tables.
+#[unsafe(no_mangle)]
+pub extern "C" fn bf_rs_reconstruct_data_prepared(
+    data: u64,
+    parity: u64,
+    tables: &[u8],
+    shards: &mut [u8],
+    present: &[u8],
+) -> u32
+    ensures { ReconstructsPrepared «data» parity «data» present.now tables.now shards.old shards.new result }
+{
+    c_calls::reconstruct_data_prepared(data, parity, tables, shards, present)
 }

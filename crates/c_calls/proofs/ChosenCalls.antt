@@ -1,8 +1,13 @@
 -- Calls over a field by its words, once these were read.
-use Rattle.std.proofs.Common.{◌≡◌, ◌≢◌, ℕ, ◌%◌, ◌^◌, ◌<◌, List, ap, arith, refl, sym, ◌∙◌, subst}
+use Rattle.std.proofs.Common.{◌≡◌, ◌≢◌, ℕ, ◌%◌, ◌^◌, ◌<◌, List, get_or, length, map, ap, arith, refl, sym, ◌∙◌, subst}
+use Rattle.std.specs.Prelude.{slice_index}
+use Rattle.std.specs.Simd.Lanes.{zip2}
+use Rattle.std.proofs.lemmas.List.{get_or_default}
 use Rattle.std.proofs.lemmas.Nat.{pow_pos}
 use native.Mathlib.Nat.{mod-lt}
 use Rattle.field_base.specs.Orders.{HasFullOrder}
+use Rattle.field_base.proofs.Places.{number-at}
+use Rattle.field_base.proofs.Written.{both-at}
 use Rattle.any_field.specs.Contexts.{field_product, with_top}
 use Rattle.any_field.specs.Orders.{TableIsPrime}
 use Rattle.any_field.specs.Values.{IsEmbeddingOf, binary_value}
@@ -163,3 +168,20 @@ primitive-found degree tail found new is full least =
       none = λ other. absurd (other refl);
       kept = λ other. absurd (other refl);
     }
+
+-- ---- products
+
+-- products of lists are those at each place
+pub products-at : (times : ℕ → ℕ → ℕ) (xs ys new : List Wide) → length xs ≡ length new → length ys ≡ length new
+    → map wide_number new ≡ zip2 times (map wide_number xs) (map wide_number ys)
+    → (k : ℕ) → k < length new → (d : Wide) → wide_number (get_or new k d) ≡ times (wide_number (get_or xs k d)) (wide_number (get_or ys k d))
+products-at times xs ys new long also are k within d =
+    let left : k < length xs = omega (arith, long, within) in
+    let right : k < length ys = omega (arith, also, within) in
+    let x = get_or xs k d in
+    let y = get_or ys k d in
+    let z = get_or new k d in
+    sym (number-at wide_number new k z within (get_or_default new k d z within))
+    ∙ ap (λ (zs : List ℕ). slice_index zs k) are
+    ∙ sym (both-at wide_number wide_number times xs ys k (wide_number x) y left right
+    (sym (number-at wide_number xs k x left (get_or_default xs k d x left))) (get_or_default ys k d y right))

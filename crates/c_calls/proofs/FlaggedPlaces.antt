@@ -1,5 +1,5 @@
 -- The places of symbols that are flagged, as a list, and words that are corrected with these as the erased ones.
-use Rattle.std.proofs.Common.{◌≡◌, ◌≢◌, ◌⊎◌, inl, inr, ℕ, suc, ◌+◌, ◌-◌, ◌*◌, ◌<◌, ◌≤◌, Bool, true, false, List, [], ◌∷◌, ◌++◌, length}
+use Rattle.std.proofs.Common.{◌≡◌, ◌≢◌, ◌⊎◌, inl, inr, ℕ, suc, ◌+◌, ◌-◌, ◌*◌, ◌<◌, ◌≤◌, Bool, true, false, cond, List, [], ◌∷◌, ◌++◌, length}
 use Rattle.std.proofs.Common.{take, drop, set, refl, sym, subst, ◌∙◌, ap, ap₂, arith, below_more}
 use Rattle.std.specs.Prelude.{◌||◌, ◌&&◌, min, nat_eq, not, slice_index}
 use Rattle.std.proofs.Math.Bool.{or-false, or-true, or_assoc}
@@ -8,8 +8,9 @@ use Rattle.std.proofs.lemmas.List.{get_or_past, length-drop, nil_from_length}
 use Rattle.std.proofs.Math.Nat.{min-eq_left, min-eq_right}
 use lib.Seq.{take_all, take-suc-set}
 use Rattle.proximity.specs.Marks.{marked_below}
+use Rattle.proximity.proofs.Counting.{total-add, total-most}
 use Rattle.proximity.proofs.Counts.{unmarked-count}
-use Rattle.error_codes.specs.Correcting.{IsMeant, is_listed}
+use Rattle.error_codes.specs.Correcting.{IsMeantIn, is_listed}
 use Rattle.error_codes.specs.Words.{is_wrong}
 use Rattle.error_codes.proofs.Meanings.{marks-same}
 use Rattle.c_calls.specs.Codes.{is_flagged, nth_word}
@@ -89,10 +90,10 @@ pub marks-fit : (a : ℕ → Bool) (n : ℕ) → marked_below a n ≤ n
 marks-fit a n = let both = unmarked-count a n in omega (arith, both)
 
 -- a word is meant by any list of the same places
-pub meant-again : (times : ℕ → ℕ → ℕ) (root first n checks : ℕ) (received sent ps qs : List ℕ)
-    → ((i : ℕ) → i < n → is_listed ps i ≡ is_listed qs i) → IsMeant times root first n checks received ps sent
-    → IsMeant times root first n checks received qs sent
-meant-again times root first n checks received sent ps qs same meant =
+pub meant-again : (width : ℕ) (times : ℕ → ℕ → ℕ) (root first n checks : ℕ) (received sent ps qs : List ℕ)
+    → ((i : ℕ) → i < n → is_listed ps i ≡ is_listed qs i) → IsMeantIn width times root first n checks received ps sent
+    → IsMeantIn width times root first n checks received qs sent
+meant-again width times root first n checks received sent ps qs same meant =
     let near = meant.near in
     let erased = marks-same (is_listed ps) (is_listed qs) n same in
     let wrong =
@@ -134,3 +135,28 @@ pub flags_word : (n size i from to : ℕ) (xs : List ℕ) → size ≡ n → fro
 flags_word n size i from to xs same from_is to_is =
     ap₂ (λ (a b : ℕ). take (b - a) (drop a xs)) from_is to_is ∙ flags_read (i * size) (i * size + size) size xs refl
     ∙ ap (λ (s : ℕ). nth_word s i xs) same
+
+-- ---- how many symbols change
+
+-- a word that is meant differs at no more places than there are checks
+pub changed-few : (width : ℕ) (times : ℕ → ℕ → ℕ) (root first n checks : ℕ) (received places sent : List ℕ)
+    → IsMeantIn width times root first n checks received places sent
+    → marked_below (λ i. not (nat_eq (slice_index received i) (slice_index sent i))) n ≤ checks
+changed-few width times root first n checks received places sent meant =
+    let near = meant.near in
+    let some = total-most (λ i. cond (differs i) 1 0) (λ i. cond (wrong i) 1 0 + cond (is_listed places i) 1 0) n
+    (λ i below. either (differs i) (is_listed places i)) in
+    let both = total-add (λ i. cond (wrong i) 1 0) (λ i. cond (is_listed places i) 1 0) n in
+    omega (arith, near, some, both)
+  where
+    differs : ℕ → Bool
+    differs i = not (nat_eq (slice_index received i) (slice_index sent i))
+
+    wrong : ℕ → Bool
+    wrong = is_wrong (λ i. i) (slice_index received) (is_listed places) (slice_index sent)
+
+    either : (a e : Bool) → cond a 1 0 ≤ cond (not e && a) 1 0 + cond e 1 0
+    either true true = omega arith
+    either true false = omega arith
+    either false true = omega arith
+    either false false = omega arith

@@ -15,7 +15,7 @@ module _ (times : ℕ → ℕ → ℕ) (root first n checks : ℕ) (flags places
       record {
         found = λ sent meant.
             settled.found sent
-            (meant-again times root first n checks old sent meant.0 places (λ i below. meant.1 i below ∙ sym (listed i)) meant.2);
+            (meant-again 8 times root first n checks old sent meant.0 places (λ i below. meant.1 i below ∙ sym (listed i)) meant.2);
         right = λ is. (places, (λ i below. listed i), settled.right is);
         kept = settled.kept;
       }

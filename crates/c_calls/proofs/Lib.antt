@@ -1,5 +1,8 @@
+mod BinaryCalls
 mod Calls
 mod ChosenCalls
+mod LogarithmCalls
+mod CodeCalls
 mod Endings
 mod Equations
 mod ErasureCounts

@@ -4,7 +4,7 @@ use Rattle.std.proofs.Common.{refl, sym, subst, ◌∙◌, ap, arith, below_more
 use Rattle.std.specs.Prelude.{◌↔◌, slice_index}
 use Rattle.std.proofs.Math.Nat.{div-mul-le_self, mul-le-mul_right, suc-mul}
 use Rattle.std.proofs.lemmas.Bool.{cases_Bool, cases_lt}
-use Rattle.std.proofs.lemmas.List.{get_or-set_other, get_or-set_same, get_or-take, length-drop, length-set, take-append-drop}
+use Rattle.std.proofs.lemmas.List.{get_or-drop, get_or-set_other, get_or-set_same, get_or-take, length-drop, length-set, take-append-drop}
 use mir.Val.{bool_byte}
 use borrow.Rule.Slice.PartMut.{mid_of, put_mid, drop_put, same_len_mid, take_put}
 use lib.Seq.{drop_at, drop-drop, length-take-le, take_at, take-append-le, drop-append-le}
@@ -198,3 +198,50 @@ pub words-mapped : (n : ℕ) (before after : ℕ → List ℕ → List ℕ → T
     → WordsChanged n before old now count → WordsChanged n after old now count
 words-mapped n before after old now count step so_far =
     record { long = so_far.long; done = λ i below. step i below (so_far.done i below); rest = so_far.rest }
+
+-- ---- symbols below a bound
+
+-- symbol j of word i
+pub word_symbol : (n i j : ℕ) (xs : List ℕ) → j < n → slice_index (nth_word n i xs) j ≡ slice_index xs (i * n + j)
+word_symbol n i j xs below = get_or-take n (drop (i * n) xs) j 0 below ∙ get_or-drop (i * n) xs j 0
+
+-- all symbols are below a bound, and so are those of a word
+pub word_below : (n i b : ℕ) (xs : List ℕ) → i * n + n ≤ length xs → ((k : ℕ) → k < length xs → slice_index xs k < b)
+    → (j : ℕ) → j < n → slice_index (nth_word n i xs) j < b
+word_below n i b xs inside all j below =
+    subst (λ (v : ℕ). v < b) (sym (word_symbol n i j xs below)) (all (i * n + j) (omega (arith, inside, below)))
+
+module _ (n size k i b : ℕ) (xs : List ℕ) (same : size ≡ n) (few : k ≤ n) (below : i < length xs / n) where
+  -- the first symbols of a word, as they are read
+  abbrev Part : List ℕ
+  Part = mid_of (i * size) (i * size + k - i * size) xs
+
+  part-is : Part ≡ take k (drop (i * n) xs)
+  part-is =
+      let taken : i * size + k - i * size ≡ k = omega arith in
+      ap (λ (m : ℕ). take m (drop (i * size) xs)) taken ∙ ap (λ (s : ℕ). take k (drop (i * s) xs)) same
+
+  part-long : length Part ≡ k
+  part-long =
+      let inside = word_inside n (length xs) i below in
+      let left = length-drop (i * n) xs in
+      ap (λ (ys : List ℕ). length ys) part-is ∙ length-take-le k (drop (i * n) xs) (omega (arith, left, inside, few))
+
+  part-symbol : (j : ℕ) → j < k → slice_index Part j ≡ slice_index (nth_word n i xs) j
+  part-symbol j within =
+      ap (λ (ys : List ℕ). slice_index ys j) part-is ∙ get_or-take k (drop (i * n) xs) j 0 within
+      ∙ sym (get_or-take n (drop (i * n) xs) j 0 (omega (arith, within, few)))
+
+  pub part-seen : ((j : ℕ) → j < length Part → slice_index Part j < b) → (j : ℕ) → j < k → slice_index (nth_word n i xs) j < b
+  part-seen all j within =
+      subst (λ (v : ℕ). v < b) (part-symbol j within) (all j (omega (arith, within, part-long)))
+
+  pub part-shown : ((j : ℕ) → j < k → slice_index (nth_word n i xs) j < b) → (j : ℕ) → j < length Part → slice_index Part j < b
+  part-shown all j within =
+      let inside : j < k = omega (arith, within, part-long) in
+      subst (λ (v : ℕ). v < b) (sym (part-symbol j inside)) (all j inside)
+
+-- a word that is not yet changed is as it was
+pub word_waits : (n i : ℕ) (relates : ℕ → List ℕ → List ℕ → Type 0) (old now : List ℕ) → WordsChanged n relates old now i
+    → nth_word n i now ≡ nth_word n i old
+word_waits n i relates old now so_far = ap (λ (zs : List ℕ). take n zs) so_far.rest

@@ -1,6 +1,7 @@
 -- Calls over messages and over shards.
 use Rattle.std.specs.Prelude.{◌≡◌, ◌≢◌, ℕ, ◌+◌, ◌*◌, ◌/◌, ◌<◌, ◌≤◌, Bool, not, nat_eq, List, [], length, map, take}
 use Rattle.reed_solomon.specs.Adding.{AddsMultiple, AddsShard, MakeShard}
+use Rattle.reed_solomon.specs.Missing.{AreReconstructedBy, HaveMissingTables}
 use Rattle.reed_solomon.specs.Parity.{HaveParityTables, tables_length}
 use Rattle.reed_solomon.specs.Shards.{AreCodewords, IsEncoded, IsPresent, IsReconstructed, present_count}
 use Rattle.reed_solomon.specs.Sizes.{HasShardSize}
@@ -122,3 +123,17 @@ Reconstructs k parity until present old new status =
     CallOfCode (IsCode k parity) ((length present ≡ k + parity) × HasShardSize (k + parity) (length old))
     (k ≤ present_count (flags_of present))
     (IsReconstructed k (k + parity) (length old / (k + parity)) until (flags_of present) old new) old new status
+
+-- a call that writes the tables of the missing shards
+abbrev pub PreparesMissing : ℕ → ℕ → List ℕ → List ℕ → List ℕ → ℕ → Type 0
+PreparesMissing k parity present old new status =
+    CallOfCode (IsCode k parity) ((length old ≡ tables_length k parity) × (length present ≡ k + parity)) (k ≤ present_count (flags_of present))
+    (HaveMissingTables k (k + parity) (flags_of present) new × (length new ≡ length old)) old new status
+
+-- the missing shards before shard `until` are restored, where these are the tables of the missing shards. The others stay by any tables
+abbrev pub ReconstructsPrepared : ℕ → ℕ → ℕ → List ℕ → List ℕ → List ℕ → List ℕ → ℕ → Type 0
+ReconstructsPrepared k parity until present tables old new status =
+    CallOfCode (IsCode k parity)
+    ((length tables ≡ tables_length k parity) × (length present ≡ k + parity) × HasShardSize (k + parity) (length old))
+    (k ≤ present_count (flags_of present))
+    (AreReconstructedBy k parity until (flags_of present) tables old new) old new status

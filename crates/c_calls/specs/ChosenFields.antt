@@ -1,13 +1,15 @@
 -- What calls over a field that the caller chooses do: fields modulo any irreducible polynomial of degree 1 to 128, by words that the caller keeps.
-use Rattle.std.specs.Prelude.{◌≡◌, ◌≢◌, ℕ, ◌%◌, ◌^◌, ◌<◌, List}
+use Rattle.std.specs.Prelude.{◌≡◌, ◌≢◌, ℕ, ◌%◌, ◌^◌, ◌<◌, List, get_or, length}
 use Rattle.field_base.specs.Orders.{HasFullOrder}
-use Rattle.field_base.specs.Powers.{sum_of_squarings}
+use Rattle.field_base.specs.Powers.{power, sum_of_squarings}
 use Rattle.any_field.specs.Contexts.{IsFieldModulus, field_product, with_top}
 use Rattle.any_field.specs.Orders.{TableIsPrime}
 use Rattle.any_field.specs.Values.{IsEmbeddingOf, binary_value}
 use Rattle.many_words.specs.Fields.{WordField, field_of}
+use Rattle.many_words.specs.Words.{AreElements, Each, IsElement}
 use Rattle.c_calls.specs.Calls.{CallOnEach, CallOnTwo}
 use Rattle.c_calls.specs.Fields.{wide_number}
+use Rattle.c_calls.specs.Matrices.{CallOnEquations}
 use Rattle.c_calls.specs.declared.field_words.ChosenField.{ChosenField}
 use Rattle.c_calls.specs.declared.status.TheConstants.{OK, REDUCIBLE, UNSOLVABLE}
 use Rattle.c_calls.specs.declared.wide.Wide.{Wide}
@@ -53,6 +55,20 @@ pub record TakesPrimitive (field : WordField Wide) (old new : Wide) (status : �
   pub least : status ≡ OK → (y : ℕ) → y < wide_number new → HasFullOrder field.width field.times y → ⊥
   pub none : status ≢ OK → (status ≡ UNSOLVABLE) × ((y : ℕ) → y < 65536 → HasFullOrder field.width field.times y → ⊥)
   pub kept : status ≢ OK → new ≡ old
+
+-- an exponent to which the power of the base is x; that no lower one is such rests on the primality of the numbers of a table
+abbrev pub IsLogarithm : (ℕ → ℕ → ℕ) → ℕ → ℕ → ℕ → Type 0
+IsLogarithm times base x e = (power 1 times base e ≡ x) × (TableIsPrime → (k : ℕ) → k < e → power 1 times base k ≢ x)
+
+-- every word is a power of the base
+abbrev pub HaveLogarithms : WordField Wide → ℕ → List Wide → Type 0
+HaveLogarithms field base xs = (k : ℕ) → k < length xs → (d : _) → (e : ℕ) × (power 1 field.times base e ≡ wide_number (get_or xs k d))
+
+-- a call that writes the logarithms of elements to a base, which is an element, where every one of them has one
+abbrev pub TakesLogarithms : WordField Wide → Wide → List Wide → List Wide → List Wide → ℕ → Type 0
+TakesLogarithms field base xs old new status =
+    CallOnEquations (length xs ≡ length old) (IsElement field base × AreElements field xs) (HaveLogarithms field (wide_number base) xs)
+    (Each field (IsLogarithm field.times (wide_number base)) xs new) old new status
 
 -- the value at a point of the field modulo x^degree + tail of the polynomial that a number is
 abbrev pub value_in : ℕ → ℕ → Wide → ℕ → ℕ

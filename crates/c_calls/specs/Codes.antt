@@ -4,7 +4,7 @@ use Rattle.std.specs.Prelude.{◌≡◌, ◌≢◌, ◌⊎◌, Bool, nat_eq, not
 use Rattle.field_base.specs.Powers.{power}
 use Rattle.proximity.specs.Marks.{marked_below}
 use Rattle.error_codes.specs.ByteFields.{byte_generator, byte_modulus, byte_times}
-use Rattle.error_codes.specs.Correcting.{HasOrder, HasRoots, IsMeant, code_value, is_listed}
+use Rattle.error_codes.specs.Correcting.{HasOrder, HasRoots, IsMeantIn, code_value, is_listed}
 use Rattle.error_codes.specs.declared.byte_field.ByteField.{ByteField}
 use Rattle.c_calls.specs.Bytes.{Answers, CallOfCode}
 
@@ -38,20 +38,36 @@ pub record IsEncodedWord (times : ℕ → ℕ → ℕ) (root first checks k : �
 abbrev pub is_flagged : List ℕ → ℕ → Bool
 is_flagged flags i = not (nat_eq (slice_index flags i) 0)
 
--- a word of the code that a received word stands for, whose erased symbols are those that are flagged
+-- a word of the code over a field of 2 ^ width elements that a received word stands for, whose erased symbols are those that are flagged
+abbrev pub IsMeantByIn : ℕ → (ℕ → ℕ → ℕ) → ℕ → ℕ → ℕ → ℕ → List ℕ → List ℕ → List ℕ → Type 0
+IsMeantByIn width times root first n checks flags received sent =
+    (places : List ℕ) × ((i : ℕ) → i < n → is_listed places i ≡ is_flagged flags i)
+    × IsMeantIn width times root first n checks received places sent
+
+-- the same of bytes
 abbrev pub IsMeantBy : (ℕ → ℕ → ℕ) → ℕ → ℕ → ℕ → ℕ → List ℕ → List ℕ → List ℕ → Type 0
-IsMeantBy times root first n checks flags received sent =
-    (places : List ℕ) × ((i : ℕ) → i < n → is_listed places i ≡ is_flagged flags i) × IsMeant times root first n checks received places sent
+IsMeantBy times root first n checks flags received sent = IsMeantByIn 8 times root first n checks flags received sent
 
 -- how many symbols of two words differ
 abbrev pub changed_symbols : ℕ → List ℕ → List ℕ → ℕ
 changed_symbols n old new = marked_below (λ i. not (nat_eq (slice_index old i) (slice_index new i))) n
 
--- a word after it was corrected, and how many of its symbols changed, or 65535 where it stands for no word of the code
-pub record IsCorrectedWord (times : ℕ → ℕ → ℕ) (root first n checks : ℕ) (flags old new : List ℕ) (count : ℕ) : Type 0 where
-  pub found : (sent : List ℕ) → IsMeantBy times root first n checks flags old sent → (count ≢ 65535) × (new ≡ sent)
-  pub right : count ≢ 65535 → IsMeantBy times root first n checks flags old new × (count ≡ changed_symbols n old new)
+-- a word after it was corrected to the one that is meant, and how many of its symbols changed, or 65535 where none is
+pub record IsCorrectedTo (meant : List ℕ → Type 0) (n : ℕ) (old new : List ℕ) (count : ℕ) : Type 0 where
+  pub found : (sent : List ℕ) → meant sent → (count ≢ 65535) × (new ≡ sent)
+  pub right : count ≢ 65535 → meant new × (count ≡ changed_symbols n old new)
   pub kept : count ≡ 65535 → new ≡ old
+
+-- the same where a word of a code over bytes is meant
+abbrev pub IsCorrectedWord : (ℕ → ℕ → ℕ) → ℕ → ℕ → ℕ → ℕ → List ℕ → List ℕ → List ℕ → ℕ → Type 0
+IsCorrectedWord times root first n checks flags old new count =
+    IsCorrectedTo (IsMeantBy times root first n checks flags old) n old new count
+
+-- so many words are corrected, each to one that is meant by its flags, which stand one after the other like the symbols, or are left out
+pub record AreCorrectedTo (n : ℕ) (meant : List ℕ → List ℕ → List ℕ → Type 0) (count : ℕ) (flags old new counts : List ℕ) : Type 0 where
+  pub long : length new ≡ length old
+  pub words : (i : ℕ) → i < count
+      → IsCorrectedTo (meant (nth_word n i flags) (nth_word n i old)) n (nth_word n i old) (nth_word n i new) (slice_index counts i)
 
 module _ (n : ℕ) (times : ℕ → ℕ → ℕ) (root first checks : ℕ) where
   -- so many words are encoded
@@ -59,11 +75,9 @@ module _ (n : ℕ) (times : ℕ → ℕ → ℕ) (root first checks : ℕ) where
     pub long : length new ≡ length old
     pub words : (i : ℕ) → i < count → IsEncodedWord times root first checks k (nth_word n i old) (nth_word n i new)
 
-  -- so many words are corrected, whose flags stand one after the other like their symbols, or are left out
-  pub record AreCorrectedWords (count : ℕ) (flags old new counts : List ℕ) : Type 0 where
-    pub long : length new ≡ length old
-    pub words : (i : ℕ) → i < count
-        → IsCorrectedWord times root first n checks (nth_word n i flags) (nth_word n i old) (nth_word n i new) (slice_index counts i)
+  -- so many words are corrected
+  abbrev pub AreCorrectedWords : ℕ → List ℕ → List ℕ → List ℕ → List ℕ → Type 0
+  AreCorrectedWords count flags old new counts = AreCorrectedTo n (IsMeantBy times root first n checks) count flags old new counts
 
   -- the values of so many words at the roots, those of each word one after the other
   abbrev pub AreSyndromes : ℕ → List ℕ → List ℕ → Type 0

@@ -1,6 +1,8 @@
+pub mod BinaryCodes
 pub mod BitMatrices
 pub mod Bytes
 pub mod Calls
+pub mod ChosenCodes
 pub mod ChosenFields
 pub mod Codes
 pub mod Erasure

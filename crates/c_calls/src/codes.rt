@@ -206,8 +206,9 @@ fn correct_word(code: &CorrectingCode, word: &mut [u8], flags: &[u8]) -> u16
 }
 
 // Writes the places of the flags that are not 0, and says how many there are.
-pub(crate) fn list_places(flags: &[u8], places: &mut [usize; 256]) -> usize
-    requires { length flags.now ≤ 256 }
+pub(crate) fn list_places(flags: &[u8], places: &mut [usize]) -> usize
+    requires { length flags.now ≤ length places.old }
+    ensures long { length places.new ≡ length places.old }
     ensures few { result ≤ length flags.now }
     ensures listed { (i : ℕ) → is_listed (take result places.new) i ≡ is_flagged flags.now i }
 {
@@ -250,7 +251,7 @@ pub(crate) fn code_of(
 }
 
 // The field with this modulus.
-fn field_with(modulus: u64) -> Option<ByteField>
+pub(crate) fn field_with(modulus: u64) -> Option<ByteField>
     ensures found { IfSome result (λ field. byte_modulus field ≡ modulus) }
     ensures none { IsNone result → (field : ByteField) → ¬ (byte_modulus field ≡ modulus) }
 {

@@ -186,22 +186,6 @@ impl AtTwo for Together {
     }
 }
 
-/// The product.
-#[derive(Drop)]
-pub(crate) struct Times {
-    pub(crate) field: BinaryExtension,
-}
-
-impl AtTwo for Times {
-    ghost width = { λ operation. operation.field.degree };
-
-    ghost gives = { λ operation x y z. z ≡ field_product operation.field.degree operation.field.tail x y };
-
-    fn at(&self, x: u128, y: u128) -> u128 {
-        self.field.multiply(x, y)
-    }
-}
-
 /// The quotient, and 0 where the divisor is.
 #[derive(Drop)]
 pub(crate) struct Quotient {

@@ -1,17 +1,17 @@
 // Calls over slices of elements of a field that the caller chooses: modulo any irreducible polynomial of degree 1 to 128.
-ghost use Rattle.std.specs.Prelude.{◌≡◌, ◌^◌, ◌<◌, ◌↔◌, IfNone, IfSome, IsTrue, length};
-ghost use Rattle.field_base.specs.Powers.{dot_of, value_of};
+ghost use Rattle.std.specs.Prelude.{◌≡◌, ◌≢◌, ◌^◌, ◌<◌, ◌↔◌, ℕ, IfNone, IfSome, IsTrue, length};
+ghost use Rattle.field_base.specs.Powers.{dot_of, power, value_of};
 ghost use Rattle.any_field.specs.Contexts.{IsFieldModulus, field_product};
 ghost use Rattle.many_words.specs.Words.{AreElements};
 ghost use Rattle.c_calls.specs.Calls.{Adds, CallOnEach, CallOnTwo, Evaluates, Inverts, Multiplies, MultipliesBy};
 ghost use Rattle.c_calls.specs.Calls.{RaisesTo, Squares, TakesDotProduct, TakesRoots};
 ghost use Rattle.c_calls.specs.ChosenFields.{Embeds, EmbedsOver, FindsARoot, FindsARootOver, NamesAField, OverField, PreparesField};
-ghost use Rattle.c_calls.specs.ChosenFields.{TakesPrimitive, TakesQuotients, TakesTraces};
+ghost use Rattle.c_calls.specs.ChosenFields.{HaveLogarithms, IsLogarithm, TakesLogarithms, TakesPrimitive, TakesQuotients, TakesTraces};
 ghost use Rattle.c_calls.specs.ChosenFields.{chosen_field, residue_field};
 ghost use Rattle.c_calls.specs.Fields.{wide_number};
 
 use crate::field_operations::{
-    AtOne, AtTwo, Embedded, Inverted, Mapped, Multiple, Quotient, Raised, Rooted, Squared, Times,
+    AtOne, AtTwo, Embedded, Inverted, Mapped, Multiple, Quotient, Raised, Rooted, Squared,
     Together, Traced,
 };
 use crate::field_words::ChosenField;
@@ -56,22 +56,22 @@ fn extension_of(degree: u64, tail: u128) -> Option<BinaryExtension>
 }
 
 // The field of the words. That the modulus is irreducible is tested anew.
-fn field_of_words(words: ChosenField) -> Option<BinaryExtension>
+pub(crate) fn field_of_words(words: ChosenField) -> Option<BinaryExtension>
     ensures some { IfSome result (λ field. (field.degree ≡ words.degree) × (field.tail ≡ wide_number words.tail) × NamesAField words) }
     ensures none { IfNone result (NamesAField words → ⊥) }
 {
     extension_of(words.degree, words.tail.stored())
 }
 
-// Whether every word is an element.
+// Whether every word is an element: the bits of all of them are tested at once.
 fn are_elements(field: BinaryExtension, words: &[Wide]) -> bool
     ensures { IsTrue result ↔ AreElements (residue_field field.degree field.tail) words.now }
 {
-    let mut all = true;
-    for word in words {
-        all = field.is_element(word.stored()) && all;
+    let mut bits: u128 = 0;
+    for place in 0..words.len() {
+        bits |= words[place].stored();
     }
-    all
+    field.is_element(bits)
 }
 
 // Whether every word of both slices is an element.
@@ -144,8 +144,28 @@ pub fn multiply(field: ChosenField, left: &[Wide], right: &[Wide], products: &mu
 {
     match field_of_words(field) {
         None => status::REDUCIBLE,
-        Some(found) => write_at_two(found, left, right, products, &Times { field: found }),
+        Some(found) => write_products(found, left, right, products),
     }
+}
+
+// Writes the product of the elements at each place.
+fn write_products(
+    field: BinaryExtension,
+    left: &[Wide],
+    right: &[Wide],
+    products: &mut [Wide],
+) -> u32
+    ensures { Multiplies (residue_field field.degree field.tail) left.now right.now products.old products.new result }
+{
+    if left.len() != products.len() || right.len() != products.len() {
+        return status::LENGTH;
+    }
+    if !are_both_elements(field, left, right) {
+        return status::NOT_AN_ELEMENT;
+    }
+    products.copy_from_slice(left);
+    field.multiply_words(products, right);
+    status::OK
 }
 
 /// Writes the product of each element and the scalar.
@@ -375,6 +395,88 @@ fn write_primitive(field: BinaryExtension, element: &mut Wide) -> u32
             *element = Wide::of_stored(found);
             status::OK
         }
+    }
+}
+
+/// Writes the logarithm of each element to the base: an exponent to which the power of the base is the element, the least one. `UNSOLVABLE`
+/// exactly where an element is no power of the base.
+pub fn logarithm(field: ChosenField, words: &[Wide], base: Wide, logarithms: &mut [Wide]) -> u32
+    ensures { OverField field (TakesLogarithms (chosen_field field) base words.now logarithms.old logarithms.new result)
+        logarithms.old logarithms.new result }
+{
+    match field_of_words(field) {
+        None => status::REDUCIBLE,
+        Some(found) => write_logarithms(found, words, base, logarithms),
+    }
+}
+
+// Writes the logarithm of each element to the base.
+fn write_logarithms(
+    field: BinaryExtension,
+    words: &[Wide],
+    base: Wide,
+    logarithms: &mut [Wide],
+) -> u32
+    ensures { TakesLogarithms (residue_field field.degree field.tail) base words.now logarithms.old logarithms.new result }
+{
+    if words.len() != logarithms.len() {
+        return status::LENGTH;
+    }
+    let base_number = base.stored();
+    if !field.is_element(base_number) {
+        return status::NOT_AN_ELEMENT;
+    }
+    if !are_elements(field, words) {
+        return status::NOT_AN_ELEMENT;
+    }
+    if !have_logarithms(field, words, base_number) {
+        return status::UNSOLVABLE;
+    }
+    for place in 0..logarithms.len() {
+        let x = words[place].stored();
+        let exponent = known_logarithm(field, x, base_number);
+        logarithms[place] = Wide::of_stored(exponent);
+    }
+    status::OK
+}
+
+// Whether every word is a power of the base.
+fn have_logarithms(field: BinaryExtension, words: &[Wide], base: u128) -> bool
+    requires { AreElements (residue_field field.degree field.tail) words.now }
+    ensures { IsTrue result ↔ HaveLogarithms (residue_field field.degree field.tail) base words.now }
+{
+    for place in 0..words.len() {
+        let x = words[place].stored();
+        match logarithm_of(field, x, base) {
+            None => return false,
+            Some(_) => {}
+        }
+    }
+    true
+}
+
+// The logarithm of an element that has one.
+fn known_logarithm(field: BinaryExtension, x: u128, base: u128) -> u128
+    requires fits { x < 2 ^ field.degree }
+    requires power { (e : ℕ) × (power 1 (field_product field.degree field.tail) base e ≡ x) }
+    ensures { IsLogarithm (field_product field.degree field.tail) base x result }
+{
+    match logarithm_of(field, x, base) {
+        None => 0,
+        Some(exponent) => exponent,
+    }
+}
+
+// The logarithm of an element: along the powers where these are few.
+fn logarithm_of(field: BinaryExtension, x: u128, base: u128) -> Option<u128>
+    requires { x < 2 ^ field.degree }
+    ensures found { IfSome result (λ e. IsLogarithm (field_product field.degree field.tail) base x e) }
+    ensures none { IfNone result ((k : ℕ) → power 1 (field_product field.degree field.tail) base k ≢ x) }
+{
+    if field.degree() <= 8 {
+        field.logarithm(x, base)
+    } else {
+        field.logarithm_by_factors(x, base)
     }
 }
 

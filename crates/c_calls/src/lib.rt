@@ -1,13 +1,15 @@
 //! The calls of other languages: on slices of words over any field, over words of 128 bits in the field of GHASH, the values of transforms
 //! and linear maps, messages, shards, shares of secrets and lines of text, in the module `fields` over fields that the caller chooses, in
-//! `matrices` and `bit_matrices` on matrices of words and of packed bits, and in `codes` and `interleaved_codes` on words of codes that
-//! correct errors. A call compares the lengths, refuses words that are no elements, and returns a status. On every status but `OK` what it
+//! `matrices` and `bit_matrices` on matrices of words and of packed bits, and in `codes`, `interleaved_codes`, `field_codes` and
+//! `binary_codes` on words of codes that correct errors. A call compares the lengths, refuses words that are no elements, and returns a status. On every status but `OK` what it
 //! would have written is as before; what it works in is lost. None takes memory.
 #![tactic(auto)]
 
+pub mod binary_codes;
 pub mod bit_matrices;
 pub mod codes;
 mod erasure;
+pub mod field_codes;
 mod field_operations;
 mod field_words;
 pub mod fields;
@@ -44,8 +46,9 @@ pub use crate::messages::{
 pub use crate::scalars::{Words, truncate_all, truncated};
 pub use crate::secrets::{combine_shares, correct_shares, split_secret};
 pub use crate::shards::{
-    add_multiple, add_shard, encode, encode_prepared, factors_of, prepare, reconstruct,
-    reconstruct_data, tables_length, verify, verify_prepared,
+    add_multiple, add_shard, encode, encode_prepared, factors_of, prepare, prepare_reconstruct,
+    reconstruct, reconstruct_data, reconstruct_data_prepared, reconstruct_prepared, tables_length,
+    verify, verify_prepared,
 };
 pub use crate::transforms::{
     butterfly_forward, butterfly_inverse, inverse_transform, inverse_transform_level, low_stages,

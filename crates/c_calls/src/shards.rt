@@ -3,8 +3,8 @@ ghost use Rattle.std.specs.Prelude.{◌≡◌, ◌≢◌, ◌↔◌, ◌+◌, �
 ghost use Rattle.reed_solomon.specs.Parity.{tables_length};
 ghost use Rattle.reed_solomon.specs.Shards.{IsPresent};
 ghost use Rattle.reed_solomon.specs.Sizes.{HasShardSize};
-ghost use Rattle.c_calls.specs.Bytes.{AddsOneMultiple, AddsOneShard, Encodes, EncodesPrepared, IsCode, Prepares, Reconstructs};
-ghost use Rattle.c_calls.specs.Bytes.{TellsFactors, TellsTablesLength, Verifies, VerifiesPrepared, flags_of};
+ghost use Rattle.c_calls.specs.Bytes.{AddsOneMultiple, AddsOneShard, Encodes, EncodesPrepared, IsCode, Prepares, PreparesMissing, Reconstructs};
+ghost use Rattle.c_calls.specs.Bytes.{ReconstructsPrepared, TellsFactors, TellsTablesLength, Verifies, VerifiesPrepared, flags_of};
 ghost use Rattle.c_calls.specs.declared.status.TheConstants.{CODE, LENGTH, OK, TOO_FEW_SHARDS};
 
 use crate::status;
@@ -171,6 +171,77 @@ pub fn reconstruct_data(data: u64, parity: u64, shards: &mut [u8], present: &[u8
     ensures { Reconstructs «data» parity «data» present.now shards.old shards.new result }
 {
     restore(data, parity, shards, present, true)
+}
+
+/// Writes the tables of the missing shards: shard i is missing where `present[i]` is 0.
+pub fn prepare_reconstruct(data: u64, parity: u64, present: &[u8], tables: &mut [u8]) -> u32
+    ensures { PreparesMissing «data» parity present.now tables.old tables.new result }
+{
+    let code = match code_of_tables(data, parity, tables) {
+        Ok(code) => code,
+        Err(refusal) => return refusal,
+    };
+    let total = code.total_shard_count();
+    if present.len() != total {
+        return status::LENGTH;
+    }
+    let flags = flags_of::<256>(present);
+    status_of(code.prepare_reconstruct(&flags[..total], tables))
+}
+
+/// Writes the missing shards by tables of these: shard i is missing where `present[i]` is 0.
+pub fn reconstruct_prepared(
+    data: u64,
+    parity: u64,
+    tables: &[u8],
+    shards: &mut [u8],
+    present: &[u8],
+) -> u32
+    ensures { ReconstructsPrepared «data» parity («data» + parity) present.now tables.now shards.old shards.new result }
+{
+    restore_prepared(data, parity, tables, shards, present, false)
+}
+
+/// Writes the missing shards of data alone by tables of all that are missing.
+pub fn reconstruct_data_prepared(
+    data: u64,
+    parity: u64,
+    tables: &[u8],
+    shards: &mut [u8],
+    present: &[u8],
+) -> u32
+    ensures { ReconstructsPrepared «data» parity «data» present.now tables.now shards.old shards.new result }
+{
+    restore_prepared(data, parity, tables, shards, present, true)
+}
+
+// Writes the missing shards by tables, or those of data alone.
+fn restore_prepared(
+    data: u64,
+    parity: u64,
+    tables: &[u8],
+    shards: &mut [u8],
+    present: &[u8],
+    data_alone: bool,
+) -> u32
+    ensures data_alone { IsTrue data_alone
+        → ReconstructsPrepared «data» parity «data» present.now tables.now shards.old shards.new result }
+    ensures all { ¬ IsTrue data_alone
+        → ReconstructsPrepared «data» parity («data» + parity) present.now tables.now shards.old shards.new result }
+{
+    let code = match code_of_tables(data, parity, tables) {
+        Ok(code) => code,
+        Err(refusal) => return refusal,
+    };
+    let total = code.total_shard_count();
+    if present.len() != total || !have_size(shards.len(), total) {
+        return status::LENGTH;
+    }
+    let flags = flags_of::<256>(present);
+    if data_alone {
+        return status_of(code.reconstruct_data_prepared(tables, shards, &flags[..total]));
+    }
+    status_of(code.reconstruct_prepared(tables, shards, &flags[..total]))
 }
 
 // Writes the missing shards, or those of data alone.

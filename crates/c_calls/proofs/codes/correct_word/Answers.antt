@@ -26,7 +26,7 @@ returns-in-Ok-clause-corrected c =
       found = λ sent meant. (
         λ none. absurd (omega (arith, few, short, count, none)),
         (c.in-Ok.ensures.found sent
-            (meant-again (byte_times code.field) code.root code.first_root n (n - code.dimension) c.args.word.now sent meant.0 listed
+            (meant-again 8 (byte_times code.field) code.root code.first_root n (n - code.dimension) c.args.word.now sent meant.0 listed
             (λ i below. meant.1 i below ∙ sym (c.list_places-count.ensures.listed i)) meant.2)).1,
       );
       right = λ _. (
@@ -44,7 +44,7 @@ returns-in-Err-clause-corrected c =
     record {
       found = λ sent meant.
           absurd (false≢true (c.in-Err.ensures.found sent
-          (meant-again (byte_times code.field) code.root code.first_root n (n - code.dimension) c.args.word.now sent meant.0 listed
+          (meant-again 8 (byte_times code.field) code.root code.first_root n (n - code.dimension) c.args.word.now sent meant.0 listed
           (λ i below. meant.1 i below ∙ sym (c.list_places-count.ensures.listed i)) meant.2)).0);
       right = λ some. absurd (some refl);
       kept = λ _. c.in-Err.ensures.kept;

@@ -9,14 +9,14 @@ loop-i-preserved c =
       | then-flags-i-ne0 w ↦
           let long = c.loop-i.invariant.1 in (
             omega (arith, w.count-is, c.loop-i.invariant.0),
-            c.if-flags-i-ne0.array_long,
+            omega (arith, c.loop-i.invariant.1),
             subst (λ (ps : List ℕ). AreListed flags ps (c.loop-i.i + 1)) (sym (ap₂ (λ (k : ℕ) (ps : List ℕ). take k ps) w.count-is w.places-is))
                 (listed-added flags c.loop-i.places c.loop-i.count c.loop-i.i
                 (omega (arith, long, c.loop-i.invariant.0, c.loop-i-test.true, c.requires)) w.if-flags-i-ne0.true c.loop-i.invariant.2),
           )
       | else-flags-i-ne0 w ↦ (
         omega (arith, w.count-is, c.loop-i.invariant.0),
-        c.if-flags-i-ne0.array_long,
+        omega (arith, c.loop-i.invariant.1),
         subst (λ (ps : List ℕ). AreListed flags ps (c.loop-i.i + 1)) (sym (ap₂ (λ (k : ℕ) (ps : List ℕ). take k ps) w.count-is w.places-is))
             (listed-left flags c.loop-i.places c.loop-i.count c.loop-i.i w.if-flags-i-ne0.false c.loop-i.invariant.2),
       )

@@ -10,5 +10,6 @@ returns-in-None c = over-none c.args.field c.in-None.ensures.none
 pub returns-in-Some : goal.returns-in-Some
 returns-in-Some c =
     over-known c.args.field
-    (λ (d t : ℕ). Multiplies (residue_field d t) c.args.left.now c.args.right.now c.args.products.now c.write_at_two.new.results c.write_at_two.result)
-    c.in-Some.found.degree c.in-Some.found.tail c.in-Some.ensures.some c.write_at_two.ensures c.write_at_two.ensures.kept
+    (λ (d t : ℕ). Multiplies (residue_field d t) c.args.left.now c.args.right.now c.args.products.now c.write_products.new.products
+    c.write_products.result)
+    c.in-Some.found.degree c.in-Some.found.tail c.in-Some.ensures.some c.write_products.ensures c.write_products.ensures.kept

@@ -1,0 +1,22 @@
+use Rattle.std.proofs.Common.{◌≡◌, ℕ, ◌-◌, refl}
+use Rattle.error_codes.specs.ByteFields.{byte_times}
+use Rattle.c_calls.specs.BinaryCodes.{HasData}
+use Rattle.c_calls.specs.declared.status.TheConstants.{OK}
+use Rattle.c_calls.proofs.BinaryCalls.{data-counted, over-binary, over-no-binary}
+use Rattle.c_calls.proofs.binary_codes.dimension.Goals as goal
+
+pub returns-in-None : goal.returns-in-None
+returns-in-None c = over-no-binary c.args.modulus c.args.word_length c.args.errors c.args.root_step c.in-None.ensures.none
+
+pub returns-in-Some : goal.returns-in-Some
+returns-in-Some c =
+    let code = c.in-Some.code in
+    let n = code.code.word_length in
+    over-binary c.args.modulus c.args.word_length c.args.errors c.args.root_step code.code.field code.code.root n (n - code.code.dimension)
+    (λ (times : ℕ → ℕ → ℕ) (root n checks : ℕ). (OK ≡ OK) × HasData times root n checks c.dimension.result)
+    c.in-Some.ensures.made (
+      refl,
+      data-counted (byte_times code.code.field) code.code.root n (n - code.code.dimension) code.checks c.dimension.result code.some_data
+          c.dimension.ensures code.counted,
+    )
+    (λ other. absurd (other refl))

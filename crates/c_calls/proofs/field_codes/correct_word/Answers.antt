@@ -1,0 +1,54 @@
+use Rattle.std.proofs.Common.{◌-◌, take, refl, sym, ◌∙◌, arith}
+use Rattle.std.specs.Prelude.{nat_eq, not, slice_index}
+use Rattle.std.proofs.lemmas.Bool.{false≢true}
+use Rattle.error_codes.specs.Filling.{is_marked}
+use Rattle.error_codes.proofs.Meanings.{marks-same}
+use Rattle.c_calls.proofs.FlaggedPlaces.{changed-few, marks-fit, meant-again}
+use Rattle.c_calls.proofs.field_codes.correct_word.Goals as goal
+
+pub overflow_cast-result : goal.overflow_cast-result
+overflow_cast-result g c =
+    let few = marks-fit (is_marked c.correct.new.changed) c.args.code.now.word_length in
+    let short = c.args.code.now.short in
+    let count = c.in-Ok.ensures.count in
+    omega (arith, few, short, count)
+
+pub returns-in-Ok-clause-corrected : goal.returns-in-Ok-clause-corrected
+returns-in-Ok-clause-corrected g c =
+    let code = c.args.code.now in
+    let width = g.F.SymbolField.width code.field in
+    let times = g.F.SymbolField.product code.field in
+    let n = code.word_length in
+    let listed = take c.list_places-count.result c.list_places-count.new.places in
+    let few = changed-few width times code.root code.first_root n (n - code.dimension) c.args.word.now listed c.correct.new.word c.in-Ok.ensures.right in
+    let some = code.some_data in
+    let short = code.short in
+    let count = c.in-Ok.ensures.count
+    ∙ marks-same (is_marked c.correct.new.changed) (λ i. not (nat_eq (slice_index c.args.word.now i) (slice_index c.correct.new.word i))) n
+    c.in-Ok.ensures.within in
+    record {
+      found = λ sent meant. (
+        λ none. absurd (omega (arith, few, some, short, count, none)),
+        (c.in-Ok.ensures.found sent
+            (meant-again width times code.root code.first_root n (n - code.dimension) c.args.word.now sent meant.0 listed
+            (λ i below. meant.1 i below ∙ sym (c.list_places-count.ensures.listed i)) meant.2)).1,
+      );
+      right = λ _. ((listed, λ i below. c.list_places-count.ensures.listed i, c.in-Ok.ensures.right), count);
+      kept = λ none. absurd (omega (arith, few, some, short, count, none));
+    }
+
+pub returns-in-Err-clause-corrected : goal.returns-in-Err-clause-corrected
+returns-in-Err-clause-corrected g c =
+    let code = c.args.code.now in
+    let width = g.F.SymbolField.width code.field in
+    let times = g.F.SymbolField.product code.field in
+    let n = code.word_length in
+    let listed = take c.list_places-count.result c.list_places-count.new.places in
+    record {
+      found = λ sent meant.
+          absurd (false≢true (c.in-Err.ensures.found sent
+          (meant-again width times code.root code.first_root n (n - code.dimension) c.args.word.now sent meant.0 listed
+          (λ i below. meant.1 i below ∙ sym (c.list_places-count.ensures.listed i)) meant.2)).0);
+      right = λ some. absurd (some refl);
+      kept = λ _. c.in-Err.ensures.kept;
+    }
