@@ -22,6 +22,11 @@ uint32_t bf_rs_encode_prepared(uint64_t data, uint64_t parity, const uint8_t *ta
                                size_t shards_length);
 uint32_t bf_rs_reconstruct(uint64_t data, uint64_t parity, uint8_t *shards, size_t shards_length, const uint8_t *present,
                            size_t present_length);
+uint32_t bf_rs_verify(uint64_t data, uint64_t parity, const uint8_t *shards, size_t shards_length, uint8_t *whole);
+uint32_t bf_rs_prepare_reconstruct(uint64_t data, uint64_t parity, const uint8_t *present, size_t present_length, uint8_t *tables,
+                                   size_t tables_length);
+uint32_t bf_rs_reconstruct_prepared(uint64_t data, uint64_t parity, const uint8_t *tables, size_t tables_length, uint8_t *shards,
+                                    size_t shards_length, const uint8_t *present, size_t present_length);
 
 enum { MOST = 256 };
 
@@ -29,7 +34,7 @@ static int data, parity, lost;
 static size_t size;
 static uint8_t *ours, *theirs, *whole;
 static uint8_t present[MOST], factors[MOST * MOST], tables[32 * MOST * MOST];
-static _Alignas(16) uint8_t prepared[32 * MOST * MOST];
+static _Alignas(16) uint8_t prepared[32 * MOST * MOST], missing[32 * MOST * MOST];
 static uint8_t *sources[MOST], *targets[MOST];
 static int rows, is_small;
 
@@ -99,6 +104,19 @@ static void reconstruct(void) {
     }
 }
 
+static void reconstruct_prepared(void) {
+    if (bf_rs_reconstruct_prepared(data, parity, missing, prepared_length(), ours, (data + parity) * size, present, data + parity) != 0) {
+        puts("reconstruct by tables was refused");
+    }
+}
+
+static void verify(void) {
+    uint8_t is_whole = 0;
+    if (bf_rs_verify(data, parity, ours, (data + parity) * size, &is_whole) != 0 || is_whole != 1) {
+        puts("verify was refused");
+    }
+}
+
 static void with_sse(void) { ec_encode_data_sse(size, data, rows, tables, sources, targets); }
 static void with_avx2(void) { ec_encode_data_avx2(size, data, rows, tables, sources, targets); }
 static void with_best(void) { ec_encode_data(size, data, rows, tables, sources, targets); }
@@ -154,6 +172,25 @@ static void measure(const char *name, void (*library)(void), int rounds) {
     fflush(stdout);
 }
 
+/* A call that ISA-L does not have. */
+static void measure_alone(const char *name, void (*library)(void), int rounds) {
+    size_t bytes = data * size;
+    double best = 1;
+    for (int round = 0; round < rounds; round++) {
+        int calls = 1 + 3000000 / bytes;
+        double begin = now();
+        for (int call = 0; call < calls; call++) {
+            library();
+        }
+        double taken = (now() - begin) / calls;
+        if (taken < best) {
+            best = taken;
+        }
+    }
+    printf("(%d, %d) %7zu %-14s  ours %.2f GB/s\n", data, parity, size, name, bytes / best / 1e9);
+    fflush(stdout);
+}
+
 /* The calls of one code at one size. */
 static void row(int rounds) {
     size_t all = (data + parity) * size;
@@ -172,6 +209,7 @@ static void row(int rounds) {
     }
     measure("encode", encode, rounds);
     measure("prepared", encode_prepared, rounds);
+    measure_alone("verify", verify, rounds);
     for (lost = 1; !is_small && lost <= parity; lost += parity - 1) {
         for (int i = 0; i < data + parity; i++) {
             present[i] = i >= lost;
@@ -179,6 +217,11 @@ static void row(int rounds) {
         char name[32];
         snprintf(name, sizeof name, "reconstruct %d", lost);
         measure(name, reconstruct, rounds);
+        if (bf_rs_prepare_reconstruct(data, parity, present, data + parity, missing, prepared_length()) != 0) {
+            puts("tables of the missing shards were refused");
+        }
+        snprintf(name, sizeof name, "prepared %d", lost);
+        measure(name, reconstruct_prepared, rounds);
     }
     free(ours), free(theirs), free(whole);
 }
