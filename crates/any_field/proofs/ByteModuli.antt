@@ -67,6 +67,6 @@ passes_187 = refl
 
 pub bytes_of_codes_are_fields : BytesOfCodesAreFields
 bytes_of_codes_are_fields = (
-  (omega arith, omega arith, omega arith, byte-irreducible 0x1d (omega arith) passes_11d),
-  (omega arith, omega arith, omega arith, byte-irreducible 0x87 (omega arith) passes_187),
+  ((omega arith, omega arith, omega arith, byte-irreducible 0x1d (omega arith) passes_11d), (λ a b. refl)),
+  ((omega arith, omega arith, omega arith, byte-irreducible 0x87 (omega arith) passes_187), (λ a b. refl)),
 )

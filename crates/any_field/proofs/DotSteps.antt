@@ -15,46 +15,51 @@ use Rattle.any_field.specs.Contexts.{IsContext, field_product, with_top}
 use Rattle.any_field.proofs.ContextFields.{low-product}
 use Rattle.any_field.proofs.WordRemainders.{top-degree}
 
--- what is left of the double word so far, and the sum from this place on, are the whole
-pub record IsDotSoFar (w t : ℕ) (xs ys : List ℕ) (i low high : ℕ) : Type 0 where
-  pub sum : bit_xor (rem w (with_top w t) (high * 2 ^ 128 + low)) (dot_of (field_product w t) (λ (x : ℕ). x) (drop i xs) (drop i ys))
-      ≡ dot_of (field_product w t) (λ (x : ℕ). x) xs ys
-  pub fits : high * 2 ^ 128 + low < 2 ^ (w + w)
+-- what is left of the sum so far, and the sum from this place on, are the whole
+pub record IsDotSoFar {W : Type 0} (number : W → ℕ) (w t : ℕ) (xs ys : List W) (i total : ℕ) : Type 0 where
+  pub sum : bit_xor (rem w (with_top w t) total) (dot_of (field_product w t) number (drop i xs) (drop i ys))
+      ≡ dot_of (field_product w t) number xs ys
+  pub fits : total < 2 ^ (w + w)
 
-module _ (w t r : ℕ) (context : IsContext w t r) (xs ys : List ℕ) where
-  pub dot-start : IsDotSoFar w t xs ys 0 0 0
+module _ {W : Type 0} (number : W → ℕ) (w t r : ℕ) (context : IsContext w t r) (xs ys : List W) where
+  pub dot-start : IsDotSoFar number w t xs ys 0 0
   dot-start = record {
     sum =
-        ap (λ (z : ℕ). bit_xor z (dot_of (field_product w t) (λ (x : ℕ). x) xs ys))
+        ap (λ (z : ℕ). bit_xor z (dot_of (field_product w t) number xs ys))
         (rem_small w (with_top w t) (top-degree w t context.tail_below) 0 (pow_pos w))
-        ∙ xor_zero_l (dot_of (field_product w t) (λ (x : ℕ). x) xs ys);
+        ∙ xor_zero_l (dot_of (field_product w t) number xs ys);
     fits = pow_pos (w + w);
   }
 
   -- the product at one place more
-  pub dot-more : (i low high product_low product_high x y u v : ℕ) → i < length xs → i < length ys → low < 2 ^ 128 → product_low < 2 ^ 128
-      → x ≡ get_or xs i x → y ≡ get_or ys i y → u ≡ x % 2 ^ w → v ≡ y % 2 ^ w → carryless u v ≡ product_high * 2 ^ 128 + product_low
-      → IsDotSoFar w t xs ys i low high → IsDotSoFar w t xs ys (i + 1) (bit_xor low product_low) (bit_xor high product_high)
-  dot-more i low high product_low product_high x y u v within within_other low_fits product_fits x_is y_is u_is v_is splits so_far =
+  pub dot-more : (i total added : ℕ) (x y : W) (u v : ℕ) → i < length xs → i < length ys → x ≡ get_or xs i x → y ≡ get_or ys i y
+      → u ≡ number x % 2 ^ w → v ≡ number y % 2 ^ w → added ≡ bit_xor total (carryless u v)
+      → IsDotSoFar number w t xs ys i total → IsDotSoFar number w t xs ys (i + 1) added
+  dot-more i total added x y u v within within_other x_is y_is u_is v_is added_is so_far =
       let degree = top-degree w t context.tail_below in
-      let u_fits : u < 2 ^ w = subst (λ (z : ℕ). z < 2 ^ w) (sym u_is) (mod-lt x (pow_pos w)) in
-      let v_fits : v < 2 ^ w = subst (λ (z : ℕ). z < 2 ^ w) (sym v_is) (mod-lt y (pow_pos w)) in
-      let all = dot_of (field_product w t) (λ (z : ℕ). z) in
-      let added : bit_xor high product_high * 2 ^ 128 + bit_xor low product_low ≡ bit_xor (high * 2 ^ 128 + low) (carryless u v) =
-      sym (xor_block 128 high product_high low product_low low_fits product_fits) ∙ ap (bit_xor (high * 2 ^ 128 + low)) (sym splits) in
+      let u_fits : u < 2 ^ w = subst (λ (z : ℕ). z < 2 ^ w) (sym u_is) (mod-lt (number x) (pow_pos w)) in
+      let v_fits : v < 2 ^ w = subst (λ (z : ℕ). z < 2 ^ w) (sym v_is) (mod-lt (number y) (pow_pos w)) in
+      let all = dot_of (field_product w t) number in
       record {
         sum =
-            rem_dot_step w (with_top w t) degree (high * 2 ^ 128 + low) (bit_xor high product_high * 2 ^ 128 + bit_xor low product_low) u v
+            rem_dot_step w (with_top w t) degree total added u v
             (all (drop i xs) (drop i ys)) (all (drop (i + 1) xs) (drop (i + 1) ys)) (all xs ys) u_fits v_fits so_far.sum
-            (dot_of-drop (field_product w t) (λ (z : ℕ). z) xs ys i x y within within_other x_is y_is
-            ∙ ap (λ (z : ℕ). bit_xor z (all (drop (i + 1) xs) (drop (i + 1) ys))) (sym (low-product w t r x y u v context u_is v_is)))
-            added;
+            (dot_of-drop (field_product w t) number xs ys i x y within within_other x_is y_is
+            ∙ ap (λ (z : ℕ). bit_xor z (all (drop (i + 1) xs) (drop (i + 1) ys)))
+            (sym (low-product w t r (number x) (number y) u v context u_is v_is)))
+            added_is;
         fits =
-            subst (λ (z : ℕ). z < 2 ^ (w + w)) (sym added)
-            (xor_lt (w + w) (high * 2 ^ 128 + low) (carryless u v) so_far.fits (carryless_lt w w u v u_fits v_fits));
+            subst (λ (z : ℕ). z < 2 ^ (w + w)) (sym added_is)
+            (xor_lt (w + w) total (carryless u v) so_far.fits (carryless_lt w w u v u_fits v_fits));
       }
 
-  pub dot-done : (i low high : ℕ) → length xs ≤ i → IsDotSoFar w t xs ys i low high
-      → rem w (with_top w t) (high * 2 ^ 128 + low) ≡ dot_of (field_product w t) (λ (x : ℕ). x) xs ys
-  dot-done i low high past so_far =
-      dot_end (field_product w t) (λ (x : ℕ). x) xs ys i _ (rem w (with_top w t) (high * 2 ^ 128 + low)) past so_far.sum
+  pub dot-done : (i total : ℕ) → length xs ≤ i → IsDotSoFar number w t xs ys i total
+      → rem w (with_top w t) total ≡ dot_of (field_product w t) number xs ys
+  dot-done i total past so_far = dot_end (field_product w t) number xs ys i _ (rem w (with_top w t) total) past so_far.sum
+
+-- the sum of two double words, half by half
+pub double-sum : (low high product_low product_high product : ℕ) → low < 2 ^ 128 → product_low < 2 ^ 128
+    → product ≡ product_high * 2 ^ 128 + product_low
+    → bit_xor high product_high * 2 ^ 128 + bit_xor low product_low ≡ bit_xor (high * 2 ^ 128 + low) product
+double-sum low high product_low product_high product low_fits product_fits splits =
+    sym (xor_block 128 high product_high low product_low low_fits product_fits) ∙ ap (bit_xor (high * 2 ^ 128 + low)) (sym splits)

@@ -23,6 +23,7 @@ pub mod PowerRelations
 pub mod Conjugates
 pub mod LogarithmSteps
 pub mod ScalarMaps
+pub mod RootTables
 pub mod ByteModuli
 pub mod SearchSteps
 pub mod FoundOptions

@@ -124,3 +124,7 @@ module _ (width : ℕ) (times : ℕ → ℕ → ℕ) (wide : 0 < width) (field :
       (power-add width 1 times field.ring (pow_below 0 width wide) base k (order - e)
       ∙ ap (λ (z : ℕ). times z (power 1 times base (order - e))) (same ∙ sym is)
       ∙ sym (power-add width 1 times field.ring (pow_below 0 width wide) base e (order - e)) ∙ ap (power 1 times base) whole ∙ is_order.one)
+
+pub some-order : (n : ℕ) → n ≢ 0 → 0 < n
+some-order zero other = absurd (other refl)
+some-order (suc n) other = omega arith

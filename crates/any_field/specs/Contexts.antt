@@ -32,7 +32,16 @@ HasNoFactors modulus = (g h : ℕ) → carryless g h ≡ modulus → g ≢ 1 →
 abbrev pub PublishedAreIrreducible : Type 0
 PublishedAreIrreducible = IsIrreducible aes_modulus × IsIrreducible poly64_modulus × IsIrreducible ghash_modulus
 
--- the moduli of bytes that codes use besides that of AES: x^8 + x^4 + x^3 + x^2 + 1 (ISO/IEC 18004, ETSI EN 300 421), which is 0x11d, and
--- x^8 + x^7 + x^2 + x + 1 (CCSDS 131.0-B), which is 0x187
+-- x^degree + tail is the modulus of a field, and the product in it is that modulo this number
+abbrev pub IsFieldModulo : ℕ → ℕ → ℕ → Type 0
+IsFieldModulo degree tail modulus =
+    IsFieldModulus degree tail × ((a b : ℕ) → field_product degree tail a b ≡ mul_mod degree modulus a b)
+
+-- the three fixed fields, each by its degree and the other terms
+abbrev pub FixedFieldsAreChosen : Type 0
+FixedFieldsAreChosen = IsFieldModulo 8 0x1b aes_modulus × IsFieldModulo 64 0x1b poly64_modulus × IsFieldModulo 128 0x87 ghash_modulus
+
+-- the bytes that codes use besides those of AES: modulo x^8 + x^4 + x^3 + x^2 + 1 (ISO/IEC 18004, ETSI EN 300 421), which is 0x11d, and
+-- modulo x^8 + x^7 + x^2 + x + 1 (CCSDS 131.0-B), which is 0x187
 abbrev pub BytesOfCodesAreFields : Type 0
-BytesOfCodesAreFields = IsFieldModulus 8 0x1d × IsFieldModulus 8 0x87
+BytesOfCodesAreFields = IsFieldModulo 8 0x1d 0x11d × IsFieldModulo 8 0x87 0x187

@@ -4,6 +4,7 @@ ghost use Rattle.field_base.specs.Field.{IsField};
 ghost use Rattle.any_field.specs.Contexts.{HasNoFactors, IsContext, IsFieldModulus, field_product, with_top};
 
 mod bytes;
+mod dot_products;
 mod embeddings;
 mod factored_logarithms;
 mod inverses;
@@ -17,7 +18,8 @@ mod slices;
 mod subfields;
 mod values;
 
-pub use crate::extension::embeddings::Embedding;
+pub use crate::extension::embeddings::{Embedding, Images};
+pub use crate::extension::factored_logarithms::Logarithms;
 pub use crate::extension::multiples::Multiples;
 use crate::irreducible::is_irreducible;
 use crate::reduction::{low_bits, multiply, ratio_of, square};

@@ -1,6 +1,6 @@
 // Laws of fields of binary polynomials modulo any irreducible one, as contracts of functions that compute nothing.
 ghost use Rattle.any_field.specs.Barrett.{BarrettByWords, BarrettIsRemainder};
-ghost use Rattle.any_field.specs.Contexts.{BytesOfCodesAreFields, PublishedAreIrreducible};
+ghost use Rattle.any_field.specs.Contexts.{BytesOfCodesAreFields, FixedFieldsAreChosen, PublishedAreIrreducible};
 ghost use Rattle.any_field.specs.Irreducible.{BenOrIsExact, FieldNeedsIrreducible, IrreducibleByDegrees, IrreducibleGivesField};
 ghost use Rattle.any_field.specs.Isomorphic.{FieldsHaveRoots, FieldsOfOneSizeAreIsomorphic};
 ghost use Rattle.any_field.specs.Rabin.{CoprimeBySteps, InversesGiveField, RabinIsExact};
@@ -55,13 +55,17 @@ pub fn finite_fields_are_isomorphic()
     ensures isomorphic { FieldsOfOneSizeAreIsomorphic }
 {}
 
-/// States that the moduli of the three fixed fields are irreducible, since these are fields.
+/// States that the moduli of the three fixed fields are irreducible, since these are fields, and that their products are those of
+/// `BinaryExtension`: `new(8, 0x1b)`, `new(64, 0x1b)` and `new(128, 0x87)` compute in the bytes of AES, in the words of 64 bits and in those of
+/// GHASH as they stand.
 pub fn published_are_irreducible()
-    ensures { PublishedAreIrreducible }
+    ensures irreducible { PublishedAreIrreducible }
+    ensures fields { FixedFieldsAreChosen }
 {}
 
-/// States that fields have the moduli 0x11d and 0x187 of the bytes of Reed-Solomon codes: `BinaryExtension::new(8, 0x1d)` is that in which
-/// `reed_solomon` computes, and what `error_codes` has for QR codes, and `new(8, 0x87)` that of telemetry.
+/// States that fields have the moduli 0x11d and 0x187 of the bytes of Reed-Solomon codes, and that their products are those of
+/// `BinaryExtension`: `new(8, 0x1d)` is that in which `reed_solomon` computes, and what `error_codes` has for QR codes, and `new(8, 0x87)` that
+/// of telemetry.
 pub fn bytes_of_codes_are_fields()
     ensures { BytesOfCodesAreFields }
 {}

@@ -11,7 +11,9 @@ mod published;
 mod reduction;
 mod search;
 
-pub use crate::extension::{BinaryExtension, Embedding, Multiples, NotIrreducible};
+pub use crate::extension::{
+    BinaryExtension, Embedding, Images, Logarithms, Multiples, NotIrreducible,
+};
 pub use crate::irreducible::is_irreducible;
 pub use crate::search::{
     irreducible_pentanomial, irreducible_trinomial, is_field_modulus, next_irreducible,

@@ -53,8 +53,8 @@ pub(crate) fn reduce(width: u32, tail: u128, ratio: u128, low: u128, high: u128)
     low_bits(low ^ multiple, width)
 }
 
-// The same of a word, for a width up to 64: the products are of words of 64 bits.
-fn reduce_word(width: u32, tail: u128, ratio: u128, word: u128) -> u128
+/// The same of a word, for a width up to 64: the products are of words of 64 bits.
+pub(crate) fn reduce_word(width: u32, tail: u128, ratio: u128, word: u128) -> u128
     requires context { IsContext width tail ratio }
     requires narrow { width ≤ 64 }
     requires fits { word < 2 ^ (width + width) }
@@ -67,8 +67,8 @@ fn reduce_word(width: u32, tail: u128, ratio: u128, word: u128) -> u128
     low_bits(word ^ multiple, width)
 }
 
-// The same of half as many bits, for a width up to 32.
-fn reduce_half(width: u32, tail: u128, ratio: u128, word: u64) -> u128
+/// The same of half as many bits, for a width up to 32.
+pub(crate) fn reduce_half(width: u32, tail: u128, ratio: u128, word: u64) -> u128
     requires context { IsContext width tail ratio }
     requires narrow { width ≤ 32 }
     requires fits { word < 2 ^ (width + width) }

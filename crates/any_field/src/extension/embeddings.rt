@@ -1,10 +1,13 @@
 // Embeddings of one field in another, by a root of the modulus of the first in the second. A field of 2^d elements lies in one of 2^m
 // elements where d divides m (R. Lidl and H. Niederreiter, Finite Fields, theorem 2.6).
-ghost use Rattle.std.specs.Prelude.{◌≡◌, ◌≢◌, ◌%◌, ◌^◌, IfNone, IfSome, IsSome};
+ghost use Rattle.std.specs.Prelude.{◌≡◌, ◌≢◌, ◌%◌, ◌^◌, ◌<◌, ◌≤◌, ℕ, IfNone, IfSome, IsSome, length, slice_index};
+ghost use Rattle.field_base.specs.Powers.{power};
+ghost use Rattle.word_tables.specs.LinearMap.{sum_of_values};
 ghost use Rattle.any_field.specs.Contexts.{field_product, with_top};
 ghost use Rattle.any_field.specs.Values.{IsEmbeddingOf, binary_value};
 
 use crate::extension::BinaryExtension;
+use crate::extension::multiples::{digits_of, sum_at_digits, values_at_digits};
 use crate::extension::roots::likely_root;
 use crate::reduction::low_bits;
 
@@ -19,6 +22,18 @@ pub struct Embedding {
     high: u128,
     ghost is_root: { binary_value (field_product target.degree target.tail) root (with_top source.degree source.tail) ≡ 0 },
     ghost high_is: { high ≡ binary_value (field_product target.degree target.tail) root (with_top source.degree 0) },
+}
+
+/// The images by an embedding, made ready for many: 8,192 bytes of tables. An image is the sum of an entry for each four bits of the element.
+#[derive(Drop)]
+pub struct Images {
+    map: Embedding,
+    // how many digits to base 16 an element of the source has, or a few more
+    digits: usize,
+    values: [u128; 512],
+    ghost few: { digits ≤ 32 },
+    ghost images: { (x : ℕ) → x < 2 ^ map.source.degree
+        → sum_of_values digits values x ≡ binary_value (field_product map.target.degree map.target.tail) map.root x },
 }
 
 impl Embedding {
@@ -96,4 +111,42 @@ impl Embedding {
             (field_product self.target.degree self.target.tail)
             (binary_value (field_product self.target.degree self.target.tail) self.root) }
     {}
+
+    /// The images of many elements. It takes as long as some hundred products.
+    pub fn images(self) -> Images
+        ensures { result.map ≡ self }
+    {
+        let digits = digits_of(self.source.degree);
+        Images {
+            map: self,
+            digits,
+            values: values_at_digits(&self.powers_of_root(), digits),
+        }
+    }
+
+    // The powers of the root, the lowest first: the images of the powers of x.
+    fn powers_of_root(self) -> [u128; 128]
+        ensures length { length result ≡ 128 }
+        ensures each { (j : ℕ) → j < 128
+            → slice_index result j ≡ power 1 (field_product self.target.degree self.target.tail) self.root j }
+    {
+        let mut powers = [0; 128];
+        let mut power: u128 = 1;
+        for place in 0..128usize {
+            powers[place] = power;
+            power = self.target.multiply(power, self.root);
+        }
+        powers
+    }
+}
+
+impl Images {
+    /// The image of an element: the value at the root of the polynomial that it is. `x` has to be an element of the source.
+    #[inline(always)]
+    pub fn of(&self, x: u128) -> u128
+        requires { x < 2 ^ self.now.map.source.degree }
+        ensures { result ≡ binary_value (field_product self.now.map.target.degree self.now.map.target.tail) self.now.map.root x }
+    {
+        sum_at_digits(&self.values, x, self.digits)
+    }
 }

@@ -3,11 +3,22 @@
 ghost use Rattle.std.specs.Prelude.{◌≡◌, ◌≢◌, ◌%◌, ◌^◌, ◌<◌, ℕ, IfNone, IfSome};
 ghost use Rattle.field_base.specs.Powers.{power};
 ghost use Rattle.any_field.specs.Contexts.{field_product};
-ghost use Rattle.any_field.specs.Orders.{TableIsPrime};
+ghost use Rattle.any_field.specs.Orders.{IsOrder, TableIsPrime};
 
 use crate::extension::BinaryExtension;
 use crate::extension::orders::{COUNT, prime_at};
 use crate::reduction::low_bits;
+
+/// Logarithms to one base, whose order is found once for many elements.
+#[derive(Clone, Copy)]
+pub struct Logarithms {
+    field: BinaryExtension,
+    base: u128,
+    // the order of the base, and 0 where the base is 0
+    order: u128,
+    ghost one: { 0 < order → power 1 (field_product field.degree field.tail) base order ≡ 1 },
+    ghost least: { TableIsPrime → 0 < order → IsOrder (field_product field.degree field.tail) base order },
+}
 
 impl BinaryExtension {
     /// The logarithm of an element: an exponent to which the power of `base` is `x`, below the order of `base` where that is not 0. `None`
@@ -20,20 +31,26 @@ impl BinaryExtension {
             → power 1 (field_product self.degree self.tail) base k ≢ x % 2 ^ self.degree) }
         ensures none { IfNone result ((k : ℕ) → power 1 (field_product self.degree self.tail) base k ≢ x % 2 ^ self.degree) }
     {
-        let x = low_bits(x, self.degree);
+        self.logarithms(base).of(x)
+    }
+
+    /// The logarithms to `base`. It takes some tens of powers, by which the order of the base is found.
+    pub fn logarithms(self, base: u128) -> Logarithms
+        ensures field { result.field ≡ self }
+        ensures base { result.base ≡ base }
+    {
         match self.order(base) {
-            None => {}
-            Some(order) => {
-                if self.power(x, order) != 1 {
-                    return None;
-                }
-                let exponent = self.likely_logarithm(x, base, order) % order;
-                if self.power(base, exponent) == x {
-                    return Some(exponent);
-                }
-            }
+            None => Logarithms {
+                field: self,
+                base,
+                order: 0,
+            },
+            Some(order) => Logarithms {
+                field: self,
+                base,
+                order,
+            },
         }
-        self.logarithm(x, base)
     }
 
     // What is likely to be the logarithm of an element that is a power of the base: modulo a product of factors of the order so far, and then
@@ -44,6 +61,10 @@ impl BinaryExtension {
         let mut part: u128 = 1;
         let mut rest = order;
         for place in 0..COUNT {
+            // The primes rise, so that behind the greatest factor there are many more.
+            if rest <= 1 {
+                return exponent;
+            }
             let prime = prime_at(place);
             while rest != 0 && rest % prime == 0 {
                 rest /= prime;
@@ -66,5 +87,32 @@ impl BinaryExtension {
             steps += 1;
         }
         steps
+    }
+}
+
+impl Logarithms {
+    /// The logarithm of an element: an exponent to which the power of the base is `x`, below the order of the base where that is not 0. `None`
+    /// exactly where no power is. It takes about as many products as the greatest prime factor of the order is. That no lower exponent is one
+    /// rests on the table of primes, as `BinaryExtension::order` does.
+    pub fn of(self, x: u128) -> Option<u128>
+        ensures found { IfSome result
+            (λ e. power 1 (field_product self.field.degree self.field.tail) self.base e ≡ x % 2 ^ self.field.degree) }
+        ensures least { IfSome result (λ e. TableIsPrime → (k : ℕ) → k < e
+            → power 1 (field_product self.field.degree self.field.tail) self.base k ≢ x % 2 ^ self.field.degree) }
+        ensures none { IfNone result
+            ((k : ℕ) → power 1 (field_product self.field.degree self.field.tail) self.base k ≢ x % 2 ^ self.field.degree) }
+    {
+        let element = low_bits(x, self.field.degree);
+        if self.order != 0 {
+            if self.field.power(element, self.order) != 1 {
+                return None;
+            }
+            let likely = self.field.likely_logarithm(element, self.base, self.order);
+            let exponent = likely % self.order;
+            if self.field.power(self.base, exponent) == element {
+                return Some(exponent);
+            }
+        }
+        self.field.logarithm(element, self.base)
     }
 }

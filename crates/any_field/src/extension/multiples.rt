@@ -51,8 +51,8 @@ impl BinaryExtension {
     }
 }
 
-// A number of digits to base 16 that hold so many bits. For the least ones it is one for which `Multiples::of` has no loop.
-fn digits_of(degree: u32) -> usize
+/// A number of digits to base 16 that hold so many bits. For the least ones it is one for which `sum_at_digits` has no loop.
+pub(crate) fn digits_of(degree: u32) -> usize
     requires { degree ≤ 128 }
     ensures few { result ≤ 32 }
     ensures enough { degree ≤ 4 * result }
@@ -68,8 +68,8 @@ fn digits_of(degree: u32) -> usize
     }
 }
 
-// The values of the linear map that has these images at the low digits to base 16: entry 16 j + d is the value at d 16^j.
-fn values_at_digits(images: &[u128; 128], digits: usize) -> [u128; 512]
+/// The values of the linear map that has these images at the low digits to base 16: entry 16 j + d is the value at d 16^j.
+pub(crate) fn values_at_digits(images: &[u128; 128], digits: usize) -> [u128; 512]
     requires { digits ≤ 32 }
     ensures length { length result ≡ 512 }
     ensures values { (p : ℕ) → p < 16 * digits → slice_index result p ≡ linear_image images.now (p % 16 * 2 ^ (4 * (p / 16))) }
@@ -82,6 +82,22 @@ fn values_at_digits(images: &[u128; 128], digits: usize) -> [u128; 512]
     values
 }
 
+/// The sum of the values at the low digits of `x` to base 16.
+#[inline(always)]
+pub(crate) fn sum_at_digits(values: &[u128; 512], x: u128, digits: usize) -> u128
+    requires { digits ≤ 32 }
+    ensures { result ≡ sum_of_values digits values.now x }
+{
+    // (of a constant number of digits no loop is left)
+    match digits {
+        2 => sum_of_values(values, x, 2),
+        4 => sum_of_values(values, x, 4),
+        8 => sum_of_values(values, x, 8),
+        16 => sum_of_values(values, x, 16),
+        many => sum_of_values(values, x, many),
+    }
+}
+
 impl Multiples {
     /// The product of an element and the scalar. `x` has to be an element: below 2^degree.
     #[inline(always)]
@@ -89,14 +105,7 @@ impl Multiples {
         requires { x < 2 ^ self.now.field.degree }
         ensures { result ≡ field_product self.now.field.degree self.now.field.tail x self.now.scalar }
     {
-        // (of a constant number of digits no loop is left)
-        match self.digits {
-            2 => sum_of_values(&self.values, x, 2),
-            4 => sum_of_values(&self.values, x, 4),
-            8 => sum_of_values(&self.values, x, 8),
-            16 => sum_of_values(&self.values, x, 16),
-            many => sum_of_values(&self.values, x, many),
-        }
+        sum_at_digits(&self.values, x, self.digits)
     }
 
     /// Multiplies each word by the scalar.

@@ -2,14 +2,13 @@
 ghost use Rattle.std.specs.Prelude.{◌≡◌, ◌≢◌, ◌%◌, ◌^◌, ◌<◌, ℕ, length, map, slice_index};
 ghost use Rattle.std.specs.Simd.Lanes.{zip2};
 ghost use Rattle.field_base.specs.Field.{AreInverses};
-ghost use Rattle.field_base.specs.Powers.{dot_of, value_of};
+ghost use Rattle.field_base.specs.Powers.{value_of};
 ghost use Rattle.field_slices.specs.Inverses.{nonzero_product};
 ghost use Rattle.any_field.specs.Contexts.{field_product};
 
 use crate::extension::BinaryExtension;
-use crate::reduction::{low_bits, reduce};
+use crate::reduction::low_bits;
 use field_base::Holds;
-use word_carryless::multiply_128;
 
 // From so many words on tables of the products by an element pay.
 const MAPPED: usize = 32;
@@ -62,24 +61,6 @@ impl BinaryExtension {
         for place in 0..words.len() {
             words[place] = self.multiply(words[place], scalar);
         }
-    }
-
-    /// The sum of the products of the words at each place, which is 0 of none. Both slices have to be of one length. The products are
-    /// reduced once, at the end.
-    pub fn dot_product(self, left: &[u128], right: &[u128]) -> u128
-        requires { length right.now ≡ length left.now }
-        ensures { result ≡ dot_of (field_product self.degree self.tail) (λ x. x) left.now right.now }
-    {
-        let mut low: u128 = 0;
-        let mut high: u128 = 0;
-        for place in 0..left.len() {
-            let x = low_bits(left[place], self.degree);
-            let y = low_bits(right[place], self.degree);
-            let (product_low, product_high) = multiply_128(x, y);
-            low ^= product_low;
-            high ^= product_high;
-        }
-        reduce(self.degree, self.tail, self.ratio, low, high)
     }
 
     /// The value at `x` of the polynomial with these coefficients, lowest first: the sum of `coefficients[k]` times x^k; of no
