@@ -16,7 +16,7 @@ use Rattle.reed_solomon.specs.ErasureField.{erasure_product}
 use Rattle.reed_solomon.specs.Parity.{HaveParityTables, parity_factor, tables_length}
 use Rattle.reed_solomon.specs.Shards.{shard_byte}
 use Rattle.reed_solomon.specs.Tables.{nibble_sum}
-use Rattle.reed_solomon.proofs.NibbleTables.{nibble_product}
+use Rattle.reed_solomon.proofs.NibbleTables.{nibble_product, nibble_sum-behind}
 use Rattle.reed_solomon.proofs.ParityWords.{matching_parity}
 use Rattle.field_base.proofs.BasisSums.{sum_below-same}
 
@@ -104,20 +104,10 @@ module _ (k m t j : ℕ) (tables : List ℕ) where
   pub entries_product : HaveParityTables k m tables → t < m → j < k → (byte : ℕ) → byte < 256
       → nibble_sum tables (128 * k * (t / 4) + 128 * j + 32 * (t % 4)) byte ≡ erasure_product (parity_factor k t j) byte
   entries_product all below inside byte fits =
-      ap₂ bit_xor (moved (byte % 16)) (further (byte / 16))
+      let place : 128 * k * (t / 4) + 128 * j + 32 * (t % 4) ≡ 128 * k * (t / 4) + (128 * j + 32 * (t % 4)) = omega arith in
+      ap (λ (p : ℕ). nibble_sum tables p byte) place
+      ∙ sym (nibble_sum-behind (128 * k * (t / 4)) tables (128 * j + 32 * (t % 4)) byte)
       ∙ nibble_product (parity_factor k t) (drop (128 * k * (t / 4)) tables) (t % 4) k j byte (all.rows t below) inside fits
-    where
-      moved : (n : ℕ) → get_or tables (128 * k * (t / 4) + 128 * j + 32 * (t % 4) + n) 0
-          ≡ get_or (drop (128 * k * (t / 4)) tables) (128 * j + 32 * (t % 4) + n) 0
-      moved n =
-          let place : 128 * k * (t / 4) + 128 * j + 32 * (t % 4) + n ≡ 128 * k * (t / 4) + (128 * j + 32 * (t % 4) + n) = omega arith in
-          ap (λ (p : ℕ). get_or tables p 0) place ∙ sym (get_or-drop (128 * k * (t / 4)) tables (128 * j + 32 * (t % 4) + n) 0)
-
-      further : (n : ℕ) → get_or tables (128 * k * (t / 4) + 128 * j + 32 * (t % 4) + 16 + n) 0
-          ≡ get_or (drop (128 * k * (t / 4)) tables) (128 * j + 32 * (t % 4) + 16 + n) 0
-      further n =
-          let place : 128 * k * (t / 4) + 128 * j + 32 * (t % 4) + 16 + n ≡ 128 * k * (t / 4) + (128 * j + 32 * (t % 4) + 16 + n) = omega arith in
-          ap (λ (p : ℕ). get_or tables p 0) place ∙ sym (get_or-drop (128 * k * (t / 4)) tables (128 * j + 32 * (t % 4) + 16 + n) 0)
 
 -- ---- all shards of data, each once
 

@@ -1,8 +1,8 @@
 -- Look-ups by the halves of bytes in lanes, and what they give: products by a factor.
-use Rattle.std.proofs.Common.{◌≡◌, ℕ, ◌+◌, ◌-◌, ◌*◌, ◌/◌, ◌%◌, ◌^◌, ◌<◌, ◌≤◌, List, length, get_or, map, sym, ◌∙◌, ap, ap₂, arith, lit<, w8, Fits}
+use Rattle.std.proofs.Common.{◌≡◌, ℕ, ◌+◌, ◌-◌, ◌*◌, ◌/◌, ◌%◌, ◌^◌, ◌<◌, ◌≤◌, List, length, drop, get_or, map, sym, ◌∙◌, ap, ap₂, arith, lit<, w8, Fits}
 use Rattle.std.specs.Prelude.{bit_xor}
 use Rattle.std.specs.Simd.Lanes.{chunk, Each1}
-use Rattle.std.proofs.lemmas.List.{get_or-map}
+use Rattle.std.proofs.lemmas.List.{get_or-drop, get_or-map}
 use Rattle.std.proofs.lemmas.Nat.{xor_block, xor_comm}
 use Rattle.std.proofs.lemmas.Simd.{Each1-get_or, get_or-chunk}
 use native.Mathlib.Nat.{mod-lt}
@@ -24,11 +24,24 @@ sum_at entries start bytes long fits lane below =
     ∙ ap₂ bit_xor (get_or-chunk start 16 entries (get_or bytes lane 0 % 16) 0 (mod-lt (get_or bytes lane 0) (lit< tt)))
     (get_or-chunk (start + 16) 16 entries (get_or bytes lane 0 / 16) 0 (omega (arith, byte)))
 
--- what held tables give is what the tables give that they were read from
-pub nibble_held : (entries held : List ℕ) (from until j row byte : ℕ)
-    → ((i : ℕ) → i < 128 * (until - from) → get_or held i 0 ≡ get_or entries (128 * from + i) 0) → from ≤ j → j < until → row < 4 → byte < 256
+-- look-ups in the entries behind some
+pub nibble_sum-behind : (before : ℕ) (entries : List ℕ) (start byte : ℕ) → nibble_sum (drop before entries) start byte ≡ nibble_sum entries (before + start) byte
+nibble_sum-behind before entries start byte =
+    ap₂ bit_xor (get_or-drop before entries (start + byte % 16) 0 ∙ ap (λ (p : ℕ). get_or entries p 0) low)
+    (get_or-drop before entries (start + 16 + byte / 16) 0 ∙ ap (λ (p : ℕ). get_or entries p 0) high)
+  where
+    low : before + (start + byte % 16) ≡ before + start + byte % 16
+    low = omega arith
+
+    high : before + (start + 16 + byte / 16) ≡ before + start + 16 + byte / 16
+    high = omega arith
+
+-- what held tables of some rows give is what the tables give that they were read from
+pub nibble_held : (entries held : List ℕ) (from until rows j row byte : ℕ)
+    → ((i : ℕ) → i + 128 < 128 * (until - from) + 32 * rows → get_or held i 0 ≡ get_or entries (128 * from + i) 0)
+    → from ≤ j → j < until → row < rows → byte < 256
     → nibble_sum held (128 * (j - from) + 32 * row) byte ≡ nibble_sum entries (128 * j + 32 * row) byte
-nibble_held entries held from until j row byte same above below few fits =
+nibble_held entries held from until rows j row byte same above below few fits =
     ap₂ bit_xor
     (same (128 * (j - from) + 32 * row + byte % 16) (omega (arith, above, below, few)) ∙ ap (λ (p : ℕ). get_or entries p 0) low)
     (same (128 * (j - from) + 32 * row + 16 + byte / 16) (omega (arith, above, below, few, fits)) ∙ ap (λ (p : ℕ). get_or entries p 0) high)

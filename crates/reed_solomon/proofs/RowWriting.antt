@@ -1,5 +1,5 @@
 -- Rows of bytes that are written one after the other, and column by column.
-use Rattle.std.proofs.Common.{◌≡◌, ◌⊎◌, inl, inr, ℕ, zero, suc, ◌+◌, ◌-◌, ◌*◌, ◌<◌, ◌≤◌, true, false, nat_eq, List, [], length, get_or, replicate, set, refl, sym, ◌∙◌, ap, subst, arith}
+use Rattle.std.proofs.Common.{◌≡◌, ◌⊎◌, inl, inr, ℕ, zero, suc, ◌+◌, ◌-◌, ◌*◌, ◌<◌, ◌≤◌, true, false, nat_eq, List, [], length, drop, get_or, replicate, set, refl, sym, ◌∙◌, ap, subst, arith}
 use Rattle.std.specs.Prelude.{bit_xor}
 use Rattle.std.specs.Simd.Lanes.{chunk, put_chunk, zip2}
 use Rattle.std.proofs.lemmas.Bool.{cases_lt}
@@ -9,6 +9,7 @@ use Rattle.std.proofs.lemmas.Simd.{get_or-chunk, get_or-put_chunk_above, get_or-
 use Rattle.field_base.specs.Basis.{sum_below}
 use Rattle.reed_solomon.specs.Tables.{AreApart, AreWritten, FitRows, nibble_sum, row_sum, row_sum_of}
 use Rattle.reed_solomon.proofs.Factors.{sum_more}
+use Rattle.reed_solomon.proofs.NibbleTables.{nibble_sum-behind}
 use Rattle.reed_solomon.proofs.Samples.{below_next}
 use Rattle.field_base.proofs.BasisSums.{sum_below-same}
 
@@ -160,25 +161,24 @@ columns_written value place rows columns width next_column size old mid now befo
         swapped : AreApart size (place r) (place row) → AreApart size (place row) (place r)
         swapped apart_of = elim apart_of [ inl low ↦ inr low | inr high ↦ inl high ]
 
--- other names of the places of rows that fit
-pub rows_held : (size room n : ℕ) (entries shards starts rows places : List ℕ) → FitRows size entries shards starts room rows n → length places ≡ n
-    → ((i : ℕ) → i < n → get_or places i 0 ≡ get_or rows (0 + i) 0) → FitRows size entries shards starts room places n
-rows_held size room n entries shards starts rows places fit long same =
+-- some of the rows that fit, by other names of their places, and the entries of these rows
+pub rows_held : (size room n first m : ℕ) (entries some shards starts rows places : List ℕ) → FitRows size entries shards starts room rows n → first + m ≤ n
+    → 128 * length starts + 32 * m ≤ length some + 128 → length places ≡ m
+    → ((i : ℕ) → i < m → get_or places i 0 ≡ get_or rows (first + i) 0) → FitRows size some shards starts room places m
+rows_held size room n first m entries some shards starts rows places fit inside room_of_tables long same =
     record {
       named = long;
-      few_rows = fit.few_rows;
+      few_rows = omega (arith, fit.few_rows, inside);
       some_shards = fit.some_shards;
       few_shards = fit.few_shards;
-      tables = fit.tables;
+      tables = room_of_tables;
       inside = fit.inside;
-      within = λ row below. subst (λ (p : ℕ). p + size ≤ room) (sym (at row below)) (fit.within row below);
+      within = λ row below. subst (λ (p : ℕ). p + size ≤ room) (sym (same row below)) (fit.within (first + row) (omega (arith, below, inside)));
       apart = λ row other less below.
-          subst (λ (p : ℕ). AreApart size p (get_or places other 0)) (sym (at row below))
-          (subst (λ (p : ℕ). AreApart size (get_or rows row 0) p) (sym (at other (omega (arith, less, below)))) (fit.apart row other less below));
+          subst (λ (p : ℕ). AreApart size p (get_or places other 0)) (sym (same row below))
+          (subst (λ (p : ℕ). AreApart size (get_or rows (first + row) 0) p) (sym (same other (omega (arith, less, below))))
+          (fit.apart (first + row) (first + other) (omega (arith, less)) (omega (arith, below, inside))));
     }
-  where
-    at : (row : ℕ) → row < n → get_or places row 0 ≡ get_or rows row 0
-    at row below = let here : 0 + row ≡ row = omega arith in same row below ∙ ap (λ (i : ℕ). get_or rows i 0) here
 
 -- ---- the sums of a row
 
@@ -189,6 +189,16 @@ pub row_sum-same : (entries shards others starts : List ℕ) (row column : ℕ)
 row_sum-same entries shards others starts row column same =
     sum_below-same (λ j. nibble_sum entries (128 * j + 32 * row) (get_or shards (get_or starts j 0 + column) 0)) (λ j. nibble_sum entries (128 * j + 32 * row) (get_or others (get_or starts j 0 + column) 0)) (length starts)
     (λ j below. ap (nibble_sum entries (128 * j + 32 * row)) (same j below))
+
+-- a sum of a row by the entries from those of row `first` on
+pub row_sum-behind : (entries shards starts : List ℕ) (first row column : ℕ)
+    → row_sum (drop (32 * first) entries) shards starts row column ≡ row_sum entries shards starts (first + row) column
+row_sum-behind entries shards starts first row column =
+    sum_below-same (λ j. nibble_sum (drop (32 * first) entries) (128 * j + 32 * row) (get_or shards (get_or starts j 0 + column) 0)) (λ j. nibble_sum entries (128 * j + 32 * (first + row)) (get_or shards (get_or starts j 0 + column) 0)) (length starts)
+    (λ j below.
+    let place : 32 * first + (128 * j + 32 * row) ≡ 128 * j + 32 * (first + row) = omega arith in
+    nibble_sum-behind (32 * first) entries (128 * j + 32 * row) (get_or shards (get_or starts j 0 + column) 0)
+    ∙ ap (λ (p : ℕ). nibble_sum entries p (get_or shards (get_or starts j 0 + column) 0)) place)
 
 -- rows that are written leave the shards that are read
 pub still_read : (value : ℕ → ℕ → ℕ) (entries starts : List ℕ) (place : ℕ → ℕ) (rows columns size : ℕ) (old now : List ℕ)

@@ -48,13 +48,13 @@ abbrev pub AreApart : ℕ → ℕ → ℕ → Type 0
 AreApart width a b = (a + width ≤ b) ⊎ (b + width ≤ a)
 
 -- what `count` rows need that are written by tables: they are at most four, and begin at `rows` in a slice of `room` bytes, where no two meet; 1 to
--- 256 shards begin at `starts` in another, with entries for each. Rows and shards have `size` bytes.
+-- 256 shards begin at `starts` in another, with entries of these rows for each. Rows and shards have `size` bytes.
 pub record FitRows (size : ℕ) (entries shards starts : List ℕ) (room : ℕ) (rows : List ℕ) (count : ℕ) : Type 0 where
   pub named : length rows ≡ count
   pub few_rows : count ≤ 4
   pub some_shards : 0 < length starts
   pub few_shards : length starts ≤ 256
-  pub tables : 128 * length starts ≤ length entries
+  pub tables : 128 * length starts + 32 * count ≤ length entries + 128
   pub inside : (j : ℕ) → j < length starts → slice_index starts j + size ≤ length shards
   pub within : (row : ℕ) → row < count → slice_index rows row + size ≤ room
   pub apart : (row other : ℕ) → other < row → row < count → AreApart size (slice_index rows row) (slice_index rows other)

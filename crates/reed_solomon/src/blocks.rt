@@ -13,19 +13,21 @@ pub(crate) struct Held {
     starts: [usize; 2],
 }
 
-// Those of the shards from shard `from` on.
+// Those of the shards from shard `from` on, without what stands behind the N rows of the last.
 #[inline(always)]
-fn held_shards(entries: &[u8], starts: &[usize], from: usize, until: usize) -> Held
+fn held_shards<const N: usize>(entries: &[u8], starts: &[usize], from: usize, until: usize) -> Held
     requires few { length starts.now ≤ 256 }
-    requires range { from ≤ until }
+    requires rows { N ≤ 4 }
+    requires range { from < until }
     requires two { until ≤ from + 2 }
     requires listed { until ≤ length starts.now }
-    requires tables { 128 * length starts.now ≤ length entries.now }
-    ensures entries { (i : ℕ) → i < 128 * (until - from) → slice_index result.entries i ≡ slice_index entries.now (128 * from + i) }
+    requires tables { 128 * length starts.now + 32 * N ≤ length entries.now + 128 }
+    ensures entries { (i : ℕ) → i + 128 < 128 * (until - from) + 32 * N
+        → slice_index result.entries i ≡ slice_index entries.now (128 * from + i) }
     ensures starts { (i : ℕ) → i < until - from → slice_index result.starts i ≡ slice_index starts.now (from + i) }
 {
     Held {
-        entries: held_entries(entries, 128 * from, 128 * (until - from)),
+        entries: held_entries(entries, 128 * from, 128 * (until - from - 1) + 32 * N),
         starts: held_places::<2>(starts, from, until - from),
     }
 }
@@ -76,7 +78,8 @@ pub(crate) fn block_sums<const N: usize>(
 ) -> [u8x32; N]
     requires range { from ≤ until }
     requires two { until ≤ from + 2 }
-    requires held_entries { (i : ℕ) → i < 128 * (until - from) → slice_index held.now.entries i ≡ slice_index entries.now (128 * from + i) }
+    requires held_entries { (i : ℕ) → i + 128 < 128 * (until - from) + 32 * N
+        → slice_index held.now.entries i ≡ slice_index entries.now (128 * from + i) }
     requires held_starts { (i : ℕ) → i < until - from → slice_index held.now.starts i ≡ slice_index starts.now (from + i) }
     requires rows { N ≤ 4 }
     requires inside { (j : ℕ) → j < until → slice_index starts.now j + column + 32 ≤ length shards.now }
@@ -178,7 +181,7 @@ fn column_sums<const N: usize>(
     requires few { length starts.now ≤ 256 }
     requires range { from ≤ until }
     requires listed { until ≤ length starts.now }
-    requires tables { 128 * length starts.now ≤ length entries.now }
+    requires tables { 128 * length starts.now + 32 * N ≤ length entries.now + 128 }
     requires rows { N ≤ 4 }
     requires named { length rows.now ≡ N }
     requires inside { (j : ℕ) → j < length starts.now → slice_index starts.now j + column < length shards.now }
@@ -248,7 +251,7 @@ fn add_shards<const N: usize>(
 )
     requires fit { FitRows sources.now.size sources.now.entries.now sources.now.shards.now sources.now.starts.now (length out.old)
         rows.now N }
-    requires range { from ≤ until }
+    requires range { from < until }
     requires two { until ≤ from + 2 }
     requires listed { until ≤ length sources.now.starts.now }
     requires begun { (row column : ℕ) → row < N → column < sources.now.size → 0 < from
@@ -263,7 +266,7 @@ fn add_shards<const N: usize>(
         starts,
         entries,
     } = *sources;
-    let held = held_shards(entries, starts, from, until);
+    let held = held_shards::<N>(entries, starts, from, until);
     let whole = size / 32 * 32;
     for block in 0..size / 32 {
         let column = 32 * block;
@@ -322,7 +325,25 @@ fn write_rows<const N: usize, const AT_ONCE: usize>(
     add_all::<N, AT_ONCE>(sources, out, &places);
 }
 
-// Writes up to four rows of another slice, all at once: strips of few columns, so that they stay in the nearest cache.
+// Writes four rows of another slice, two by two: sixteen registers of sixteen bytes do not hold the tables and the sums of four. The tables
+// of the last two rows begin 64 entries behind those of the first.
+fn write_pairs(sources: &Sources<'_>, out: &mut [u8], rows: &[usize])
+    requires fit { FitRows sources.now.size sources.now.entries.now sources.now.shards.now sources.now.starts.now (length out.old)
+        rows.now 4 }
+    ensures { AreWritten (row_sum sources.now.entries.now sources.now.shards.now sources.now.starts.now) (slice_index rows.now) 4
+        sources.now.size out.old out.new }
+{
+    write_rows::<2, 2>(sources, out, &rows[..2]);
+    let behind = Sources {
+        shards: sources.shards,
+        size: sources.size,
+        starts: sources.starts,
+        entries: &sources.entries[64..],
+    };
+    write_rows::<2, 2>(&behind, out, &rows[2..]);
+}
+
+// Writes up to four rows of another slice, in strips of few columns, so that they stay in the nearest cache.
 pub(crate) fn write_group(sources: &Sources<'_>, out: &mut [u8], rows: &[usize])
     requires { FitRows sources.now.size sources.now.entries.now sources.now.shards.now sources.now.starts.now (length out.old)
         rows.now (length rows.now) }
@@ -330,7 +351,7 @@ pub(crate) fn write_group(sources: &Sources<'_>, out: &mut [u8], rows: &[usize])
         (length rows.now) sources.now.size out.old out.new }
 {
     match rows.len() {
-        4 => write_rows::<4, 1>(sources, out, rows),
+        4 => write_pairs(sources, out, rows),
         3 => write_rows::<3, 1>(sources, out, rows),
         2 => write_rows::<2, 2>(sources, out, rows),
         1 => write_rows::<1, 2>(sources, out, rows),

@@ -10,7 +10,7 @@ block_sums-sums-requires g c =
     let fits : columns + 32 ≤ c.args.sources.now.size = omega (arith, c.loop-block-test.true) in (
       omega arith,
       (
-        c.requires.range,
+        omega (arith, c.requires.range),
         (
           c.requires.two,
           (
@@ -64,7 +64,7 @@ column_sums-sums-requires g c =
       (
         c.requires.fit.few_shards,
         (
-          c.requires.range,
+          omega (arith, c.requires.range),
           (
             c.requires.listed,
             (

@@ -24,6 +24,6 @@ loop-row-preserved g c =
     c.nibble_sums.ensures.sums lane below
     ∙ ap (nibble_sum held.entries (128 * (j - from) + 32 * row)) (get_or-chunk (start + c.args.column) 32 shards lane 0 below
     ∙ ap (slice_index shards) place)
-    ∙ nibble_held c.args.entries.now held.entries from c.args.until j row (slice_index shards (slice_index c.args.starts.now j + (c.args.column + lane)))
-    c.requires.held_entries (omega arith) (omega arith) (omega (arith, c.requires.rows, c.loop-row-test.true))
+    ∙ nibble_held c.args.entries.now held.entries from c.args.until g.row.N j row (slice_index shards (slice_index c.args.starts.now j + (c.args.column + lane)))
+    c.requires.held_entries (omega arith) (omega arith) c.loop-row-test.true
     (c.bytes_fit.ensures (slice_index c.args.starts.now j + (c.args.column + lane))))

@@ -5,9 +5,9 @@ use Rattle.reed_solomon.proofs.blocks.write_rows.Goals as goal
 
 pub add_all-requires-clause-fit : goal.add_all-requires-clause-fit
 add_all-requires-clause-fit g c =
-    rows_held c.args.sources.now.size (length c.args.out.now) g.row.N c.args.sources.now.entries.now c.args.sources.now.shards.now
-    c.args.sources.now.starts.now c.args.rows.now c.held_places-places.result c.requires.fit c.held_places-places.ensures.long
-    c.held_places-places.ensures.same
+    rows_held c.args.sources.now.size (length c.args.out.now) g.row.N 0 g.row.N c.args.sources.now.entries.now c.args.sources.now.entries.now
+    c.args.sources.now.shards.now c.args.sources.now.starts.now c.args.rows.now c.held_places-places.result c.requires.fit (omega arith)
+    c.requires.fit.tables c.held_places-places.ensures.long c.held_places-places.ensures.same
 
 pub returns : goal.returns
 returns g c =

@@ -26,7 +26,7 @@ write_group-requires c =
       few_rows = omega (arith, listed, c.requires.rows);
       some_shards = c.requires.some_shards;
       few_shards = c.requires.few;
-      tables = c.requires.tables;
+      tables = omega (arith, c.requires.tables, listed, c.requires.rows);
       inside = λ j below.
           omega (arith, long, c.requires.begun j below, c.requires.inside j below, c.requires.within, c.requires.some);
       within = λ row below.
