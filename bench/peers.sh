@@ -3,14 +3,15 @@
 #
 #   bench/peers.sh [--list]
 #
-# These are packages of Debian and Ubuntu: ISA-L, GF-Complete, NTL, M4RI, M4RIE, FLINT, libfec, OpenSSL, Nettle, par2 and numpy. It calls
-# apt-get, which asks for the rights of root, and installs nothing where all are there. With --list it installs nothing, and ends with status
-# 1 where one is missing. The Rust crate is no package: bench/README.md says how it is named.
+# These are packages of Debian and Ubuntu: ISA-L, Go with klauspost's reedsolomon, GF-Complete, NTL, M4RI, M4RIE, FLINT, libfec, OpenSSL, BearSSL,
+# Nettle, par2 and numpy. It calls apt-get, which asks for the rights of root, and installs nothing where all are there. With --list it installs
+# nothing, and ends with status 1 where one is missing. The Rust crate is no package: bench/README.md says how it is named.
 set -eu
 here=$(cd "$(dirname "$0")" && pwd)
 # shellcheck source=bench/common.sh
 . "$here/common.sh"
-packages='libisal-dev libgf-complete-dev libntl-dev libm4ri-dev libm4rie-dev libflint-dev libfec-dev libssl-dev openssl nettle-bin par2 python3-numpy'
+packages='libisal-dev golang-go golang-github-klauspost-reedsolomon-dev libgf-complete-dev libntl-dev libm4ri-dev libm4rie-dev libflint-dev'
+packages="$packages libfec-dev libssl-dev openssl libbearssl-dev nettle-bin par2 python3-numpy"
 
 # version PACKAGE: the version that is installed; nothing where none is.
 version() {
@@ -38,6 +39,6 @@ if [ -z "${1-}" ] && [ -n "$(lacking)" ]; then
 fi
 for package in $packages; do
     installed=$(version "$package")
-    printf '%-20s %s\n' "$package" "${installed:-missing}"
+    printf '%-40s %s\n' "$package" "${installed:-missing}"
 done
 [ -z "$(lacking)" ]
