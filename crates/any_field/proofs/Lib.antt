@@ -30,3 +30,4 @@ pub mod FoundOptions
 pub mod ShiftAndAdd
 pub mod AlignedBytes
 pub mod BlockSteps
+pub mod ScaledWords

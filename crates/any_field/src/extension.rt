@@ -14,6 +14,7 @@ mod multiples;
 mod orders;
 mod powers;
 mod roots;
+mod scalars;
 mod slices;
 mod subfields;
 mod values;

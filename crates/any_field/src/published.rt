@@ -3,6 +3,7 @@ use crate::{
     BinaryExtension, Embedding, NotIrreducible, irreducible_pentanomial, irreducible_trinomial,
     is_field_modulus, next_irreducible,
 };
+use field_slices::matrices::row_reduce;
 
 // How many binary polynomials of degree 1 to 16 are irreducible, by the formula of Gauss (The On-Line Encyclopedia of Integer Sequences,
 // A001037).
@@ -84,5 +85,17 @@ fn embeddings_are_found(rt: HostRuntime) -> Result<(), NotIrreducible> {
     }
     let odd = BinaryExtension::new(3, 3)?;
     assert!(rt; Embedding::find(odd, large).is_none());
+    Ok(())
+}
+
+// The second row is 2 times the first one, and where its last entry is another one it is not.
+#[test]
+fn matrices_have_ranks(rt: HostRuntime) -> Result<(), NotIrreducible> {
+    let field = BinaryExtension::new(8, 0x1d)?;
+    let mut pivots = [9; 2];
+    let mut matrix = [1, 0x80, 2, 0x1d];
+    assert_eq!(rt; row_reduce(field, &mut matrix, 2, 2, &mut pivots), 1);
+    let mut other = [1, 0x80, 2, 0x1c];
+    assert_eq!(rt; row_reduce(field, &mut other, 2, 2, &mut pivots), 2);
     Ok(())
 }

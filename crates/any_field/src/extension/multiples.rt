@@ -1,6 +1,7 @@
 // The products of many elements by one, which are a linear map, by its values at the digits of a word to base 16.
 ghost use Rattle.std.specs.Prelude.{◌≡◌, ◌*◌, ◌/◌, ◌%◌, ◌^◌, ◌<◌, ◌≤◌, ◌+◌, ℕ, length, map, slice_index};
 ghost use Rattle.field_base.specs.LinearMaps.{linear_image};
+ghost use Rattle.field_slices.specs.Matrices.{AreScaledSums};
 ghost use Rattle.word_tables.specs.LinearMap.{sum_of_values};
 ghost use Rattle.any_field.specs.Contexts.{field_product};
 
@@ -114,6 +115,20 @@ impl Multiples {
     {
         for place in 0..words.len() {
             words[place] = self.of(low_bits(words[place], self.field.degree));
+        }
+    }
+
+    // Adds to each sum the product of the scalar and the word at its place.
+    pub(crate) fn add_to(&self, sums: &mut [u128], words: &[u128])
+        requires { length words.now ≡ length sums.old }
+        ensures long { length sums.new ≡ length sums.old }
+        ensures sums { AreScaledSums (field_product self.now.field.degree self.now.field.tail) (self.now.scalar % 2 ^ self.now.field.degree)
+            (map (λ x. x % 2 ^ self.now.field.degree) words.now) (map (λ x. x % 2 ^ self.now.field.degree) sums.old)
+            (map (λ x. x % 2 ^ self.now.field.degree) sums.new) }
+    {
+        for place in 0..sums.len() {
+            let product = self.of(low_bits(words[place], self.field.degree));
+            sums[place] = sums[place] ^ product;
         }
     }
 }

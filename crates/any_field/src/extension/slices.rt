@@ -11,7 +11,7 @@ use crate::reduction::low_bits;
 use field_base::Holds;
 
 // From so many words on tables of the products by an element pay.
-const MAPPED: usize = 32;
+pub(crate) const MAPPED: usize = 32;
 
 impl BinaryExtension {
     /// Multiplies each word by the other word at its place. Both slices have to be of one length.
@@ -94,7 +94,8 @@ impl BinaryExtension {
         ensures before { (i : ℕ) → i < length words.now → slice_index (map (λ x. x % 2 ^ self.degree) products.new) i
             ≡ nonzero_product (field_product self.degree self.tail) (slice_index (map (λ x. x % 2 ^ self.degree) words.now)) i }
         ensures whole { result % 2 ^ self.degree
-            ≡ nonzero_product (field_product self.degree self.tail) (slice_index (map (λ x. x % 2 ^ self.degree) words.now)) (length words.now) }
+            ≡ nonzero_product (field_product self.degree self.tail) (slice_index (map (λ x. x % 2 ^ self.degree) words.now))
+            (length words.now) }
         ensures nonzero { result % 2 ^ self.degree ≢ 0 }
     {
         let mut product: u128 = 1;
