@@ -3,8 +3,7 @@
 ghost use Rattle.std.specs.Prelude.{◌≡◌, ◌%◌, ◌^◌, length, map};
 ghost use Rattle.field_slices.specs.Matrices.{AreScaledSums};
 ghost use Rattle.any_field.specs.Contexts.{field_product};
-ghost use Rattle.any_field.proofs.ContextFields.{field-at};
-ghost use Rattle.any_field.proofs.InverseSlices.{low-lt};
+ghost use Rattle.any_field.specs.ContextLemmas.{chosen_field, low_bits-lt};
 
 use crate::extension::BinaryExtension;
 use crate::extension::slices::MAPPED;
@@ -80,7 +79,7 @@ impl Scalars for BinaryExtension {
 
     ghost wide_law = { λ field. field.context.wide };
 
-    ghost field_law = { λ field. field-at field.degree field.tail field.ratio field.context field.irreducible };
+    ghost field_law = { λ field. chosen_field field.degree field.tail field.ratio field.context field.irreducible };
 
-    ghost range_law = { λ field x. low-lt field.degree x };
+    ghost range_law = { λ field x. low_bits-lt field.degree x };
 }
