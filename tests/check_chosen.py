@@ -74,6 +74,36 @@ class Chosen(unittest.TestCase):
             self.assertEqual(len(set(image(a).tolist())), len(set(a.tolist())))
         self.assertRaises(ValueError, bf.GF(2**5).embedded, bf.GF(2**3)([1]))
 
+    def test_embeddings_of_fixed_fields(self):
+        """Each fixed field of up to 128 bits, from chosen ones and in them."""
+        for fixed in (bf.BinaryField2, bf.BinaryField4, bf.BinaryField8, bf.BinaryField16, bf.BinaryField32, bf.BinaryField64, bf.BinaryField128,
+                      bf.Rijndael8b, bf.Poly64, bf.Ghash128):
+            draw = random.Random(fixed.degree)
+            chosen = [bf.GF(2**degree) for degree in (2, 4, 8, 16, 32, 64) if not max(degree, fixed.degree) % min(degree, fixed.degree)]
+            for other in chosen + [bf.GF(2**128, irreducible_poly=1 << 128 | 0xF9)]:
+                small, large = (other, fixed) if other.degree <= fixed.degree else (fixed, other)
+                if small is large:
+                    continue
+                a, b = (small([draw.getrandbits(small.degree) for _ in range(6)]) for _ in range(2))
+                image = large.embedded
+                self.assertEqual(image(a + b).tolist(), (image(a) + image(b)).tolist())
+                self.assertEqual(image(a * b).tolist(), (image(a) * image(b)).tolist())
+                self.assertEqual(image(small([0, 1])).tolist(), [0, 1])
+                self.assertEqual(len(set(image(a).tolist())), len(set(a.tolist())))
+                if large is other:
+                    self.assertEqual(image(a).to_subfield(small).tolist(), a.tolist())
+        self.assertRaises(TypeError, bf.Ghash128, bf.GF(2**8)([1]))
+
+    def test_subfields(self):
+        for degree, width in ((2, 8), (4, 12), (8, 16), (32, 64)):
+            small, large, draw = bf.GF(2**degree), bf.GF(2**width), random.Random(width)
+            x = large([draw.getrandbits(width) for _ in range(5)])
+            conjugates = [x ** (1 << i) for i in range(0, width, degree)]
+            self.assertEqual(large.embedded(x.field_trace(small)).tolist(), sum(conjugates[1:], conjugates[0]).tolist())
+            self.assertEqual(large.embedded(x.field_norm(small)).tolist(), np.prod(np.stack(conjugates), axis=0).tolist())
+            self.assertEqual(width // degree % x[0].minimal_poly(small).degree, 0)
+            self.assertRaises(ValueError, large([2]).to_subfield, small)
+
     def test_matrices_and_polynomials(self):
         for field, _, draw in self.fields():
             matrix = field([[draw.getrandbits(field.degree) for _ in range(3)] for _ in range(3)])

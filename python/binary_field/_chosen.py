@@ -63,7 +63,7 @@ class ChosenField(FieldArray, metaclass=_Chosen):
     def _images(cls, elements: Any) -> Any:
         """The images of elements of another field: of GF(2) alone."""
         if elements._name != "gf2":
-            raise TypeError(f"cannot convert {type(elements).__name__} to {cls.__name__}: of other fields GF(2) alone is read")
+            raise TypeError(f"cannot convert {type(elements).__name__} to {cls.__name__}: take {cls.__name__}.embedded")
         result = cls.zeros(elements.shape)
         result._parts()[0][...] = elements._words
         return result
@@ -73,23 +73,6 @@ class ChosenField(FieldArray, metaclass=_Chosen):
             return super()._quotient(divisor, out)
         divisor._refuse_zero()
         return self._elementwise("divide", divisor, out)
-
-    @classmethod
-    def embedded(cls, elements: Any) -> Any:
-        """The images in this field of elements of another chosen one, whose degree divides that of this: by the embedding that takes x to
-        the root of its modulus that the library finds, the same in each call. ValueError where no embedding is.
-
-        >>> bf.GF(2**4).embedded(bf.GF(2**2)([1, 2])) ** 3
-        GF_4_13([0x1, 0x1])
-        """
-        if not isinstance(elements, ChosenField) or cls.degree % elements.degree:
-            raise ValueError(f"no embedding takes {type(elements).__name__} to {cls.__name__}")
-        root, images = np.zeros((), _WIDE), np.empty(elements.shape, _WIDE)
-        call("field_embedding", elements._field, cls._field, root)
-        call("field_embed", elements._field, cls._field, root, _wide(elements._words), images)
-        result = cls.zeros(elements.shape)
-        result._words[...] = _narrow(images, result._words.dtype)
-        return result
 
     def _logarithms(self) -> Words:
         """Those to the primitive element: by one call of the library where that takes few steps, as it goes along the powers in a group of
@@ -102,14 +85,25 @@ class ChosenField(FieldArray, metaclass=_Chosen):
         call("field_logarithm", self._field, _wide(self._words), _wide(base._words), logarithms)
         return np.asarray(logarithms["words"][..., 0].astype(object))
 
+    def _over(self, subfield: Any) -> tuple[Any, int]:
+        subfield = Gf2 if subfield is None else subfield
+        if self.degree % subfield.degree:
+            raise TypeError(f"cannot convert {subfield.__name__} to {type(self).__name__}, which does not contain it")
+        return subfield, self.degree // subfield.degree
+
     def _restricted(self, subfield: Any) -> Any:
-        return self if subfield._name == self._name else self._narrowed(subfield)
+        from . import _embeddings
+
+        return self if subfield._name == self._name else self._narrowed(Gf2) if subfield is Gf2 else _embeddings.restricted(subfield, self)
 
     def field_trace(self, subfield: Any = None) -> Any:
-        """The trace of each element over GF(2), in `Gf2`: the sum of its conjugates.
+        """The trace of each element over a field whose degree divides that of this one, by default GF(2): the sum of its conjugates, as the
+        element of that field whose image it is, as `embedded` has it.
 
         >>> bf.GF(2**3)([1, 2, 4]).field_trace()
         Gf2([0x1, 0x0, 0x0])
+        >>> bf.GF(2**4)([2]).field_trace(bf.GF(2**2)), bf.GF(2**4)([2]).field_norm(bf.GF(2**2)) ** 3
+        (GF_2_7([0x1]), GF_2_7([0x1]))
         """
         if subfield is not None and subfield._name != "gf2":
             return super().field_trace(subfield)

@@ -241,9 +241,24 @@ class Facts(Drawn):
         """
         subfield, _ = self._over(subfield)
         result = self._restricted(subfield)
-        if not (result.to(type(self)) == self).all():
+        if not (type(self).embedded(result) == self).all():
             raise ValueError(f"an element of {type(self).__name__} is not in {subfield.__name__}")
         return result
+
+    @classmethod
+    def embedded(cls, elements: Any) -> Any:
+        """The images in this field of elements of another one, of up to 128 bits, whose degree divides that of this. Where one of both is a
+        class of `GF`, it is by the embedding that takes x to the root of a modulus that the library finds, the same in each call; between the
+        fixed fields it is `to`. ValueError where no embedding is.
+
+        >>> bf.GF(2**4).embedded(bf.GF(2**2)([1, 2])) ** 3
+        GF_4_13([0x1, 0x1])
+        >>> bf.BinaryField16.embedded(bf.GF(2**8)([2, 3])) ** 255
+        BinaryField16([0x1, 0x1])
+        """
+        from . import _embeddings
+
+        return _embeddings.embedded(cls, elements)
 
     def field_trace(self, subfield: Any = None) -> Any:
         """The trace of each element over a field that this one contains, by default GF(2): the sum of its conjugates, in that field.

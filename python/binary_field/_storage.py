@@ -330,6 +330,8 @@ class Stored(metaclass=_Constants):
             result = field.zeros(self.shape)
             call(f"{self._name}_to_{field._name}", self._words, result._words)
             return result
+        if not self._is_in_tower() and self._partner is None and self.degree <= 128:
+            raise TypeError(f"cannot convert {type(self).__name__} to {field.__name__}: take {field.__name__}.embedded")
         if field.degree <= self.degree or field.degree % self.degree:
             raise TypeError(f"cannot convert {type(self).__name__} to {field.__name__}, which does not contain it")
         # In the tower, and from p64 to p192, an element is its own image.

@@ -249,7 +249,8 @@ impl ChosenField {
     }
 
     /// An element of `target` that is a root of the modulus of this field, by which `embed` takes elements there: `Error::Unsolvable` exactly
-    /// where the degree of this field does not divide that of the target.
+    /// where the degree of this field does not divide that of the target. The fields of `new(8, 0x1b)`, `new(64, 0x1b)` and `new(128, 0x87)` are
+    /// `Rijndael8b`, `Poly64` and `Ghash128` as they stand.
     pub fn embedding(&self, target: &ChosenField) -> Result<u128, Error> {
         let mut root = [0; 2];
         Error::of(
