@@ -12,13 +12,34 @@ import numpy as np
 
 import binary_field as bf
 
-# Generator polynomials of binary BCH codes in octal digits (S. Lin and D. J. Costello, Error control coding, appendix C): bits of a word and
-# of its data, and errors. The fields of 2^6 and 2^7 elements are modulo the first of the polynomials there.
+# Generator polynomials of binary BCH codes in octal digits, as tables of books have them: bits of a word and of its data, and errors. That for
+# one error is the modulus of the field; `generator_of` makes each anew.
 GENERATORS = [
     (7, 4, 1, "13"), (15, 11, 1, "23"), (15, 7, 2, "721"), (15, 5, 3, "2467"), (31, 26, 1, "45"), (31, 21, 2, "3551"), (31, 16, 3, "107657"),
     (31, 11, 5, "5423325"), (31, 6, 7, "313365047"), (63, 57, 1, "103"), (63, 51, 2, "12471"), (63, 45, 3, "1701317"), (63, 39, 4, "166623567"),
     (127, 120, 1, "211"), (127, 113, 2, "41567"), (127, 106, 3, "11554743"), (255, 247, 1, "435"), (255, 239, 2, "267543"),
 ]
+
+
+def order_of(modulus, element):
+    """The least exponent above 0 for which a power is 1."""
+    exponent, power = 1, element
+    while power != 1:
+        exponent, power = exponent + 1, definitions.code_product(modulus, power, element)
+    return exponent
+
+
+def generator_of(modulus, n, alpha, t):
+    """The product of x + r over the elements r that are alpha, alpha**2, .., alpha**(2 t) or squares of these, squared again and so on."""
+    powers = [1]
+    while len(powers) < n:
+        powers.append(definitions.code_product(modulus, powers[-1], alpha))
+    product = [1]
+    exponents = {(exponent << doublings) % n for exponent in range(1, 2 * t + 1) for doublings in range(modulus.bit_length())}
+    for exponent in exponents:
+        product = [a ^ definitions.code_product(modulus, powers[exponent], b) for a, b in zip([*product, 0], [0, *product])]
+    assert set(product) <= {0, 1}
+    return int("".join(map(str, product)), 2)
 
 
 class FieldCodes(unittest.TestCase):
@@ -61,6 +82,16 @@ class FieldCodes(unittest.TestCase):
             self.assertEqual(pickle.loads(pickle.dumps(code)).encode(data).tolist(), code.encode(data).tolist())
             kind = bf.GF(2**bits, irreducible_poly=field)
             self.assertFalse((kind(code.G) @ kind(code.H).T).any())
+            self.assertEqual(code.is_primitive, order_of(field, code.alpha) == 2**bits - 1)
+
+    def test_cyclic_codes(self):
+        for n, k, field, alpha in ((15, 9, 0x13, None), (3, 1, 7, None), (255, 223, 0x11D, None), (85, 60, 0x11B, 15), (5, 2, 0x13, 8)):
+            code = bf.CorrectingCode(n, k, c=3, field=field, alpha=alpha)
+            kind = bf.GF(1 << field.bit_length() - 1, irreducible_poly=field)
+            product = bf.Poly(kind(code.parity_check_poly)) * bf.Poly(kind(code.generator_poly))
+            self.assertEqual(product, bf.Poly([1, *[0] * (n - 1), 1], kind), (n, k))
+        with self.assertRaisesRegex(ValueError, "cyclic"):
+            bf.CorrectingCode(14, 9, field=0x13).parity_check_poly
 
     def test_words_are_corrected(self):
         draw = random.Random(6)
@@ -123,16 +154,36 @@ class BinaryCodes(unittest.TestCase):
             for code in (*own, bf.BCH(n, k, extension_field=kind)):
                 self.assertEqual((code.n, code.k, code.d, code.t), (n, k, 2 * t + 1, t))
                 self.assertEqual(int(code.generator_poly), int(digits, 8), (n, k))
+            self.assertEqual(generator_of(moduli[n], n, 2, t), int(digits, 8), (n, k))
             self.assertEqual((code.c, code.is_systematic, code.is_narrow_sense, code.is_primitive), (1, True, True, True))
+
+    def test_what_belongs_to_a_code(self):
+        other = bf.GF(2**8, irreducible_poly=0x12D)
+        for code in (
+            bf.BCH(7, 4), bf.BCH(15, 5), bf.BCH(5, 1), bf.BCH(9, 1), bf.BCH(17, 9), bf.BCH(21, 6), bf.BCH(51, d=5), bf.BCH(63, 45), bf.BCH(85, d=9),
+            bf.BCH(15, 7, extension_field=other), bf.BCH(15, 7, extension_field=bf.Rijndael8b), bf.BCH(31, 21, alpha=4), bf.BCH(255, d=7),
+        ):
+            kind, n, t = code.extension_field, code.n, code.t
+            modulus = int(kind.irreducible_poly)
+            powers = [definitions.code_power(modulus, exponent, code.alpha) for exponent in range(n + 1)]
+            self.assertEqual((len(set(powers)), powers[n]), (n, 1))
+            self.assertEqual(int(code.generator_poly), generator_of(modulus, n, code.alpha, t), code)
+            self.assertEqual(code.roots.tolist(), powers[1 : 2 * t + 1])
+            self.assertEqual(code.H.tolist(), [[powers[row * (n - 1 - place) % n] for place in range(n)] for row in range(1, 2 * t + 1)])
+            self.assertFalse((kind(code.H) @ kind(code.G.T)).any())
+            self.assertEqual(code.parity_check_poly * code.generator_poly, bf.Poly.Int(1 << n | 1, bf.Gf2))
+            self.assertEqual((code.field, code.is_primitive), (bf.Gf2, n + 1 == kind.order))
+            words = code.encode(np.eye(code.k, dtype=int))
+            self.assertFalse(bf.BCH(n, code.k, extension_field=kind, alpha=code.alpha).detect(words).any())
+        self.assertIs(bf.BCH(15, 7).extension_field, bf.GF(2**4))
+        for alpha in (0, 1, 3, 16):
+            self.assertRaises(ValueError, bf.BCH, 15, 7, extension_field=bf.GF(2**8, irreducible_poly=0x11D), alpha=alpha)
 
     def test_both_ways_to_compute_agree(self):
         draw = random.Random(7)
         for n, t in ((15, 2), (17, 2), (51, 3), (85, 4), (255, 10)):
-            one, other = bf._bch._BitCalls(n, t), bf._bch._WordCalls(n, t)
+            one, other = bf._bch._BitCalls(n, t), bf._bch._WordCalls(n, t, *bf._bch._root_of(n, None, None))
             self.assertEqual(one.k, other.k)
-            if n not in (15, 255):
-                # The roots are conjugates of another element of the order n, so that the codes may differ.
-                continue
             data = np.array([[draw.getrandbits(1) for _ in range(n)] for _ in range(9)], np.uint8)
             words, others = data.copy(), data.copy()
             one.encode(words)

@@ -10,7 +10,7 @@ import numpy as np
 
 from ._chosen import GF
 from ._code_calls import FieldCalls, flags_of, numbers_of, resized, symbols_of, told_by
-from ._codes import modulus_of
+from ._codes import CorrectingCode, modulus_of
 from ._fields import Gf2
 from ._library import Words, call
 from ._poly import Poly
@@ -28,6 +28,17 @@ def _extension_of(n: int) -> int:
         if (1 << degree) % n == 1:
             return degree
     raise ValueError(f"no field of up to 2**{_MOST} elements has an element of the order {n}")
+
+
+def _root_of(n: int, extension_field: Any, alpha: Any) -> tuple[Any, int]:
+    """The extension field of a code, and its element of the order n whose powers are the roots."""
+    field: Any = GF(2 ** _extension_of(n)) if extension_field is None else extension_field
+    if not modulus_of(field) < 1 << _MOST + 1 or (field.order - 1) % n:
+        raise ValueError(f"{field.__name__} has no element of the order {n}, or more than 2**{_MOST} elements")
+    root = field.primitive_element ** ((field.order - 1) // n) if alpha is None else field(int(alpha))
+    if not root or root.multiplicative_order() != n:
+        raise ValueError(f"alpha has not the order {n}")
+    return field, int(root)
 
 
 def _leaders(n: int, t: int) -> list[int]:
@@ -53,10 +64,7 @@ class _BitCalls:
     """Codes whose length divides 255, by calls of their own."""
 
     def __init__(self, n: int, t: int) -> None:
-        self.t, self.step, self.most = t, _ORDER // n, n
-        field: Any = GF(2**8, irreducible_poly=_BYTES)
-        self.alpha = int(field(2) ** self.step)
-        self.modulus = _BYTES
+        self.t, self.step = t, _ORDER // n
         data = np.zeros((), np.uint64)
         call("bch_data", _BYTES, n, t, self.step, data)
         self.k = int(data)
@@ -84,15 +92,10 @@ class _BitCalls:
 class _WordCalls:
     """Codes of another length, as the words of bits of a Reed-Solomon code over the extension field: they are those at whose roots it is 0."""
 
-    def __init__(self, n: int, t: int, extension_field: Any = None) -> None:
-        field: Any = GF(2 ** _extension_of(n)) if extension_field is None else extension_field
-        if not modulus_of(field) < 1 << _MOST + 1 or (field.order - 1) % n:
-            raise ValueError(f"{field.__name__} has no element of the order {n}, or more than 2**{_MOST} elements")
+    def __init__(self, n: int, t: int, field: Any, alpha: int) -> None:
         self.t, self.k = t, n - _checks(n, t)
-        self.alpha = int(field.primitive_element ** ((field.order - 1) // n))
-        self.modulus = int(field.irreducible_poly)
-        self._words = FieldCalls(self.modulus, 1, self.alpha)
-        self._generator: Any = functools.reduce(operator.mul, ((field(self.alpha) ** it).minimal_poly() for it in _leaders(n, t)))
+        self._words = FieldCalls(int(field.irreducible_poly), 1, alpha)
+        self._generator: Any = functools.reduce(operator.mul, ((field(alpha) ** it).minimal_poly() for it in _leaders(n, t)))
 
     @functools.cached_property
     def _parity(self) -> Any:
@@ -135,10 +138,11 @@ class BCH:
     are wrong.
 
     The first bit is the coefficient of the highest power, and a word is one of the code where its polynomial is 0 at alpha, alpha**2, ..,
-    alpha**(2 * t), where alpha is an element of the order n of an extension of GF(2): n is odd, and divides 2**m - 1 for an m up to 16. It is
-    a power of the primitive element of `extension_field`, by default the least field that has such an element, as `GF` makes it. Instead of `k` there may be `d`, at as many places two words differ at least; t and d are then the greatest with the same words. Calls
-    take one word, or arrays of words in their last axis, of bits as integers, truth values or elements of `Gf2`, and return bytes that are 0
-    or 1. A word may be shortened: then it lacks bits of data at its front.
+    alpha**(2 * t), where alpha is an element of the order n of an extension of GF(2): n is odd, and divides 2**m - 1 for an m up to 16. By
+    default it is the least power of the primitive element of `extension_field`, and that the least field that has such an element, as `GF`
+    makes it. Instead of `k` there may be `d`, at as many places two words differ at least; t and d are then the greatest with the same words.
+    Calls take one word, or arrays of words in their last axis, of bits as integers, truth values or elements of `Gf2`, and return bytes that
+    are 0 or 1. A word may be shortened: then it lacks bits of data at its front.
 
     >>> code = bf.BCH(15, 7)
     >>> code
@@ -153,21 +157,21 @@ class BCH:
     923
     """
 
-    def __init__(self, n: int, k: int | None = None, d: int | None = None, *, extension_field: Any = None) -> None:
+    def __init__(self, n: int, k: int | None = None, d: int | None = None, *, extension_field: Any = None, alpha: Any = None) -> None:
         self._n = operator.index(n)
         if (k is None) == (d is None):
             raise ValueError("expected k or d, and not both")
         if self._n < 3 or self._n % 2 == 0:
             raise ValueError("a word of a whole code has an odd number of bits, 3 or more")
-        _extension_of(self._n)
+        self._kind, self._alpha = _root_of(self._n, extension_field, alpha)
         t = operator.index(d) // 2 if d is not None else self._errors_of(operator.index(k or 0))
         if not (0 < 2 * t < self._n and _checks(self._n, t) < self._n):
             raise ValueError(f"no code with words of {self._n} bits has d={d}")
         while 2 * t + 2 < self._n and _checks(self._n, t + 1) == _checks(self._n, t):
             t += 1
         self._t = t
-        has_own = _ORDER % self._n == 0 and extension_field is None
-        self._calls: Union[_BitCalls, _WordCalls] = _BitCalls(self._n, t) if has_own else _WordCalls(self._n, t, extension_field)
+        has_own = _ORDER % self._n == 0 and extension_field is None and alpha is None
+        self._calls: Union[_BitCalls, _WordCalls] = _BitCalls(self._n, t) if has_own else _WordCalls(self._n, t, self._kind, self._alpha)
 
     def _errors_of(self, k: int) -> int:
         """The least number of errors for which there are k bits of data."""
@@ -216,8 +220,8 @@ class BCH:
 
     @property
     def is_primitive(self) -> bool:
-        """Whether n is one less than a power of two, so that alpha is a primitive element of the least field that has it."""
-        return self._n & self._n + 1 == 0
+        """Whether alpha is a primitive element of the extension field, so that n is one less than its order."""
+        return self._n + 1 == int(self._kind.order)
 
     @property
     def alpha(self) -> int:
@@ -226,16 +230,54 @@ class BCH:
         >>> bf.BCH(31, 21).alpha
         2
         """
-        return self._calls.alpha
+        return self._alpha
 
     @property
-    def extension_field(self) -> int:
-        """The modulus of the field that has the roots, as an integer whose bit i is the coefficient of x**i.
+    def field(self) -> Any:
+        """The field of the symbols, `Gf2`."""
+        return Gf2
 
-        >>> hex(bf.BCH(31, 21).extension_field)
-        '0x25'
+    @property
+    def extension_field(self) -> Any:
+        """The field that has the roots, as a class of arrays.
+
+        >>> bf.BCH(15, 7).extension_field is bf.GF(2**4)
+        True
         """
-        return self._calls.modulus
+        return self._kind
+
+    @property
+    def _symbols(self) -> CorrectingCode:
+        """The code over the extension field whose words of bits are those of this one."""
+        return CorrectingCode(self._n, self._n - 2 * self._t, c=1, field=int(self._kind.irreducible_poly), alpha=self._alpha)
+
+    @property
+    def roots(self) -> Words:
+        """The roots, in the field of `extension_field`: alpha, alpha**2, .., alpha**(2 * t).
+
+        >>> bf.BCH(15, 7).roots.tolist()
+        [2, 4, 8, 3]
+        """
+        return self._symbols.roots
+
+    @property
+    def H(self) -> Words:
+        """The parity-check matrix over the field of `extension_field`: a row for each root has its powers, so that the matrix times a word is 0
+        exactly where the word is one of the code.
+
+        >>> bf.BCH(7, 4).H.tolist()
+        [[5, 7, 6, 3, 4, 2, 1], [7, 3, 2, 5, 6, 4, 1]]
+        """
+        return self._symbols.H
+
+    @property
+    def parity_check_poly(self) -> Poly:
+        """The quotient of x**n + 1 and the generator polynomial, so that its product with a word is 0 modulo x**n + 1.
+
+        >>> bf.BCH(7, 4).parity_check_poly
+        Poly(x^4 + x^2 + x + 1, Gf2)
+        """
+        return Poly.Int(1 << self._n | 1, Gf2) // self.generator_poly
 
     @property
     def generator_poly(self) -> Poly:

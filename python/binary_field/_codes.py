@@ -197,6 +197,29 @@ class CorrectingCode:
         return self.encode([1])
 
     @property
+    def parity_check_poly(self) -> Words:
+        """The coefficients of the quotient of x**n + 1 and the generator polynomial, that of the highest power first: the product of x + r over
+        the powers r of alpha that are no roots. It is there where alpha has the order n, so that words stay words when they are turned round.
+
+        >>> bf.CorrectingCode(3, 1, c=1, field=7).parity_check_poly.tolist()
+        [1, 1]
+        """
+        if int(_kind(self.field)(self.alpha) ** self._n) != 1:
+            raise ValueError(f"alpha has not the order {self._n}, so that the code is not cyclic")
+        alpha = self.alpha if isinstance(self._calls, FieldCalls) else None
+        rest = self._n - self._k
+        return CorrectingCode(self._n, rest, c=self._c + rest, root_step=self._step, field=self.field, alpha=alpha).generator_poly
+
+    @property
+    def is_primitive(self) -> bool:
+        """Whether alpha is a primitive element of the field: each element but 0 is one of its powers.
+
+        >>> bf.CorrectingCode.ccsds_223().is_primitive, bf.CorrectingCode(5, 3, root_step=5).is_primitive
+        (True, False)
+        """
+        return bool(_kind(self.field).is_primitive_element(self.alpha))
+
+    @property
     def alpha(self) -> int:
         """The element whose powers c, c + 1, .. are the roots.
 
