@@ -84,6 +84,25 @@ class FieldCodes(unittest.TestCase):
             self.assertFalse((kind(code.G) @ kind(code.H).T).any())
             self.assertEqual(code.is_primitive, order_of(field, code.alpha) == 2**bits - 1)
 
+    def test_many_words_and_few(self):
+        # Many words over bytes go by the calls of words that stand interleaved.
+        draw = np.random.default_rng(10)
+        for code in (bf.CorrectingCode.qr(26, 16), bf.CorrectingCode(20, 12, c=3, field=0x187)):
+            n, t = code.n, code.t
+            data = draw.integers(0, 256, (5, 40, code.k), np.uint8)
+            words = code.encode(data)
+            self.assertEqual(words.tolist(), [[code.encode(it).tolist() for it in row] for row in data])
+            self.assertFalse(code.detect(words).any())
+            for at in np.ndindex(5, 40):
+                places = draw.choice(n, draw.integers(0, t + 2), replace=False)
+                words[at][places] ^= draw.integers(1, 256, places.size, np.uint8)
+            self.assertEqual(code.detect(words).tolist(), [[bool(code.detect(it)) for it in row] for row in words])
+            self.assertEqual(code.syndromes(words).tolist(), [[code.syndromes(it).tolist() for it in row] for row in words])
+            found, changed = code.decode(words, "codeword", errors=True)
+            for at in np.ndindex(5, 40):
+                own, count = code.decode(words[at], "codeword", errors=True)
+                self.assertEqual((found[at].tolist(), changed[at]), (own.tolist(), count))
+
     def test_cyclic_codes(self):
         for n, k, field, alpha in ((15, 9, 0x13, None), (3, 1, 7, None), (255, 223, 0x11D, None), (85, 60, 0x11B, 15), (5, 2, 0x13, 8)):
             code = bf.CorrectingCode(n, k, c=3, field=field, alpha=alpha)

@@ -15,6 +15,8 @@ from ._storage import Stored
 
 # What a call writes of a word that is near to no word of the code.
 _NOT_CORRECTED = 65535
+# From so many words on, those in the last axis are turned to columns, of which the library looks at many at once.
+_MANY = 64
 # The moduli of bytes whose codes have calls of their own, and the generators of their fields.
 BYTES = {0x11D: 2, 0x187: 2, 0x11B: 3}
 
@@ -72,20 +74,36 @@ class ByteCalls:
         end = "_interleaved" if axis == 0 else ""
         call(f"code_{name}{end}", self.modulus, symbols, symbols - checks, self.first_root, self.root_step, *arrays)
 
+    @staticmethod
+    def _columns(words: Words, axis: int) -> Words | None:
+        """The words as columns, where they are many and stand in the last axis."""
+        if axis == 0 or words.size < _MANY * words.shape[-1]:
+            return None
+        return np.ascontiguousarray(np.moveaxis(words, -1, 0))
+
     def encode(self, words: Words, checks: int, axis: int) -> None:
         """Writes the symbols behind the data."""
-        self._call("encode", words.shape[axis], checks, axis, words)
+        columns = self._columns(words, axis)
+        if columns is None:
+            self._call("encode", words.shape[axis], checks, axis, words)
+        else:
+            self._call("encode", columns.shape[0], checks, 0, columns)
+            words[..., -checks:] = np.moveaxis(columns[-checks:], 0, -1)
 
     def syndromes(self, words: Words, checks: int, axis: int) -> Words:
         """The values at the roots, in the same axis."""
+        columns = self._columns(words, axis)
+        if columns is not None:
+            return np.ascontiguousarray(np.moveaxis(self.syndromes(columns, checks, 0), 0, -1))
         values = np.empty(resized(words.shape, axis, checks), self.dtype)
         self._call("syndromes", words.shape[axis], checks, axis, words, values)
         return values
 
     def are_words(self, words: Words, checks: int, axis: int) -> Words:
         """Whether words are words of the code."""
-        if axis == 0:
-            return np.asarray(~self.syndromes(words, checks, axis).any(axis=0))
+        columns = words if axis == 0 else self._columns(words, axis)
+        if columns is not None:
+            return np.asarray(~self.syndromes(columns, checks, 0).any(axis=0))
         flags = np.empty(words.shape[:-1], np.uint8)
         self._call("are_words", words.shape[-1], checks, axis, words, flags)
         return told_by(flags)
@@ -98,6 +116,11 @@ class ByteCalls:
             corrected = np.zeros(words.shape[1:], np.bool_)
             self._call("correct", words.shape[0], checks, axis, words, flags_of(erasures, words.shape[:1]), values, corrected)
             return np.where(corrected, (words != received).sum(axis=0), -1)
+        columns = self._columns(words, axis) if erasures is None else None
+        if columns is not None:
+            numbers = self.correct(columns, checks, None, 0)
+            words[...] = np.moveaxis(columns, 0, -1)
+            return numbers
         counts = np.empty(words.shape[:-1], np.uint16)
         self._call("correct", words.shape[-1], checks, axis, words, flags_of(erasures, words.shape), counts)
         return numbers_of(counts)
