@@ -1,10 +1,11 @@
-// chosen [SAMPLES] [MILLISECONDS]: nanoseconds a product over fields whose modulus is chosen at run time, by bf_field_multiply and
-// bf_field_multiply_by, by NTL's GF2E and by GF-Complete, in one thread: the least of SAMPLES samples of MILLISECONDS each, over slices of
-// 1,024 elements; and microseconds that bf_field_init takes.
+// chosen [SAMPLES] [MILLISECONDS]: nanoseconds an element over fields whose modulus is chosen at run time, of bf_field_multiply,
+// bf_field_multiply_by and bf_field_dot_product, by NTL's GF2E and by GF-Complete, in one thread: the least of SAMPLES samples of MILLISECONDS
+// each, over slices of 1,024 elements; those that bf_field_embed takes to a field of 64 or 128 bits; and microseconds that bf_field_init takes.
 //
 //   g++ -O3 -std=c++17 -Ibuild/include bench/chosen.cpp -o bench/target/chosen build/lib/libbinary_field.a -lntl -lgmp -lpthread -lgf_complete
 #include <NTL/GF2E.h>
 #include <NTL/GF2XFactoring.h>
+#include <NTL/vec_GF2E.h>
 #include <NTL/version.h>
 #include <binary_field.h>
 
@@ -149,6 +150,26 @@ void rows(const char *kind, const GF2X &modulus) {
         region = text;
     }
     std::printf("| by a scalar | %4ld | %-12s | %8.2f | %8.2f | %s |\n", degree, kind, scaled / LENGTH, their_scaled / LENGTH, region.c_str());
+    NTL::vec_GF2E rows, columns;
+    rows.SetLength(LENGTH);
+    columns.SetLength(LENGTH);
+    for (size_t i = 0; i < LENGTH; i++) {
+        rows[i] = x[i];
+        columns[i] = y[i];
+    }
+    bf_u128 sum = {{0, 0}};
+    const double added = least([&] { status |= bf_field_dot_product(&field, left.data(), LENGTH, right.data(), LENGTH, &sum); });
+    const double their_added = least([&] { NTL::InnerProduct(z[0], rows, columns); });
+    all_same = all_same && are_same(sum, words_of(NTL::rep(z[0]), degree));
+    std::printf("| dot product | %4ld | %-12s | %8.2f | %8.2f |          |\n", degree, kind, added / LENGTH, their_added / LENGTH);
+
+    bf_field large;
+    const bf_u128 large_tail = {{degree <= 64 ? 0x1bULL : 0x87ULL, 0}};
+    bf_u128 root;
+    if (bf_field_init(&large, degree <= 64 ? 64 : 128, &large_tail) == BF_OK && bf_field_embedding(&field, &large, &root) == BF_OK) {
+        const double embedded = least([&] { status |= bf_field_embed(&field, &large, &root, left.data(), LENGTH, found.data(), LENGTH); });
+        std::printf("| image       | %4ld | %-12s | %8.2f |          |          |\n", degree, kind, embedded / LENGTH);
+    }
     const double made = least([&] { status |= bf_field_init(&field, degree, &tail); });
     all_same = all_same && status == BF_OK;
     std::printf("| init, us    | %4ld | %-12s | %8.2f |          |          |\n", degree, kind, made / 1000);
