@@ -11,7 +11,8 @@
  * has its tables from before, and klauspost's code its matrices; the library makes its own in each call, but where a row says "prepared".
  * klauspost's code takes AVX-512 where the processor has it, but with KLAUSPOST_AVX512=off in the environment. The shards of a row stand one
  * after the other, 64 bytes apart. With the word `small`, shards of 32 bytes, 1 KiB and 64 KiB are encoded, with nothing between them,
- * and nanoseconds are printed too. With the word `wide`, codes of 70 to 256 shards of 64 KiB and 1 MiB, with nothing between them.
+ * and nanoseconds are printed too. With the word `wide`, codes of 70 to 256 shards of 64 KiB and 1 MiB, with nothing between them,
+ * and without ISA-L's C.
  */
 #include <isa-l/erasure_code.h>
 #include <stdint.h>
@@ -46,7 +47,7 @@ static uint8_t *ours, *theirs, *whole;
 static uint8_t present[MOST], factors[MOST * MOST], tables[32 * MOST * MOST];
 static _Alignas(16) uint8_t prepared[32 * MOST * MOST], missing[32 * MOST * MOST];
 static uint8_t *sources[MOST], *targets[MOST];
-static int rows, is_small;
+static int rows, is_small, is_wide;
 
 /* ISA-L's AVX code leaves the upper halves of the registers in use, which slows down SSE code after it. */
 static void leave_avx(void) {
@@ -183,7 +184,7 @@ static void measure(const char *name, void (*library)(void), void (*klauspost)(v
         const char *name;
         void (*call)(void);
         double best;
-    } column[COLUMNS] = {{"ours", library, 1}, {"SSE", with_sse, 1}, {"AVX2", with_avx2, 1}, {"best", with_best, 1}, {"klauspost", klauspost, 1}, {"C", with_c, 1}};
+    } column[COLUMNS] = {{"ours", library, 1}, {"SSE", with_sse, 1}, {"AVX2", with_avx2, 1}, {"best", with_best, 1}, {"klauspost", klauspost, 1}, {"C", is_wide ? NULL : with_c, 1}};
     size_t bytes = data * size;
     prepare();
     for (int c = 0; c < COLUMNS; c++) {
@@ -296,8 +297,9 @@ int main(int count, char **words) {
     int codes[2][2] = {{10, 4}, {17, 3}}, wide[4][3] = {{50, 20, 1 << 20}, {100, 30, 65536}, {128, 128, 65536}, {200, 56, 65536}};
     size_t large[2] = {65536 + 64, (1 << 20) + 64}, small[3] = {32, 1024, 65536};
     is_small = count > 2 && strcmp(words[2], "small") == 0;
+    is_wide = count > 2 && strcmp(words[2], "wide") == 0;
     puts(bf_processor());
-    if (count > 2 && strcmp(words[2], "wide") == 0) {
+    if (is_wide) {
         for (int c = 0; c < 4; c++) {
             data = wide[c][0], parity = wide[c][1], size = wide[c][2];
             row(rounds);
