@@ -91,7 +91,7 @@ impl BinaryBch {
     /// ```
     /// let mut word = [0, 0, 0, 1, 0, 0, 0, 0, 0, 0, 0, 0, 0, 0, 0];
     /// binary_field::BinaryBch::whole(15, 1)?.encode(&mut word)?;
-    /// assert_eq!(word[11..], [1, 1, 1, 1]);
+    /// assert_eq!(word[11..], [1, 1, 1, 0]);
     /// # Ok::<(), binary_field::Error>(())
     /// ```
     pub fn encode(&self, words: &mut [u8]) -> Result<(), Error> {

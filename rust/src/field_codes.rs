@@ -138,9 +138,9 @@ impl FieldCode {
     /// use binary_field::{FieldCode, NOT_CORRECTED, chosen::ChosenField};
     ///
     /// let code = FieldCode::new(ChosenField::new(4, 3)?, 3, 1, 0, 2)?;
-    /// let (mut words, mut corrected) = ([2, 6, 5, 9, 8, 7], [0; 2]);
+    /// let (mut words, mut corrected) = ([2, 6, 5, 1, 2, 4], [0; 2]);
     /// code.correct(&mut words, &[], &mut corrected)?;
-    /// assert_eq!((words, corrected), ([2, 6, 4, 9, 8, 7], [1, NOT_CORRECTED]));
+    /// assert_eq!((words, corrected), ([2, 6, 4, 1, 2, 4], [1, NOT_CORRECTED]));
     /// # Ok::<(), binary_field::Error>(())
     /// ```
     pub fn correct(
