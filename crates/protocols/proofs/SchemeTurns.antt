@@ -10,7 +10,7 @@ use Rattle.protocols.specs.CommitmentScheme.{ArePlacesDrawn, OpensValue, Verdict
 use Rattle.protocols.specs.JointOpenings.{OpensPair, PairVerdictsAgree}
 
 -- tests that follow from each other
-same-tests : (one other : Bool) → (IsTrue one → IsTrue other) → (IsTrue other → IsTrue one) → one ≡ other
+pub same-tests : (one other : Bool) → (IsTrue one → IsTrue other) → (IsTrue other → IsTrue one) → one ≡ other
 same-tests true true first second = refl
 same-tests false false first second = refl
 same-tests true false first second = absurd (true≢false (sym (first refl)))

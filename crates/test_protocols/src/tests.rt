@@ -4,5 +4,6 @@ mod code_words;
 mod honest;
 mod openings;
 mod rows;
+mod small;
 mod tables;
 mod zeros;

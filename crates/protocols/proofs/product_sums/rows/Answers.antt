@@ -1,6 +1,6 @@
 use Rattle.std.proofs.Common.{arith}
-use Rattle.prove_sums.proofs.Places.{rows-grown}
-use Rattle.prove_sums.proofs.sums.rows.Goals as goal
+use Rattle.protocols.proofs.ProductSums.{rows-grown}
+use Rattle.protocols.proofs.product_sums.rows.Goals as goal
 
 pub places-preserved : goal.places-preserved
 places-preserved g c =

@@ -1,8 +1,8 @@
 use Rattle.std.proofs.Common.{◌≡◌, ◌<◌, ◌∷◌, [], ◌∙◌, ap, ap₂, arith, subst}
 use Rattle.std.specs.Prelude.{IfSome, Option}
 use Rattle.sum_checks.specs.Products.{factors_of}
-use Rattle.prove_sums.proofs.SumSteps.{one_term, some-unless}
-use Rattle.prove_sums.proofs.sums.product.Goals as goal
+use Rattle.protocols.proofs.ProductSums.{one_term, some-unless}
+use Rattle.protocols.proofs.product_sums.product.Goals as goal
 
 pub unwrap-requires : goal.unwrap-requires
 unwrap-requires g c = some-unless c.new.result (λ none. let few : 4 < 2 = c.new.ensures.few.0 none in absurd (omega (arith, few)))

@@ -1,6 +1,6 @@
 use Rattle.std.proofs.Common.{map, ◌∙◌, ap, ◌∷◌, [], ◌++◌, List}
 use Rattle.sum_checks.specs.Products.{term_product}
-use Rattle.prove_sums.proofs.sums.terms.Goals as goal
+use Rattle.protocols.proofs.product_sums.terms.Goals as goal
 
 pub returns : goal.returns
 returns g c =

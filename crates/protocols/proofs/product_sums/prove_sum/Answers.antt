@@ -1,9 +1,9 @@
 use Rattle.std.proofs.Common.{◌*◌, ℕ, List, length, map, sym, ◌∙◌, ap, subst, arith}
 use Rattle.sum_checks.specs.Products.{term_product}
 use Rattle.sum_checks.specs.Terms.{AreWithin, Product}
-use Rattle.prove_sums.specs.Verdicts.{interleaved}
-use Rattle.prove_sums.proofs.SumSteps.{product-within, proved-sum, rows-length, run-length, two}
-use Rattle.prove_sums.proofs.sums.prove.Goals as goal
+use Rattle.protocols.specs.ProductSums.{interleaved}
+use Rattle.protocols.proofs.ProductSums.{product-within, proved-sum, rows-length, run-length, two}
+use Rattle.protocols.proofs.product_sums.prove_sum.Goals as goal
 
 pub cube_sum-sum-requires-clause-within : goal.cube_sum-sum-requires-clause-within
 cube_sum-sum-requires-clause-within g c = subst (λ (ts : List Product). AreWithin 2 ts) (sym (ap (map (term_product g.F.Represented.repr)) c.as_slice-terms.ensures.value ∙ c.in_ok-terms.ensures)) product-within

@@ -1,6 +1,6 @@
 use Rattle.std.proofs.Common.{◌≡◌, take}
-use Rattle.prove_sums.specs.Verdicts.{interleaved}
-use Rattle.prove_sums.proofs.sums.rows.Given as goal
+use Rattle.protocols.specs.ProductSums.{interleaved}
+use Rattle.protocols.proofs.product_sums.rows.Given as goal
 
 -- the places before this one are rows
 abbrev pub invariant-places : goal.invariant-places
