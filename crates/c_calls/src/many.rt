@@ -205,7 +205,7 @@ fn write_inverses<R: Stored, W: Holds<R>, K: Many<R, W>, V: Width + Vector>(
     requires elements { AreElements (field_of W.number K.width K.product K.generator) words.now }
     ensures { HoldInverses (field_of W.number K.width K.product K.generator) words.now inverses.new }
 {
-    field_slices::inverses_into::<Words<R, W, K, V>>(words, inverses);
+    field_slices::inverses_into(Words::<R, W, K, V>::new(), words, inverses);
     truncate_all::<R, W, K>(inverses);
 }
 
@@ -240,5 +240,5 @@ fn value_at<R: Stored, W: Holds<R>, K: Many<R, W>, V: Width + Vector>(
     requires point { IsElement (field_of W.number K.width K.product K.generator) point }
     ensures { W.number result ≡ value_of 1 K.product W.number coefficients.now (W.number point) }
 {
-    truncated::<R, W, K>(field_slices::value_at::<Words<R, W, K, V>>(coefficients, point))
+    truncated::<R, W, K>(field_slices::value_at(Words::<R, W, K, V>::new(), coefficients, point))
 }

@@ -37,7 +37,15 @@ pub fn multiply<R: Stored, W: Holds<R>, K: Many<R, W>, V: Width + Vector>(
     if !are_both_elements::<R, W, K>(left, right) {
         return status::NOT_AN_ELEMENT;
     }
-    multiply_into::<Words<R, W, K, V>>(product, left, right, rows, inner, columns);
+    multiply_into(
+        Words::<R, W, K, V>::new(),
+        product,
+        left,
+        right,
+        rows,
+        inner,
+        columns,
+    );
     truncate_all::<R, W, K>(product);
     status::OK
 }
@@ -61,7 +69,13 @@ pub fn row_reduce<R: Stored, W: Holds<R>, K: Many<R, W>, V: Width + Vector>(
     if !are_elements::<R, W, K>(matrix) {
         return status::NOT_AN_ELEMENT;
     }
-    *rank = field_slices::matrices::row_reduce::<Words<R, W, K, V>>(matrix, rows, columns, pivots);
+    *rank = field_slices::matrices::row_reduce(
+        Words::<R, W, K, V>::new(),
+        matrix,
+        rows,
+        columns,
+        pivots,
+    );
     truncate_all::<R, W, K>(matrix);
     status::OK
 }
@@ -90,7 +104,13 @@ pub fn rank<R: Stored, W: Holds<R>, K: Many<R, W>, V: Width + Vector>(
         return status::NOT_AN_ELEMENT;
     }
     space.copy_from_slice(matrix);
-    *rank = field_slices::matrices::row_reduce::<Words<R, W, K, V>>(space, rows, columns, places);
+    *rank = field_slices::matrices::row_reduce(
+        Words::<R, W, K, V>::new(),
+        space,
+        rows,
+        columns,
+        places,
+    );
     status::OK
 }
 
@@ -113,7 +133,7 @@ pub fn determinant<R: Stored, W: Holds<R>, K: Many<R, W>, V: Width + Vector>(
         return status::NOT_AN_ELEMENT;
     }
     space.copy_from_slice(matrix);
-    let value = field_slices::matrices::determinant::<Words<R, W, K, V>>(space, size);
+    let value = field_slices::matrices::determinant(Words::<R, W, K, V>::new(), space, size);
     *determinant = truncated::<R, W, K>(value);
     status::OK
 }
@@ -149,8 +169,8 @@ pub fn inverse<R: Stored, W: Holds<R>, K: Many<R, W>, V: Width + Vector>(
         to: 0,
         count: size,
     };
-    copy_columns::<Words<R, W, K, V>>(space, matrix, left_half);
-    if !invert_beside::<Words<R, W, K, V>>(space, size, places) {
+    copy_columns(Words::<R, W, K, V>::new(), space, matrix, left_half);
+    if !invert_beside(Words::<R, W, K, V>::new(), space, size, places) {
         return status::UNSOLVABLE;
     }
     let right_half = ColumnCopy {
@@ -161,7 +181,7 @@ pub fn inverse<R: Stored, W: Holds<R>, K: Many<R, W>, V: Width + Vector>(
         to: 0,
         count: size,
     };
-    copy_columns::<Words<R, W, K, V>>(inverse, space, right_half);
+    copy_columns(Words::<R, W, K, V>::new(), inverse, space, right_half);
     truncate_all::<R, W, K>(inverse);
     status::OK
 }
@@ -213,9 +233,16 @@ pub fn solve<R: Stored, W: Holds<R>, K: Many<R, W>, V: Width + Vector>(
         to: columns,
         count: 1,
     };
-    copy_columns::<Words<R, W, K, V>>(space, matrix, coefficients);
-    copy_columns::<Words<R, W, K, V>>(space, right, right_sides);
-    if !solve_augmented::<Words<R, W, K, V>>(space, rows, width, solution, places) {
+    copy_columns(Words::<R, W, K, V>::new(), space, matrix, coefficients);
+    copy_columns(Words::<R, W, K, V>::new(), space, right, right_sides);
+    if !solve_augmented(
+        Words::<R, W, K, V>::new(),
+        space,
+        rows,
+        width,
+        solution,
+        places,
+    ) {
         return status::UNSOLVABLE;
     }
     truncate_all::<R, W, K>(solution);

@@ -14,72 +14,87 @@ use std::marker::PhantomData;
 /// word is an element.
 pub struct Words<R, W, K, V>(PhantomData<(R, W, K, V)>);
 
+impl<R, W, K, V> Words<R, W, K, V> {
+    /// That arithmetic.
+    pub const fn new() -> Words<R, W, K, V> {
+        Words(PhantomData)
+    }
+}
+
+impl<R, W, K, V> Clone for Words<R, W, K, V> {
+    fn clone(&self) -> Words<R, W, K, V> {
+        Words(PhantomData)
+    }
+}
+
+impl<R, W, K, V> Copy for Words<R, W, K, V> {}
+
 impl<R: Stored, W: Holds<R>, K: Many<R, W>, V: Width + Vector> Scalars for Words<R, W, K, V> {
     type Value = W;
 
-    ghost width = { K.width };
+    ghost width = { λ _. K.width };
 
-    ghost product = { K.product };
+    ghost product = { λ _. K.product };
 
-    ghost number = { low_number W.number K.width };
+    ghost number = { λ _. low_number W.number K.width };
 
     #[inline(always)]
-    fn zero() -> W {
+    fn zero(self) -> W {
         fields::zero::<R, W>()
     }
 
     #[inline(always)]
-    fn one() -> W {
+    fn one(self) -> W {
         fields::one::<R, W>()
     }
 
     #[inline(always)]
-    fn is_zero(x: W) -> bool {
+    fn is_zero(self, x: W) -> bool {
         fields::is_zero::<R, W>(truncated::<R, W, K>(x))
     }
 
     #[inline(always)]
-    fn add(x: W, y: W) -> W {
+    fn add(self, x: W, y: W) -> W {
         fields::add::<R, W>(x, y)
     }
 
     #[inline(always)]
-    fn multiply(x: W, y: W) -> W {
+    fn multiply(self, x: W, y: W) -> W {
         fields::multiply::<R, W, K>(x, y)
     }
 
     #[inline(always)]
-    fn invert(x: W) -> W {
+    fn invert(self, x: W) -> W {
         fields::invert::<R, W, K>(truncated::<R, W, K>(x))
     }
 
     #[inline]
-    fn add_scaled(sums: &mut [W], scalar: W, values: &[W]) {
+    fn add_scaled(self, sums: &mut [W], scalar: W, values: &[W]) {
         many_words::add_scaled::<R, W, K, V>(sums, truncated::<R, W, K>(scalar), values);
     }
 
     #[inline]
-    fn multiply_by(values: &mut [W], scalar: W) {
+    fn multiply_by(self, values: &mut [W], scalar: W) {
         many_words::multiply_by::<R, W, K, V>(values, truncated::<R, W, K>(scalar));
     }
 
     #[inline(always)]
-    fn least_inverted() -> usize {
+    fn least_inverted(self) -> usize {
         K::LEAST_IN_BATCH
     }
 
     #[inline]
-    fn invert_each(values: &[W], inverses: &mut [W]) {
+    fn invert_each(self, values: &[W], inverses: &mut [W]) {
         inverses.copy_from_slice(values);
         truncate_all::<R, W, K>(inverses);
         many_words::invert::<R, W, K, V>(inverses);
     }
 
-    ghost wide_law = { K.wide_law };
+    ghost wide_law = { λ _. K.wide_law };
 
-    ghost field_law = { K.field_law };
+    ghost field_law = { λ _. K.field_law };
 
-    ghost range_law = { low_number-lt W.number K.width };
+    ghost range_law = { λ _. low_number-lt W.number K.width };
 }
 
 /// The word without its bits above the field.

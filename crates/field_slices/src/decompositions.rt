@@ -16,6 +16,7 @@ use crate::scalars::Scalars;
 /// of the matrix that was given. A row is exchanged only where its entry on the diagonal is 0, with the first below it that is not 0 there.
 /// It takes no memory.
 pub fn plu_decompose<S: Scalars>(
+    field: S,
     matrix: &mut [S::Value],
     rows: usize,
     columns: usize,
@@ -28,16 +29,16 @@ pub fn plu_decompose<S: Scalars>(
     ensures shape { length matrix.new ≡ length matrix.old }
     ensures lower { length lower.new ≡ length lower.old }
     ensures order { IsPermutation (range_with_len 0 rows) order.new }
-    ensures decomposed { IsDecomposition S.product rows columns columns (entry_of S.number columns matrix.old)
-        (slice_index order.new) (entry_of S.number rows lower.new) (entry_of S.number columns matrix.new) }
+    ensures decomposed { IsDecomposition (S.product field) rows columns columns (entry_of (S.number field) columns matrix.old)
+        (slice_index order.new) (entry_of (S.number field) rows lower.new) (entry_of (S.number field) columns matrix.new) }
 {
     let shape = Shape { rows, columns };
-    identity_into::<S>(lower, rows);
+    identity_into(field, lower, rows);
     count_up(order);
     // Columns past as many as there are rows have no entry below the diagonal.
     let steps = columns.min(rows);
     for column in 0..steps {
-        decompose_column::<S>(matrix, shape, column, lower, order);
+        decompose_column(field, matrix, shape, column, lower, order);
     }
 }
 
@@ -52,6 +53,7 @@ fn count_up(order: &mut [usize])
 
 // Goes on from a matrix whose columns before `column` are upper triangular to one column more. A column that is 0 from its row on stays.
 fn decompose_column<S: Scalars>(
+    field: S,
     matrix: &mut [S::Value],
     shape: Shape,
     column: usize,
@@ -66,26 +68,28 @@ fn decompose_column<S: Scalars>(
     ensures lower { length lower.new ≡ length lower.old }
     ensures order { IsPermutation order.old order.new }
     ensures decomposed { (A : ℕ → ℕ → ℕ)
-        → IsDecomposition S.product shape.rows shape.columns column A (slice_index order.old) (entry_of S.number shape.rows lower.old)
-        (entry_of S.number shape.columns matrix.old)
-        → IsDecomposition S.product shape.rows shape.columns (column + 1) A (slice_index order.new)
-        (entry_of S.number shape.rows lower.new) (entry_of S.number shape.columns matrix.new) }
+        → IsDecomposition (S.product field) shape.rows shape.columns column A (slice_index order.old)
+        (entry_of (S.number field) shape.rows lower.old)
+        (entry_of (S.number field) shape.columns matrix.old)
+        → IsDecomposition (S.product field) shape.rows shape.columns (column + 1) A (slice_index order.new)
+        (entry_of (S.number field) shape.rows lower.new) (entry_of (S.number field) shape.columns matrix.new) }
 {
     let square = Shape {
         rows: shape.rows,
         columns: shape.rows,
     };
-    if let Some(row) = find_pivot::<S>(matrix, shape, column, column) {
-        exchange_rows::<S>(matrix, shape, shape.columns, column, row);
-        exchange_rows::<S>(lower, square, column, column, row);
+    if let Some(row) = find_pivot(field, matrix, shape, column, column) {
+        exchange_rows(field, matrix, shape, shape.columns, column, row);
+        exchange_rows(field, lower, square, column, column, row);
         order.swap(column, row);
-        write_factors::<S>(lower, matrix, shape, column);
-        clear_below::<S>(matrix, lower, shape, column);
+        write_factors(field, lower, matrix, shape, column);
+        clear_below(field, matrix, lower, shape, column);
     }
 }
 
 // Exchanges the first `count` entries of two rows.
 fn exchange_rows<S: Scalars>(
+    field: S,
     matrix: &mut [S::Value],
     shape: Shape,
     count: usize,
@@ -96,63 +100,79 @@ fn exchange_rows<S: Scalars>(
     requires second { second < shape.rows }
     requires count { count ≤ shape.columns }
     ensures shape { length matrix.new ≡ length matrix.old }
-    ensures entries { (i j : ℕ) → j < shape.columns → entry_of S.number shape.columns matrix.new i j
-        ≡ exchanged_entry first second count (entry_of S.number shape.columns matrix.old) i j }
+    ensures entries { (i j : ℕ) → j < shape.columns → entry_of (S.number field) shape.columns matrix.new i j
+        ≡ exchanged_entry first second count (entry_of (S.number field) shape.columns matrix.old) i j }
 {
     for column in 0..count {
-        let x = entry::<S>(matrix, shape, first, column);
-        let y = entry::<S>(matrix, shape, second, column);
-        set_entry::<S>(matrix, shape, first, column, y);
-        set_entry::<S>(matrix, shape, second, column, x);
+        let x = entry(field, matrix, shape, first, column);
+        let y = entry(field, matrix, shape, second, column);
+        set_entry(field, matrix, shape, first, column, y);
+        set_entry(field, matrix, shape, second, column, x);
     }
 }
 
 // Writes to each row of `lower` below row `column` what row `column` of the matrix has to be multiplied by to have its entry in this
 // column.
 fn write_factors<S: Scalars>(
+    field: S,
     lower: &mut [S::Value],
     matrix: &[S::Value],
     shape: Shape,
     column: usize,
 )
     requires pivot { HasMatrixEntry shape.rows shape.columns column column (length matrix.now) }
-    requires nonzero { entry_of S.number shape.columns matrix.now column column ≢ 0 }
+    requires nonzero { entry_of (S.number field) shape.columns matrix.now column column ≢ 0 }
     requires lower { length lower.old ≡ shape.rows * shape.rows }
     ensures lower { length lower.new ≡ length lower.old }
     ensures factors { (i : ℕ) → column < i → i < shape.rows
-        → S.product (entry_of S.number shape.rows lower.new i column) (entry_of S.number shape.columns matrix.now column column)
-        ≡ entry_of S.number shape.columns matrix.now i column }
+        → S.product field (entry_of (S.number field) shape.rows lower.new i column)
+        (entry_of (S.number field) shape.columns matrix.now column column)
+        ≡ entry_of (S.number field) shape.columns matrix.now i column }
     ensures stays { (i j : ℕ) → j < shape.rows → (i ≤ column) ⊎ (j ≢ column)
-        → entry_of S.number shape.rows lower.new i j ≡ entry_of S.number shape.rows lower.old i j }
+        → entry_of (S.number field) shape.rows lower.new i j ≡ entry_of (S.number field) shape.rows lower.old i j }
 {
     let square = Shape {
         rows: shape.rows,
         columns: shape.rows,
     };
-    let inverse = S::invert(entry::<S>(matrix, shape, column, column));
+    let inverse = field.invert(entry(field, matrix, shape, column, column));
     for row in column + 1..shape.rows {
-        let value = entry::<S>(matrix, shape, row, column);
-        set_entry::<S>(lower, square, row, column, S::multiply(inverse, value));
+        let value = entry(field, matrix, shape, row, column);
+        set_entry(
+            field,
+            lower,
+            square,
+            row,
+            column,
+            field.multiply(inverse, value),
+        );
     }
 }
 
 // Adds to each row below row `column` the multiple of that row whose factor `lower` has in this column.
-fn clear_below<S: Scalars>(matrix: &mut [S::Value], lower: &[S::Value], shape: Shape, column: usize)
+fn clear_below<S: Scalars>(
+    field: S,
+    matrix: &mut [S::Value],
+    lower: &[S::Value],
+    shape: Shape,
+    column: usize,
+)
     requires pivot { HasMatrixEntry shape.rows shape.columns column column (length matrix.old) }
     requires lower { length lower.now ≡ shape.rows * shape.rows }
     ensures shape { length matrix.new ≡ length matrix.old }
-    ensures cleared { (i j : ℕ) → column < i → i < shape.rows → j < shape.columns → entry_of S.number shape.columns matrix.new i j
-        ≡ bit_xor (entry_of S.number shape.columns matrix.old i j) (S.product (entry_of S.number shape.rows lower.now i column)
-        (entry_of S.number shape.columns matrix.old column j)) }
+    ensures cleared { (i j : ℕ) → column < i → i < shape.rows → j < shape.columns → entry_of (S.number field) shape.columns matrix.new i j
+        ≡ bit_xor (entry_of (S.number field) shape.columns matrix.old i j)
+        (S.product field (entry_of (S.number field) shape.rows lower.now i column)
+        (entry_of (S.number field) shape.columns matrix.old column j)) }
     ensures stays { (i j : ℕ) → i ≤ column → j < shape.columns
-        → entry_of S.number shape.columns matrix.new i j ≡ entry_of S.number shape.columns matrix.old i j }
+        → entry_of (S.number field) shape.columns matrix.new i j ≡ entry_of (S.number field) shape.columns matrix.old i j }
 {
     let square = Shape {
         rows: shape.rows,
         columns: shape.rows,
     };
     for row in column + 1..shape.rows {
-        let factor = entry::<S>(lower, square, row, column);
-        add_scaled_row::<S>(matrix, shape, row, column, factor);
+        let factor = entry(field, lower, square, row, column);
+        add_scaled_row(field, matrix, shape, row, column, factor);
     }
 }

@@ -10,7 +10,7 @@ use field_base::traits::Field;
 pub fn evaluate<F: Field>(coefficients: &[F], x: F) -> F
     ensures { F.repr result ≡ value_of F.unit F.product F.repr coefficients.now (F.repr x) }
 {
-    value_at::<Elements<F>>(coefficients, x)
+    value_at(Elements::<F>::new(), coefficients, x)
 }
 
 /// The value at `x` of the polynomial with these coefficients, lowest first, which are elements or words that stand for them. By Horner's
@@ -18,13 +18,13 @@ pub fn evaluate<F: Field>(coefficients: &[F], x: F) -> F
 /// product and one sum for each coefficient. From 512 coefficients on it goes by blocks of 128 and x^128, so that the products of a block
 /// are by one scalar, and the sums of the blocks are folded in half twice in the same way. It takes no memory.
 #[inline]
-pub fn value_at<S: Scalars>(coefficients: &[S::Value], x: S::Value) -> S::Value
-    ensures { S.number result ≡ value_of 1 S.product S.number coefficients.now (S.number x) }
+pub fn value_at<S: Scalars>(field: S, coefficients: &[S::Value], x: S::Value) -> S::Value
+    ensures { S.number field result ≡ value_of 1 (S.product field) (S.number field) coefficients.now (S.number field x) }
 {
     if coefficients.len() < LEAST_IN_LANES {
-        value_one_by_one::<S>(coefficients, x)
+        value_one_by_one(field, coefficients, x)
     } else {
-        value_in_lanes::<S>(coefficients, x)
+        value_in_lanes(field, coefficients, x)
     }
 }
 
@@ -36,12 +36,12 @@ const LEAST_IN_LANES: usize = 4 * LANES;
 
 // The same value by one chain: what is there times x, and the next coefficient.
 #[inline]
-fn value_one_by_one<S: Scalars>(coefficients: &[S::Value], x: S::Value) -> S::Value
-    ensures { S.number result ≡ value_of 1 S.product S.number coefficients.now (S.number x) }
+fn value_one_by_one<S: Scalars>(field: S, coefficients: &[S::Value], x: S::Value) -> S::Value
+    ensures { S.number field result ≡ value_of 1 (S.product field) (S.number field) coefficients.now (S.number field x) }
 {
-    let mut value = S::zero();
+    let mut value = field.zero();
     for place in (0..coefficients.len()).rev() {
-        value = S::add(S::multiply(value, x), coefficients[place]);
+        value = field.add(field.multiply(value, x), coefficients[place]);
     }
     value
 }
@@ -49,60 +49,62 @@ fn value_one_by_one<S: Scalars>(coefficients: &[S::Value], x: S::Value) -> S::Va
 // The same value by as many chains as a block has coefficients, whose sums are folded in half until there are 32, and then by one. The sums
 // start as the last block, which may be short, with zeros behind it. There are at least as many coefficients as sums, so that the sums fit in
 // memory.
-fn value_in_lanes<S: Scalars>(coefficients: &[S::Value], x: S::Value) -> S::Value
+fn value_in_lanes<S: Scalars>(field: S, coefficients: &[S::Value], x: S::Value) -> S::Value
     requires { 128 ≤ length coefficients.now }
-    ensures { S.number result ≡ value_of 1 S.product S.number coefficients.now (S.number x) }
+    ensures { S.number field result ≡ value_of 1 (S.product field) (S.number field) coefficients.now (S.number field x) }
 {
     let (blocks, last) = coefficients.split_at(coefficients.len() / LANES * LANES);
-    let mut sums = [S::zero(); LANES];
+    let mut sums = [field.zero(); LANES];
     sums[..last.len()].copy_from_slice(last);
-    let by_quarter = squared::<S>(x, 5);
-    let by_half = S::square(by_quarter);
-    add_blocks::<S>(&mut sums, blocks, S::square(by_half));
+    let by_quarter = squared(field, x, 5);
+    let by_half = field.square(by_quarter);
+    add_blocks(field, &mut sums, blocks, field.square(by_half));
     let (first, second) = sums.split_at_mut(LANES / 2);
-    fold::<S>(first, second, by_half);
+    fold(field, first, second, by_half);
     let (third, fourth) = second.split_at_mut(LANES / 4);
-    fold::<S>(third, fourth, by_quarter);
-    value_one_by_one::<S>(fourth, x)
+    fold(field, third, fourth, by_quarter);
+    value_one_by_one(field, fourth, x)
 }
 
 // Brings the coefficients of these blocks before the sums: for each block, from the last one down, the sums are multiplied by `high`, which is
 // x^128, and each gets the coefficient at its place.
-fn add_blocks<S: Scalars>(sums: &mut [S::Value], blocks: &[S::Value], high: S::Value)
+fn add_blocks<S: Scalars>(field: S, sums: &mut [S::Value], blocks: &[S::Value], high: S::Value)
     requires size { length sums.old ≡ 128 }
     requires whole { length blocks.now % 128 ≡ 0 }
     ensures long { length sums.new ≡ 128 }
-    ensures value { (x : ℕ) → S.number high ≡ power 1 S.product x 128
-        → value_of 1 S.product S.number sums.new x ≡ value_of 1 S.product S.number (blocks.now ++ sums.old) x }
+    ensures value { (x : ℕ) → S.number field high ≡ power 1 (S.product field) x 128
+        → value_of 1 (S.product field) (S.number field) sums.new x ≡ value_of 1 (S.product field) (S.number field)
+        (blocks.now ++ sums.old) x }
 {
     let mut start = blocks.len();
     while start > 0 {
         let end = start;
         start -= LANES;
-        fold::<S>(&blocks[start..end], sums, high);
+        fold(field, &blocks[start..end], sums, high);
     }
 }
 
 // Brings as many coefficients before the sums as these are: the sums are multiplied by `high`, which is the power of x for so many, and each
 // gets the coefficient at its place. Their value was that of `rest`.
-fn fold<S: Scalars>(coefficients: &[S::Value], sums: &mut [S::Value], high: S::Value)
+fn fold<S: Scalars>(field: S, coefficients: &[S::Value], sums: &mut [S::Value], high: S::Value)
     requires same { length coefficients.now ≡ length sums.old }
     ensures long { length sums.new ≡ length sums.old }
-    ensures value { (x k : ℕ) (rest : List S.Value) → length sums.old ≡ k → S.number high ≡ power 1 S.product x k
-        → value_of 1 S.product S.number sums.old x ≡ value_of 1 S.product S.number rest x
-        → value_of 1 S.product S.number sums.new x ≡ value_of 1 S.product S.number (coefficients.now ++ rest) x }
+    ensures value { (x k : ℕ) (rest : List S.Value) → length sums.old ≡ k → S.number field high ≡ power 1 (S.product field) x k
+        → value_of 1 (S.product field) (S.number field) sums.old x ≡ value_of 1 (S.product field) (S.number field) rest x
+        → value_of 1 (S.product field) (S.number field) sums.new x ≡ value_of 1 (S.product field) (S.number field)
+        (coefficients.now ++ rest) x }
 {
-    S::multiply_by(sums, high);
-    S::add_each(sums, coefficients);
+    field.multiply_by(sums, high);
+    field.add_each(sums, coefficients);
 }
 
 // The value squared `count` times.
-fn squared<S: Scalars>(x: S::Value, count: usize) -> S::Value
-    ensures { S.number result ≡ repeated_square 1 S.product count (S.number x) }
+fn squared<S: Scalars>(field: S, x: S::Value, count: usize) -> S::Value
+    ensures { S.number field result ≡ repeated_square 1 (S.product field) count (S.number field x) }
 {
     let mut value = x;
     for _ in 0..count {
-        value = S::square(value);
+        value = field.square(value);
     }
     value
 }

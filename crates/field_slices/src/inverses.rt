@@ -11,6 +11,7 @@ use crate::scalars::Scalars;
 /// whether there is one; else nothing is said of what is left. Of what the right half had nothing is read, and the left half is lost.
 /// `pivots`, of `size` places, is written too. It takes no memory.
 pub fn invert_beside<S: Scalars>(
+    field: S,
     augmented: &mut [S::Value],
     size: usize,
     pivots: &mut [usize],
@@ -19,17 +20,17 @@ pub fn invert_beside<S: Scalars>(
     requires room { length pivots.old ≡ size }
     ensures shape { length augmented.new ≡ length augmented.old }
     ensures room { length pivots.new ≡ length pivots.old }
-    ensures inverse { IsTrue result → AreInverseMatrices S.product size (entry_of S.number (size + size) augmented.old)
-        (λ i j. entry_of S.number (size + size) augmented.new i (size + j)) }
+    ensures inverse { IsTrue result → AreInverseMatrices (S.product field) size (entry_of (S.number field) (size + size) augmented.old)
+        (λ i j. entry_of (S.number field) (size + size) augmented.new i (size + j)) }
     ensures singular { result ≡ false → (B : ℕ → ℕ → ℕ)
-        → IsMatrixProduct S.product size size size B (entry_of S.number (size + size) augmented.old) identity_entry → ⊥ }
+        → IsMatrixProduct (S.product field) size size size B (entry_of (S.number field) (size + size) augmented.old) identity_entry → ⊥ }
 {
     let columns = size + size;
     let shape = Shape {
         rows: size,
         columns,
     };
-    write_identity::<S>(augmented, shape, size);
-    let rank = row_reduce_augmented::<S>(augmented, size, columns, size, pivots);
+    write_identity(field, augmented, shape, size);
+    let rank = row_reduce_augmented(field, augmented, size, columns, size, pivots);
     rank == size
 }

@@ -37,38 +37,40 @@ pub fn batch_multiplicative_inverse_into<F: Field>(values: &[F], inverses: &mut 
     requires { length inverses.old ≡ length values.now }
     ensures { AreInverses F.product (map F.repr values.now) (map F.repr inverses.new) }
 {
-    inverses_into::<Elements<F>>(values, inverses);
+    inverses_into(Elements::<F>::new(), values, inverses);
 }
 
 /// The same of values that are elements or words that stand for them.
 #[inline]
-pub fn inverses_into<S: Scalars>(values: &[S::Value], inverses: &mut [S::Value])
+pub fn inverses_into<S: Scalars>(field: S, values: &[S::Value], inverses: &mut [S::Value])
     requires { length inverses.old ≡ length values.now }
-    ensures { AreInverses S.product (map S.number values.now) (map S.number inverses.new) }
+    ensures { AreInverses (S.product field) (map (S.number field) values.now) (map (S.number field) inverses.new) }
 {
-    if values.len() < S::least_inverted() {
-        let product = products_before::<S>(values, inverses);
-        inverses_from_products::<S>(values, inverses, S::invert(product));
+    if values.len() < field.least_inverted() {
+        let product = products_before(field, values, inverses);
+        inverses_from_products(field, values, inverses, field.invert(product));
     } else {
-        S::invert_each(values, inverses);
+        field.invert_each(values, inverses);
     }
 }
 
 // Writes to each place the product of the values before it, without zeros, and returns that of all. It is not 0.
 #[inline]
-fn products_before<S: Scalars>(values: &[S::Value], products: &mut [S::Value]) -> S::Value
+fn products_before<S: Scalars>(field: S, values: &[S::Value], products: &mut [S::Value]) -> S::Value
     requires { length products.old ≡ length values.now }
     ensures before { (i : ℕ) → i < length values.now
-        → slice_index (map S.number products.new) i ≡ nonzero_product S.product (slice_index (map S.number values.now)) i }
-    ensures whole { S.number result ≡ nonzero_product S.product (slice_index (map S.number values.now)) (length values.now) }
-    ensures nonzero { S.number result ≢ 0 }
+        → slice_index (map (S.number field) products.new) i ≡ nonzero_product (S.product field)
+        (slice_index (map (S.number field) values.now)) i }
+    ensures whole { S.number field result ≡ nonzero_product (S.product field) (slice_index (map (S.number field) values.now))
+        (length values.now) }
+    ensures nonzero { S.number field result ≢ 0 }
 {
-    let mut product = S::one();
+    let mut product = field.one();
     for place in 0..values.len() {
         let value = values[place];
         products[place] = product;
-        if !S::is_zero(value) {
-            product = S::multiply(product, value);
+        if !field.is_zero(value) {
+            product = field.multiply(product, value);
         }
     }
     product
@@ -78,25 +80,28 @@ fn products_before<S: Scalars>(values: &[S::Value], products: &mut [S::Value]) -
 // last place down it becomes that of the product of the values before the place.
 #[inline]
 fn inverses_from_products<S: Scalars>(
+    field: S,
     values: &[S::Value],
     products: &mut [S::Value],
     inverse: S::Value,
 )
     requires length { length products.old ≡ length values.now }
     requires before { (i : ℕ) → i < length values.now
-        → slice_index (map S.number products.old) i ≡ nonzero_product S.product (slice_index (map S.number values.now)) i }
-    requires inverse { S.product (nonzero_product S.product (slice_index (map S.number values.now)) (length values.now)) (S.number inverse)
+        → slice_index (map (S.number field) products.old) i ≡ nonzero_product (S.product field)
+        (slice_index (map (S.number field) values.now)) i }
+    requires inverse { S.product field (nonzero_product (S.product field) (slice_index (map (S.number field) values.now))
+        (length values.now)) (S.number field inverse)
         ≡ 1 }
-    ensures { AreInverses S.product (map S.number values.now) (map S.number products.new) }
+    ensures { AreInverses (S.product field) (map (S.number field) values.now) (map (S.number field) products.new) }
 {
     let mut rest = inverse;
     for place in (0..values.len()).rev() {
         let value = values[place];
-        if S::is_zero(value) {
-            products[place] = S::zero();
+        if field.is_zero(value) {
+            products[place] = field.zero();
         } else {
-            products[place] = S::multiply(rest, products[place]);
-            rest = S::multiply(rest, value);
+            products[place] = field.multiply(rest, products[place]);
+            rest = field.multiply(rest, value);
         }
     }
 }

@@ -1,6 +1,6 @@
 // Matrices over a field, in memory of the caller: row after row in a slice, so that entry (i, j) of a matrix of `columns` columns stands at
-// place i * columns + j. `Scalars` is what a place holds and how it is computed with; for the elements of a field `F` that is
-// `Elements<F>`, as in `row_reduce::<Elements<F>>(..)`.
+// place i * columns + j. `Scalars` is what a place holds and how it is computed with: for the elements of a field `F` it
+// is `Elements<F>`, as in `row_reduce(Elements::<F>::new(), ..)`, and for a field whose modulus is chosen at run time that field.
 pub use crate::columns::{ColumnCopy, copy_columns};
 pub use crate::companions::companion_into;
 pub use crate::decompositions::plu_decompose;

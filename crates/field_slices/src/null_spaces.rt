@@ -10,6 +10,7 @@ use crate::scalars::Scalars;
 /// leading entry, where it is 1 and the others are 0. `reduced`, whose rows have `columns` entries, and `pivots` and `rank` are what
 /// `row_reduce` leaves and returns. It takes no memory.
 pub fn null_space_into<S: Scalars>(
+    field: S,
     basis: &mut [S::Value],
     reduced: &[S::Value],
     columns: usize,
@@ -17,11 +18,13 @@ pub fn null_space_into<S: Scalars>(
     pivots: &[usize],
 )
     requires source { length reduced.now ≡ length pivots.now * columns }
-    requires reduced { IsReducedEchelon (length pivots.now) columns rank (slice_index pivots.now) (entry_of S.number columns reduced.now) }
+    requires reduced { IsReducedEchelon (length pivots.now) columns rank (slice_index pivots.now)
+        (entry_of (S.number field) columns reduced.now) }
     requires shape { length basis.old ≡ (columns - rank) * columns }
     ensures shape { length basis.new ≡ length basis.old }
-    ensures basis { IsNullBasis S.width S.product (length pivots.now) columns (columns - rank) (entry_of S.number columns reduced.now)
-        (entry_of S.number columns basis.new) }
+    ensures basis { IsNullBasis (S.width field) (S.product field) (length pivots.now) columns (columns - rank)
+        (entry_of (S.number field) columns reduced.now)
+        (entry_of (S.number field) columns basis.new) }
 {
     let shape = Shape {
         rows: columns - rank,
@@ -32,7 +35,16 @@ pub fn null_space_into<S: Scalars>(
         if leads_at(pivots, rank, passed, column) {
             passed += 1;
         } else {
-            write_null_row::<S>(basis, shape, column - passed, column, reduced, rank, pivots);
+            write_null_row(
+                field,
+                basis,
+                shape,
+                column - passed,
+                column,
+                reduced,
+                rank,
+                pivots,
+            );
         }
     }
 }
@@ -49,6 +61,7 @@ pub fn leads_at(pivots: &[usize], rank: usize, passed: usize, column: usize) -> 
 
 // Writes the vector of a column to a row.
 fn write_null_row<S: Scalars>(
+    field: S,
     basis: &mut [S::Value],
     shape: Shape,
     row: usize,
@@ -62,16 +75,16 @@ fn write_null_row<S: Scalars>(
     requires rank { rank ≤ length pivots.now }
     requires inside { (k : ℕ) → k < rank → slice_index pivots.now k < shape.columns }
     requires column { column < shape.columns }
-    ensures { IsRowWritten S.number shape.columns row
-        (null_entry (slice_index pivots.now) (entry_of S.number shape.columns reduced.now) column rank) basis.old basis.new }
+    ensures { IsRowWritten (S.number field) shape.columns row
+        (null_entry (slice_index pivots.now) (entry_of (S.number field) shape.columns reduced.now) column rank) basis.old basis.new }
 {
     let source = Shape {
         rows: pivots.len(),
         columns: shape.columns,
     };
-    write_identity_row::<S>(basis, shape, row, 0, column);
+    write_identity_row(field, basis, shape, row, 0, column);
     for k in 0..rank {
-        let value = entry::<S>(reduced, source, k, column);
-        set_entry::<S>(basis, shape, row, pivots[k], value);
+        let value = entry(field, reduced, source, k, column);
+        set_entry(field, basis, shape, row, pivots[k], value);
     }
 }

@@ -22,13 +22,14 @@ fn place(len: usize, shape: Shape, row: usize, column: usize) -> usize
 
 // The entry in this row and column.
 pub(crate) fn entry<S: Scalars>(
+    field: S,
     matrix: &[S::Value],
     shape: Shape,
     row: usize,
     column: usize,
 ) -> S::Value
     requires { HasMatrixEntry shape.rows shape.columns row column (length matrix.now) }
-    ensures { S.number result ≡ entry_of S.number shape.columns matrix.now row column }
+    ensures { S.number field result ≡ entry_of (S.number field) shape.columns matrix.now row column }
 {
     let own = place(matrix.len(), shape, row, column);
     matrix[own]
@@ -36,6 +37,7 @@ pub(crate) fn entry<S: Scalars>(
 
 // Writes the entry in this row and column.
 pub(crate) fn set_entry<S: Scalars>(
+    field: S,
     matrix: &mut [S::Value],
     shape: Shape,
     row: usize,
@@ -43,7 +45,7 @@ pub(crate) fn set_entry<S: Scalars>(
     value: S::Value,
 )
     requires { HasMatrixEntry shape.rows shape.columns row column (length matrix.old) }
-    ensures { IsEntryWritten S.number shape.columns row column (S.number value) matrix.old matrix.new }
+    ensures { IsEntryWritten (S.number field) shape.columns row column (S.number field value) matrix.old matrix.new }
 {
     let own = place(matrix.len(), shape, row, column);
     matrix[own] = value;
@@ -59,11 +61,16 @@ fn row_start(len: usize, shape: Shape, row: usize) -> usize
 }
 
 // A row of a matrix.
-pub(crate) fn row_of<S: Scalars>(matrix: &[S::Value], shape: Shape, row: usize) -> &[S::Value]
+pub(crate) fn row_of<S: Scalars>(
+    field: S,
+    matrix: &[S::Value],
+    shape: Shape,
+    row: usize,
+) -> &[S::Value]
     requires { HasMatrixRow shape.rows shape.columns row (length matrix.now) }
     ensures long { length result.now ≡ shape.columns }
     ensures entries { (j : ℕ) → j < shape.columns
-        → slice_index (map S.number result.now) j ≡ entry_of S.number shape.columns matrix.now row j }
+        → slice_index (map (S.number field) result.now) j ≡ entry_of (S.number field) shape.columns matrix.now row j }
 {
     let start = row_start(matrix.len(), shape, row);
     let (_before, rest) = matrix.split_at(start);
@@ -73,6 +80,7 @@ pub(crate) fn row_of<S: Scalars>(matrix: &[S::Value], shape: Shape, row: usize) 
 
 // Adds `scalar` times the values to those of a row.
 pub(crate) fn add_to_row<S: Scalars>(
+    field: S,
     matrix: &mut [S::Value],
     shape: Shape,
     row: usize,
@@ -81,17 +89,18 @@ pub(crate) fn add_to_row<S: Scalars>(
 )
     requires row { HasMatrixRow shape.rows shape.columns row (length matrix.old) }
     requires values { length values.now ≡ shape.columns }
-    ensures { IsRowWritten S.number shape.columns row (λ j. bit_xor (entry_of S.number shape.columns matrix.old row j)
-        (S.product (S.number scalar) (slice_index (map S.number values.now) j))) matrix.old matrix.new }
+    ensures { IsRowWritten (S.number field) shape.columns row (λ j. bit_xor (entry_of (S.number field) shape.columns matrix.old row j)
+        (S.product field (S.number field scalar) (slice_index (map (S.number field) values.now) j))) matrix.old matrix.new }
 {
     let start = row_start(matrix.len(), shape, row);
     let (_before, rest) = matrix.split_at_mut(start);
     let (own, _behind) = rest.split_at_mut(shape.columns);
-    S::add_scaled(own, scalar, values);
+    field.add_scaled(own, scalar, values);
 }
 
 // Adds `scalar` times row `from` to row `to`, which has to be another one.
 pub(crate) fn add_scaled_row<S: Scalars>(
+    field: S,
     matrix: &mut [S::Value],
     shape: Shape,
     to: usize,
@@ -101,8 +110,8 @@ pub(crate) fn add_scaled_row<S: Scalars>(
     requires to { HasMatrixRow shape.rows shape.columns to (length matrix.old) }
     requires from { from < shape.rows }
     requires other { from ≢ to }
-    ensures { IsRowWritten S.number shape.columns to (λ j. bit_xor (entry_of S.number shape.columns matrix.old to j)
-        (S.product (S.number scalar) (entry_of S.number shape.columns matrix.old from j))) matrix.old matrix.new }
+    ensures { IsRowWritten (S.number field) shape.columns to (λ j. bit_xor (entry_of (S.number field) shape.columns matrix.old to j)
+        (S.product field (S.number field scalar) (entry_of (S.number field) shape.columns matrix.old from j))) matrix.old matrix.new }
 {
     // The matrix is split in front of the later one of the two rows.
     let Shape { rows, columns } = shape;
@@ -118,26 +127,41 @@ pub(crate) fn add_scaled_row<S: Scalars>(
         columns,
     };
     if from < to {
-        add_to_row::<S>(back, later, 0, scalar, row_of::<S>(front, earlier, from));
+        add_to_row(
+            field,
+            back,
+            later,
+            0,
+            scalar,
+            row_of(field, front, earlier, from),
+        );
     } else {
-        add_to_row::<S>(front, earlier, to, scalar, row_of::<S>(back, later, 0));
+        add_to_row(
+            field,
+            front,
+            earlier,
+            to,
+            scalar,
+            row_of(field, back, later, 0),
+        );
     }
 }
 
 // Multiplies a row by `scalar`.
 pub(crate) fn scale_row<S: Scalars>(
+    field: S,
     matrix: &mut [S::Value],
     shape: Shape,
     row: usize,
     scalar: S::Value,
 )
     requires { HasMatrixRow shape.rows shape.columns row (length matrix.old) }
-    ensures { IsRowWritten S.number shape.columns row
-        (λ j. S.product (S.number scalar) (entry_of S.number shape.columns matrix.old row j)) matrix.old matrix.new }
+    ensures { IsRowWritten (S.number field) shape.columns row
+        (λ j. S.product field (S.number field scalar) (entry_of (S.number field) shape.columns matrix.old row j)) matrix.old matrix.new }
 {
     for column in 0..shape.columns {
-        let own = entry::<S>(matrix, shape, row, column);
-        let value = S::multiply(scalar, own);
-        set_entry::<S>(matrix, shape, row, column, value);
+        let own = entry(field, matrix, shape, row, column);
+        let value = field.multiply(scalar, own);
+        set_entry(field, matrix, shape, row, column, value);
     }
 }

@@ -8,145 +8,155 @@ use field_base::traits::Field;
 use std::marker::PhantomData;
 
 /// The arithmetic of a field of characteristic two, of which `Value` is what a place of a slice holds: an element, or a word that
-/// stands for one.
-pub trait Scalars {
+/// stands for one. A value of this type names the field: of those whose product is chosen when a program runs it is one of many, and of
+/// the others the only one.
+pub trait Scalars: Copy {
     /// What a place holds.
     type Value: Copy;
 
     // The bits of the field, its product, and the number that a value stands for.
-    ghost width: { ℕ };
+    ghost width: { Self → ℕ };
 
-    ghost product: { ℕ → ℕ → ℕ };
+    ghost product: { Self → ℕ → ℕ → ℕ };
 
-    ghost number: { Self.Value → ℕ };
+    ghost number: { Self → Self.Value → ℕ };
 
     /// The value 0.
-    fn zero() -> Self::Value
-        ensures { number result ≡ 0 };
+    fn zero(self) -> Self::Value
+        ensures { number self result ≡ 0 };
 
     /// The value 1.
-    fn one() -> Self::Value
-        ensures { number result ≡ 1 };
+    fn one(self) -> Self::Value
+        ensures { number self result ≡ 1 };
 
     /// Whether the value is 0.
-    fn is_zero(x: Self::Value) -> bool
-        ensures { IsTrue result ↔ (number x ≡ 0) };
+    fn is_zero(self, x: Self::Value) -> bool
+        ensures { IsTrue result ↔ (number self x ≡ 0) };
 
     /// The sum.
-    fn add(x: Self::Value, y: Self::Value) -> Self::Value
-        ensures { number result ≡ bit_xor (number x) (number y) };
+    fn add(self, x: Self::Value, y: Self::Value) -> Self::Value
+        ensures { number self result ≡ bit_xor (number self x) (number self y) };
 
     /// The product.
-    fn multiply(x: Self::Value, y: Self::Value) -> Self::Value
-        ensures { number result ≡ product (number x) (number y) };
+    fn multiply(self, x: Self::Value, y: Self::Value) -> Self::Value
+        ensures { number self result ≡ product self (number self x) (number self y) };
 
     /// The inverse of a value that is not 0.
-    fn invert(x: Self::Value) -> Self::Value
-        requires { number x ≢ 0 }
-        ensures { product (number x) (number result) ≡ 1 };
+    fn invert(self, x: Self::Value) -> Self::Value
+        requires { number self x ≢ 0 }
+        ensures { product self (number self x) (number self result) ≡ 1 };
 
     /// Adds to each sum the product of `scalar` and the value at its place. Products and eliminations spend their time in it.
-    fn add_scaled(sums: &mut [Self::Value], scalar: Self::Value, values: &[Self::Value])
+    fn add_scaled(self, sums: &mut [Self::Value], scalar: Self::Value, values: &[Self::Value])
         requires { length values.now ≡ length sums.old }
         ensures long { length sums.new ≡ length sums.old }
-        ensures sums { AreScaledSums product (number scalar) (map number values.now) (map number sums.old) (map number sums.new) };
+        ensures sums { AreScaledSums (product self) (number self scalar) (map (number self) values.now) (map (number self) sums.old)
+            (map (number self) sums.new) };
 
     /// The square.
     #[inline(always)]
-    fn square(x: Self::Value) -> Self::Value
-        ensures { number result ≡ product (number x) (number x) }
+    fn square(self, x: Self::Value) -> Self::Value
+        ensures { number self result ≡ product self (number self x) (number self x) }
     {
-        Self::multiply(x, x)
+        self.multiply(x, x)
     }
 
     /// Adds to each value the other one at its place.
     #[inline(always)]
-    fn add_each(values: &mut [Self::Value], others: &[Self::Value])
+    fn add_each(self, values: &mut [Self::Value], others: &[Self::Value])
         requires { length others.now ≡ length values.old }
-        ensures { map number values.new ≡ zip2 bit_xor (map number values.old) (map number others.now) }
+        ensures { map (number self) values.new ≡ zip2 bit_xor (map (number self) values.old) (map (number self) others.now) }
     {
         for place in 0..values.len() {
-            values[place] = Self::add(values[place], others[place]);
+            values[place] = self.add(values[place], others[place]);
         }
     }
 
     /// Multiplies each value by the scalar.
-    fn multiply_by(values: &mut [Self::Value], scalar: Self::Value)
-        ensures { map number values.new ≡ map (λ x. product (number scalar) x) (map number values.old) };
+    fn multiply_by(self, values: &mut [Self::Value], scalar: Self::Value)
+        ensures { map (number self) values.new ≡ map (λ x. product self (number self scalar) x) (map (number self) values.old) };
 
     /// The least number of values whose inverses `invert_each` gives in less time than one inverse and three products a value take.
     #[inline(always)]
-    fn least_inverted() -> usize {
+    fn least_inverted(self) -> usize {
         usize::MAX
     }
 
     /// Writes the inverse of each value, and 0 for 0.
-    fn invert_each(values: &[Self::Value], inverses: &mut [Self::Value])
+    fn invert_each(self, values: &[Self::Value], inverses: &mut [Self::Value])
         requires { length inverses.old ≡ length values.now }
-        ensures { AreInverses product (map number values.now) (map number inverses.new) };
+        ensures { AreInverses (product self) (map (number self) values.now) (map (number self) inverses.new) };
 
-    ghost wide_law: { 0 < width };
+    ghost wide_law: { (field : Self) → 0 < width field };
 
-    ghost field_law: { IsField width product };
+    ghost field_law: { (field : Self) → IsField (width field) (product field) };
 
-    ghost range_law: { (x : Self.Value) → number x < 2 ^ width };
+    ghost range_law: { (field : Self) (x : Self.Value) → number field x < 2 ^ width field };
 }
 
 /// The arithmetic of the elements of `F`: a place holds one.
+#[derive(Clone, Copy)]
 pub struct Elements<F>(PhantomData<F>);
+
+impl<F> Elements<F> {
+    /// That arithmetic.
+    pub const fn new() -> Elements<F> {
+        Elements(PhantomData)
+    }
+}
 
 impl<F: Field> Scalars for Elements<F> {
     type Value = F;
 
-    ghost width = { F.width };
+    ghost width = { λ _. F.width };
 
-    ghost product = { F.product };
+    ghost product = { λ _. F.product };
 
-    ghost number = { F.repr };
+    ghost number = { λ _. F.repr };
 
-    fn zero() -> F {
+    fn zero(self) -> F {
         F::ZERO
     }
 
-    fn one() -> F {
+    fn one(self) -> F {
         F::ONE
     }
 
-    fn is_zero(x: F) -> bool {
+    fn is_zero(self, x: F) -> bool {
         x.is_zero()
     }
 
-    fn add(x: F, y: F) -> F {
+    fn add(self, x: F, y: F) -> F {
         x + y
     }
 
-    fn multiply(x: F, y: F) -> F {
+    fn multiply(self, x: F, y: F) -> F {
         x * y
     }
 
-    fn invert(x: F) -> F {
+    fn invert(self, x: F) -> F {
         x.inverse()
     }
 
-    fn add_scaled(sums: &mut [F], scalar: F, values: &[F]) {
+    fn add_scaled(self, sums: &mut [F], scalar: F, values: &[F]) {
         F::add_scaled(sums, scalar, values);
     }
 
-    fn multiply_by(values: &mut [F], scalar: F) {
+    fn multiply_by(self, values: &mut [F], scalar: F) {
         F::multiply_by(values, scalar);
     }
 
-    fn least_inverted() -> usize {
+    fn least_inverted(self) -> usize {
         F::LEAST_INVERTED
     }
 
-    fn invert_each(values: &[F], inverses: &mut [F]) {
+    fn invert_each(self, values: &[F], inverses: &mut [F]) {
         F::invert_each(values, inverses);
     }
 
-    ghost wide_law = { F.wide_law };
+    ghost wide_law = { λ _. F.wide_law };
 
-    ghost field_law = { F.field_law };
+    ghost field_law = { λ _. F.field_law };
 
-    ghost range_law = { F.range_law };
+    ghost range_law = { λ _. F.range_law };
 }

@@ -11,6 +11,7 @@ use crate::scalars::Scalars;
 /// `solution`, and behind them the right side. Row operations leave the columns of the unknowns in reduced row echelon form, solvable or
 /// not, and `pivots`, of as many places as there are rows, begins with the columns of its leading entries. It takes no memory.
 pub fn solve_augmented<S: Scalars>(
+    field: S,
     augmented: &mut [S::Value],
     rows: usize,
     columns: usize,
@@ -23,23 +24,24 @@ pub fn solve_augmented<S: Scalars>(
     ensures shape { length augmented.new ≡ length augmented.old }
     ensures unknowns { length solution.new ≡ length solution.old }
     ensures room { length pivots.new ≡ length pivots.old }
-    ensures solution { IsTrue result → IsSolution S.product rows (length solution.old) (entry_of S.number columns augmented.old)
-        (slice_index (map S.number solution.new)) }
+    ensures solution { IsTrue result → IsSolution (S.product field) rows (length solution.old)
+        (entry_of (S.number field) columns augmented.old)
+        (slice_index (map (S.number field) solution.new)) }
     ensures unsolvable { result ≡ false → (x : ℕ → ℕ)
-        → IsSolution S.product rows (length solution.old) (entry_of S.number columns augmented.old) x → ⊥ }
+        → IsSolution (S.product field) rows (length solution.old) (entry_of (S.number field) columns augmented.old) x → ⊥ }
     ensures stays { result ≡ false → solution.new ≡ solution.old }
     ensures reduced { (rank : ℕ) × IsReducedEchelon rows (length solution.old) rank (slice_index pivots.new)
-        (entry_of S.number columns augmented.new) }
-    ensures space { HaveSameRowSpace S.product rows columns (entry_of S.number columns augmented.old)
-        (entry_of S.number columns augmented.new) }
+        (entry_of (S.number field) columns augmented.new) }
+    ensures space { HaveSameRowSpace (S.product field) rows columns (entry_of (S.number field) columns augmented.old)
+        (entry_of (S.number field) columns augmented.new) }
 {
     let unknowns = solution.len();
     let shape = Shape { rows, columns };
-    let rank = row_reduce_augmented::<S>(augmented, rows, columns, unknowns, pivots);
-    match find_pivot::<S>(augmented, shape, rank, unknowns) {
+    let rank = row_reduce_augmented(field, augmented, rows, columns, unknowns, pivots);
+    match find_pivot(field, augmented, shape, rank, unknowns) {
         Some(_) => false,
         None => {
-            write_solution::<S>(solution, augmented, shape, rank, pivots);
+            write_solution(field, solution, augmented, shape, rank, pivots);
             true
         }
     }
@@ -47,6 +49,7 @@ pub fn solve_augmented<S: Scalars>(
 
 // Gives each unknown with a leading entry the right side of its row, and the others 0.
 fn write_solution<S: Scalars>(
+    field: S,
     solution: &mut [S::Value],
     reduced: &[S::Value],
     shape: Shape,
@@ -57,26 +60,26 @@ fn write_solution<S: Scalars>(
     requires unknowns { shape.columns ≡ length solution.old + 1 }
     requires room { length pivots.now ≡ shape.rows }
     requires reduced { IsReducedEchelon shape.rows (length solution.old) rank (slice_index pivots.now)
-        (entry_of S.number shape.columns reduced.now) }
+        (entry_of (S.number field) shape.columns reduced.now) }
     ensures unknowns { length solution.new ≡ length solution.old }
-    ensures at_pivots { (k : ℕ) → k < rank → slice_index (map S.number solution.new) (slice_index pivots.now k)
-        ≡ entry_of S.number shape.columns reduced.now k (length solution.old) }
+    ensures at_pivots { (k : ℕ) → k < rank → slice_index (map (S.number field) solution.new) (slice_index pivots.now k)
+        ≡ entry_of (S.number field) shape.columns reduced.now k (length solution.old) }
     ensures elsewhere { (j : ℕ) → j < length solution.old → ((k : ℕ) → k < rank → slice_index pivots.now k ≢ j)
-        → slice_index (map S.number solution.new) j ≡ 0 }
+        → slice_index (map (S.number field) solution.new) j ≡ 0 }
 {
-    write_zeros::<S>(solution);
+    write_zeros(field, solution);
     for row in 0..rank {
         let column = pivots[row];
-        solution[column] = entry::<S>(reduced, shape, row, shape.columns - 1);
+        solution[column] = entry(field, reduced, shape, row, shape.columns - 1);
     }
 }
 
 // Writes 0 to each place.
-fn write_zeros<S: Scalars>(values: &mut [S::Value])
+fn write_zeros<S: Scalars>(field: S, values: &mut [S::Value])
     ensures count { length values.new ≡ length values.old }
-    ensures zeros { (j : ℕ) → j < length values.old → slice_index (map S.number values.new) j ≡ 0 }
+    ensures zeros { (j : ℕ) → j < length values.old → slice_index (map (S.number field) values.new) j ≡ 0 }
 {
     for place in 0..values.len() {
-        values[place] = S::zero();
+        values[place] = field.zero();
     }
 }

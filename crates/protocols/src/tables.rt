@@ -110,7 +110,13 @@ fn columns_of<F: Field, A: Allocator>(
         → map F.repr (row_at height columns.items p) ≡ column_at height size (map F.repr matrix.now) p) }
 {
     let mut columns = F::zero_vec(alloc, matrix.len())?;
-    transpose_into::<Elements<F>>(columns.as_mut_slice(), matrix, height, size);
+    transpose_into(
+        Elements::<F>::new(),
+        columns.as_mut_slice(),
+        matrix,
+        height,
+        size,
+    );
     Ok(columns)
 }
 

@@ -36,9 +36,24 @@ fn factors_multiply_back(matrix: &[Rijndael8b; 12], worked: bool) -> bool {
     let mut upper = *matrix;
     let mut lower = [Rijndael8b::ZERO; 9];
     let mut order = [0; 3];
-    plu_decompose::<Elements<Rijndael8b>>(&mut upper, 3, 4, &mut lower, &mut order);
+    plu_decompose(
+        Elements::<Rijndael8b>::new(),
+        &mut upper,
+        3,
+        4,
+        &mut lower,
+        &mut order,
+    );
     let mut product = [Rijndael8b::ZERO; 12];
-    multiply_into::<Elements<Rijndael8b>>(&mut product, &lower, &upper, 3, 3, 4);
+    multiply_into(
+        Elements::<Rijndael8b>::new(),
+        &mut product,
+        &lower,
+        &upper,
+        3,
+        3,
+        4,
+    );
     for place in 0..12 {
         let row = order[place / 4];
         if row >= 3 || product[place] != matrix[4 * row + place % 4] {
@@ -75,11 +90,18 @@ static POWERS: [u8; 16] = [1, 2, 4, 8, 3, 6, 12, 11, 5, 10, 7, 14, 15, 13, 9, 1]
 fn companion_runs_through_its_field() -> bool {
     let coefficients = [byte(1), byte(1), byte(0), byte(0)];
     let mut companion = [Rijndael8b::ZERO; 16];
-    companion_into::<Elements<Rijndael8b>>(&mut companion, &coefficients);
+    companion_into(Elements::<Rijndael8b>::new(), &mut companion, &coefficients);
     for exponent in 0..16 {
         let mut power = companion;
         let mut spare = companion;
-        power_into::<Elements<Rijndael8b>>(&mut power, &companion, 4, exponent, &mut spare);
+        power_into(
+            Elements::<Rijndael8b>::new(),
+            &mut power,
+            &companion,
+            4,
+            exponent,
+            &mut spare,
+        );
         let bits = POWERS[exponent as usize];
         if power[0] != byte(bits & 1)
             || power[4] != byte(bits >> 1 & 1)

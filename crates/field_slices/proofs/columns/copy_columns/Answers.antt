@@ -5,7 +5,7 @@ use Rattle.field_slices.proofs.columns.copy_columns.Goals as goal
 
 pub loop-row-init : goal.loop-row-init
 loop-row-init g c =
-    let number = g.S.Scalars.number in
+    let number = g.S.Scalars.number c.args.field in
     let copy = c.args.copy in
     rows_start number copy.target_columns
     (λ i. put_entry copy.to copy.count (λ k. entry_of number copy.columns c.args.source.now i (copy.from + k))
@@ -13,7 +13,7 @@ loop-row-init g c =
 
 pub loop-row-preserved : goal.loop-row-preserved
 loop-row-preserved g c =
-    let number = g.S.Scalars.number in
+    let number = g.S.Scalars.number c.args.field in
     let copy = c.args.copy in
     let so_far = c.loop-row.invariant in
     let row = c.loop-row.row in

@@ -6,7 +6,7 @@ use Rattle.field_slices.proofs.columns.copy_columns.Given as goal
 -- the rows before this one are done
 abbrev pub invariant-loop-row : goal.invariant-loop-row
 invariant-loop-row g l =
-    let number = g.S.Scalars.number in
+    let number = g.S.Scalars.number l.field in
     let copy = l.copy in
     RowsWritten number copy.target_columns
     (λ i. put_entry copy.to copy.count (λ k. entry_of number copy.columns l.source i (copy.from + k))

@@ -5,19 +5,21 @@ use Rattle.field_slices.proofs.columns.copy_row.Goals as goal
 
 pub loop-column-init : goal.loop-column-init
 loop-column-init g c =
-    let number = g.S.Scalars.number in
+    let number = g.S.Scalars.number c.args.field in
     let copy = c.args.copy in
     put_start number copy.target_columns c.args.row copy.to copy.count
     (λ k. entry_of number copy.columns c.args.source.now c.args.row (copy.from + k)) c.args.target.now
 
 pub loop-column-preserved : goal.loop-column-preserved
 loop-column-preserved g c =
+    let number = g.S.Scalars.number c.args.field in
     let copy = c.args.copy in
-    put_step copy.to copy.count (λ k. entry_of g.S.Scalars.number copy.columns c.args.source.now c.args.row (copy.from + k))
+    put_step copy.to copy.count (λ k. entry_of number copy.columns c.args.source.now c.args.row (copy.from + k))
     c.loop-column.invariant (omega arith) (omega arith) (omega arith) c.entry-value.ensures c.set_entry.ensures
 
 pub returns : goal.returns
 returns g c =
+    let number = g.S.Scalars.number c.args.field in
     let copy = c.args.copy in
-    put_end copy.to copy.count (λ k. entry_of g.S.Scalars.number copy.columns c.args.source.now c.args.row (copy.from + k))
+    put_end copy.to copy.count (λ k. entry_of number copy.columns c.args.source.now c.args.row (copy.from + k))
     c.loop-column.invariant (omega arith)

@@ -6,7 +6,7 @@ use Rattle.field_slices.proofs.columns.copy_row.Given as goal
 -- the entries before this column are done
 abbrev pub invariant-loop-column : goal.invariant-loop-column
 invariant-loop-column g l =
-    let number = g.S.Scalars.number in
+    let number = g.S.Scalars.number l.field in
     let copy = l.fn.copy in
     RowWritten number copy.target_columns l.row
     (put_entry copy.to copy.count (λ k. entry_of number copy.columns l.source l.row (copy.from + k))

@@ -7,13 +7,13 @@ use Rattle.field_slices.proofs.companions.companion_into.Goals as goal
 
 pub loop-row-init : goal.loop-row-init
 loop-row-init g c =
-    let number = g.S.Scalars.number in
+    let number = g.S.Scalars.number c.args.field in
     let size = length c.args.coefficients.now in
     rows_start number size (companion_entry size (slice_index (map number c.args.coefficients.now))) c.args.target.now
 
 pub loop-row-preserved : goal.loop-row-preserved
 loop-row-preserved g c =
-    let number = g.S.Scalars.number in
+    let number = g.S.Scalars.number c.args.field in
     let coefficients = c.args.coefficients.now in
     let row = c.loop-row.row in
     let own = number-at number coefficients row c.index-coefficients-row.result (omega arith) c.index-coefficients-row.is in

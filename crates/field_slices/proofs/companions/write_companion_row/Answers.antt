@@ -5,7 +5,7 @@ use Rattle.field_slices.proofs.companions.write_companion_row.Goals as goal
 
 pub loop-column-init : goal.loop-column-init
 loop-column-init g c =
-    let number = g.S.Scalars.number in
+    let number = g.S.Scalars.number c.args.field in
     let size = c.args.shape.columns in
     row_start number size c.args.row (companion_entry size (λ (i : ℕ). number c.args.last) c.args.row) c.args.target.now
 

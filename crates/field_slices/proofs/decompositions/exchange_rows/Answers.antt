@@ -5,7 +5,9 @@ use Rattle.field_slices.proofs.RowExchanges.{exchange_start, exchange_step}
 use Rattle.field_slices.proofs.decompositions.exchange_rows.Goals as goal
 
 pub loop-column-init : goal.loop-column-init
-loop-column-init g c = exchange_start g.S.Scalars.number c.args.shape.columns c.args.first c.args.second c.args.matrix.now
+loop-column-init g c =
+    let number = g.S.Scalars.number c.args.field in
+    exchange_start number c.args.shape.columns c.args.first c.args.second c.args.matrix.now
 
 pub loop-column-preserved : goal.loop-column-preserved
 loop-column-preserved g c =
@@ -13,8 +15,9 @@ loop-column-preserved g c =
 
 pub returns-clause-entries : goal.returns-clause-entries
 returns-clause-entries g c =
+    let number = g.S.Scalars.number c.args.field in
     let all : c.loop-column.column ≡ c.args.count = omega arith in
     λ i j inside.
-    subst (λ (n : ℕ). entry_of g.S.Scalars.number c.args.shape.columns c.loop-column.matrix i j
-    ≡ exchanged_entry c.args.first c.args.second n (entry_of g.S.Scalars.number c.args.shape.columns c.args.matrix.now) i j) all
+    subst (λ (n : ℕ). entry_of number c.args.shape.columns c.loop-column.matrix i j
+    ≡ exchanged_entry c.args.first c.args.second n (entry_of number c.args.shape.columns c.args.matrix.now) i j) all
     (c.loop-column.invariant.entries i j inside)

@@ -3,4 +3,6 @@ use Rattle.field_slices.proofs.decompositions.exchange_rows.Given as goal
 
 -- the entries before this column are exchanged
 abbrev pub invariant-loop-column : goal.invariant-loop-column
-invariant-loop-column g l = RowsExchanged g.S.Scalars.number l.shape.columns l.first l.second l.fn.matrix l.matrix l.column
+invariant-loop-column g l =
+    let number = g.S.Scalars.number l.field in
+    RowsExchanged number l.shape.columns l.first l.second l.fn.matrix l.matrix l.column

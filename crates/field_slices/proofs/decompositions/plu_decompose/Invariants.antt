@@ -9,8 +9,9 @@ use Rattle.field_slices.proofs.decompositions.plu_decompose.Given as goal
 -- the columns before this one are done
 abbrev pub invariant-loop-column : goal.invariant-loop-column
 invariant-loop-column g l =
-    let scalars = g.S.Scalars in
+    let number = g.S.Scalars.number l.field in
+    let times = g.S.Scalars.product l.field in
     (length l.matrix ≡ length l.fn.matrix) × (length l.lower ≡ length l.fn.lower) × (length l.order ≡ length l.fn.order)
     × IsPermutation (range_with_len 0 l.rows) l.order
-    × IsDecomposition scalars.product l.rows l.columns l.column (entry_of scalars.number l.columns l.fn.matrix) (slice_index l.order)
-    (entry_of scalars.number l.rows l.lower) (entry_of scalars.number l.columns l.matrix)
+    × IsDecomposition times l.rows l.columns l.column (entry_of number l.columns l.fn.matrix) (slice_index l.order)
+    (entry_of number l.rows l.lower) (entry_of number l.columns l.matrix)

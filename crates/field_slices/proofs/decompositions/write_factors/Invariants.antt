@@ -5,6 +5,7 @@ use Rattle.field_slices.proofs.decompositions.write_factors.Given as goal
 -- the rows before this one are done
 abbrev pub invariant-loop-row : goal.invariant-loop-row
 invariant-loop-row g l =
-    let scalars = g.S.Scalars in
-    FactorsWritten scalars.number scalars.product l.shape.rows l.column (entry_of scalars.number l.shape.columns l.matrix) l.fn.lower l.lower
+    let number = g.S.Scalars.number l.field in
+    let times = g.S.Scalars.product l.field in
+    FactorsWritten number times l.shape.rows l.column (entry_of number l.shape.columns l.matrix) l.fn.lower l.lower
     l.row

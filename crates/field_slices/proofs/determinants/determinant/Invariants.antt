@@ -6,8 +6,9 @@ use Rattle.field_slices.proofs.determinants.determinant.Given as goal
 -- the product times the determinant of the rows and columns that are left is that of all
 abbrev pub invariant-loop-step : goal.invariant-loop-step
 invariant-loop-step g l =
-    let scalars = g.S.Scalars in
+    let number = g.S.Scalars.number l.field in
+    let times = g.S.Scalars.product l.field in
     (length l.matrix ≡ length l.fn.matrix)
-    × (determinant_of scalars.product l.size (entry_of scalars.number l.size l.fn.matrix)
-    ≡ scalars.product (scalars.number l.product)
-    (determinant_of scalars.product (l.size - l.step) (corner_entry l.step (entry_of scalars.number l.size l.matrix))))
+    × (determinant_of times l.size (entry_of number l.size l.fn.matrix)
+    ≡ times (number l.product)
+    (determinant_of times (l.size - l.step) (corner_entry l.step (entry_of number l.size l.matrix))))

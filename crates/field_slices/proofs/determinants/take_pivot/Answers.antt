@@ -6,14 +6,20 @@ use Rattle.field_slices.proofs.determinants.take_pivot.Goals as goal
 
 pub returns-in_err-row-clause-none : goal.returns-in_err-row-clause-none
 returns-in_err-row-clause-none g c =
-    let scalars = g.S.Scalars in
-    let now = entry_of scalars.number c.args.shape.columns c.args.matrix.now in
-    λ _. pivot-none scalars.width scalars.product g.met.S.Scalars.field_law.ring c.args.shape.rows c.args.step now
+    let number = g.S.Scalars.number c.args.field in
+    let times = g.S.Scalars.product c.args.field in
+    let width = g.S.Scalars.width c.args.field in
+    let ring = (g.met.S.Scalars.field_law c.args.field).ring in
+    let now = entry_of number c.args.shape.columns c.args.matrix.now in
+    λ _. pivot-none width times ring c.args.shape.rows c.args.step now
     c.requires.shape.row_within (c.in_err-row.ensures.none refl)
 
 pub returns-clause-divided : goal.returns-clause-divided
 returns-clause-divided g c =
-    let scalars = g.S.Scalars in
+    let number = g.S.Scalars.number c.args.field in
+    let times = g.S.Scalars.product c.args.field in
+    let width = g.S.Scalars.width c.args.field in
+    let ring = (g.met.S.Scalars.field_law c.args.field).ring in
     let law = g.met.S.Scalars in
     let size = c.args.shape.columns in
     let step = c.args.step in
@@ -23,13 +29,13 @@ returns-clause-divided g c =
     let within = c.requires.shape.row_within in
     let found = c.in_ok-row.ensures.inside in
     let left : c.args.shape.rows - step ≡ suc m = omega (arith, within) in
-    let inverse = scalars.number c.invert.result in
+    let inverse = number c.invert.result in
     let cleared = c.clear_column.new.matrix in
     let pivot = sym c.entry-pivot.ensures in
-    ap (λ (n : ℕ). determinant_of scalars.product n (corner_entry step (entry_of scalars.number size old))) left
-    ∙ pivot-taken scalars.number scalars.width scalars.product law.field_law.ring law.wide_law law.range_law size step m c.in_ok-row.row
+    ap (λ (n : ℕ). determinant_of times n (corner_entry step (entry_of number size old))) left
+    ∙ pivot-taken number width times ring (law.wide_law c.args.field) (law.range_law c.args.field) size step m c.in_ok-row.row
     (omega (arith, square, within)) found.0 (omega (arith, square, found.1)) old c.bring_nonzero.new.matrix
-    c.bring_nonzero.ensures inverse (ap (λ (x : ℕ). scalars.product x inverse) pivot ∙ c.invert.ensures) c.scale_row.new.matrix cleared
+    c.bring_nonzero.ensures inverse (ap (λ (x : ℕ). times x inverse) pivot ∙ c.invert.ensures) c.scale_row.new.matrix cleared
     c.scale_row.ensures
     (λ i j reached below inside. c.clear_column.ensures.cleared i j reached (omega (arith, square, below)) inside)
-    ∙ ap (λ (x : ℕ). scalars.product x (determinant_of scalars.product m (corner_entry (step + 1) (entry_of scalars.number size cleared)))) pivot
+    ∙ ap (λ (x : ℕ). times x (determinant_of times m (corner_entry (step + 1) (entry_of number size cleared)))) pivot

@@ -6,17 +6,19 @@ use Rattle.field_slices.proofs.horner.add_blocks.Goals as goal
 
 pub loop-start-init : goal.loop-start-init
 loop-start-init g c =
-    let s = g.S.Scalars in
+    let number = g.S.Scalars.number c.args.field in
+    let times = g.S.Scalars.product c.args.field in
     let blocks = c.args.blocks.now in (
       c.requires.whole,
       omega arith,
-      λ x high_is. ap (λ (xs : List _). value_of 1 s.product s.number (xs ++ c.args.sums.now) x)
+      λ x high_is. ap (λ (xs : List _). value_of 1 times number (xs ++ c.args.sums.now) x)
           (sym (drop_all (length blocks) blocks (omega arith))),
     )
 
 pub loop-start-preserved : goal.loop-start-preserved
 loop-start-preserved g c =
-    let s = g.S.Scalars in
+    let number = g.S.Scalars.number c.args.field in
+    let times = g.S.Scalars.product c.args.field in
     let start = c.loop-start.start in
     let whole = c.loop-start.invariant.0 in
     let within : start ≤ length c.args.blocks.now = c.loop-start.invariant.1 in
@@ -27,14 +29,15 @@ loop-start-preserved g c =
       omega (arith, within),
       λ x high_is. c.fold.ensures.value x 128 (drop start c.args.blocks.now ++ c.args.sums.now) long high_is
           (c.loop-start.invariant.2 x high_is)
-          ∙ ap (λ (xs : List _). value_of 1 s.product s.number xs x)
+          ∙ ap (λ (xs : List _). value_of 1 times number xs x)
           (block_joined 128 start (start - (start - 128)) c.args.blocks.now c.args.sums.now (omega (arith, below)) below),
     )
 
 pub returns-clause-value : goal.returns-clause-value
 returns-clause-value g c x high_is =
-    let s = g.S.Scalars in
+    let number = g.S.Scalars.number c.args.field in
+    let times = g.S.Scalars.product c.args.field in
     let past = c.loop-start-test.false in
     let none : c.loop-start.start ≡ 0 = omega (arith, past) in
     c.loop-start.invariant.2 x high_is
-    ∙ ap (λ (n : ℕ). value_of 1 s.product s.number (drop n c.args.blocks.now ++ c.args.sums.now) x) none
+    ∙ ap (λ (n : ℕ). value_of 1 times number (drop n c.args.blocks.now ++ c.args.sums.now) x) none

@@ -4,12 +4,18 @@ use Rattle.field_slices.proofs.horner.squared.Goals as goal
 
 pub loop-init : goal.loop-init
 loop-init g c =
-    let s = g.S.Scalars in
+    let number = g.S.Scalars.number c.args.field in
+    let times = g.S.Scalars.product c.args.field in
+    let width = g.S.Scalars.width c.args.field in
+    let ring = (g.met.S.Scalars.field_law c.args.field).ring in
     let law = g.met.S.Scalars in
-    sym (repeated_square-none s.width 1 s.product law.field_law.ring (s.number c.args.x) (law.range_law c.args.x))
+    sym (repeated_square-none width 1 times ring (number c.args.x) ((law.range_law c.args.field) c.args.x))
 
 pub loop-preserved : goal.loop-preserved
 loop-preserved g c =
-    let s = g.S.Scalars in
-    let more = repeated_square_more s.width 1 s.product g.met.S.Scalars.field_law.ring c.loop.counter (s.number c.args.x) in
+    let number = g.S.Scalars.number c.args.field in
+    let times = g.S.Scalars.product c.args.field in
+    let width = g.S.Scalars.width c.args.field in
+    let ring = (g.met.S.Scalars.field_law c.args.field).ring in
+    let more = repeated_square_more width 1 times ring c.loop.counter (number c.args.x) in
     cc (more, c.square-value.ensures, c.loop.invariant)

@@ -4,5 +4,6 @@ use Rattle.field_slices.proofs.horner.squared.Given as goal
 
 abbrev pub invariant-loop : goal.invariant-loop
 invariant-loop g l =
-    let s = g.S.Scalars in
-    s.number l.value ≡ repeated_square 1 s.product l.counter (s.number l.fn.x)
+    let number = g.S.Scalars.number l.field in
+    let times = g.S.Scalars.product l.field in
+    number l.value ≡ repeated_square 1 times l.counter (number l.fn.x)

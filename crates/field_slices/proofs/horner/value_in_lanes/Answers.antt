@@ -8,18 +8,20 @@ use Rattle.field_slices.proofs.horner.value_in_lanes.Goals as goal
 
 pub returns : goal.returns
 returns g c =
-    let s = g.S.Scalars in
+    let number = g.S.Scalars.number c.args.field in
+    let times = g.S.Scalars.product c.args.field in
+    let width = g.S.Scalars.width c.args.field in
     let law = g.met.S.Scalars in
-    let ring = law.field_law.ring in
-    let x = s.number c.args.x in
-    let one_fits : 1 < 2 ^ s.width = pow_below 0 s.width law.wide_law in
-    let value = λ (xs : List _). value_of 1 s.product s.number xs x in
-    let quarter : s.number c.squared-by_quarter.result ≡ power 1 s.product x 32 =
-    c.squared-by_quarter.ensures ∙ repeated_square-power s.width 1 s.product ring one_fits 5 x in
-    let half : s.number c.square-by_half.result ≡ power 1 s.product x 64 =
-    c.square-by_half.ensures ∙ ap₂ s.product quarter quarter ∙ sym (power-add s.width 1 s.product ring one_fits x 32 32) in
-    let all : s.number c.square.result ≡ power 1 s.product x 128 =
-    c.square.ensures ∙ ap₂ s.product half half ∙ sym (power-add s.width 1 s.product ring one_fits x 64 64) in
+    let ring = (g.met.S.Scalars.field_law c.args.field).ring in
+    let x = number c.args.x in
+    let one_fits : 1 < 2 ^ width = pow_below 0 width (law.wide_law c.args.field) in
+    let value = λ (xs : List _). value_of 1 times number xs x in
+    let quarter : number c.squared-by_quarter.result ≡ power 1 times x 32 =
+    c.squared-by_quarter.ensures ∙ repeated_square-power width 1 times ring one_fits 5 x in
+    let half : number c.square-by_half.result ≡ power 1 times x 64 =
+    c.square-by_half.ensures ∙ ap₂ times quarter quarter ∙ sym (power-add width 1 times ring one_fits x 32 32) in
+    let all : number c.square.result ≡ power 1 times x 128 =
+    c.square.ensures ∙ ap₂ times half half ∙ sym (power-add width 1 times ring one_fits x 64 64) in
     let sums = c.add_blocks.new.sums in
     let second = c.fold.new.sums in
     let first_cut = c.split_at_mut-first.ensures in
@@ -33,6 +35,6 @@ returns g c =
     ∙ c.fold.ensures.value x 64 _ (omega (arith, ap length first_cut.back, length-drop 64 sums, c.add_blocks.ensures.long)) half refl
     ∙ ap value (ap₂ (λ (xs ys : List _). xs ++ ys) first_cut.front first_cut.back ∙ take-append-drop 64 sums)
     ∙ c.add_blocks.ensures.value x all
-    ∙ value_of_blocks s.width 1 s.product ring x s.number one_fits c.zero-sums.result
+    ∙ value_of_blocks width 1 times ring x number one_fits c.zero-sums.result
     _ 128 c.args.coefficients.now _ _ _ c.split_at.ensures.front c.split_at.ensures.back c.copy_from_slice.ensures.after
     c.zero-sums.ensures

@@ -5,16 +5,22 @@ use Rattle.field_slices.proofs.horner.value_one_by_one.Goals as goal
 
 pub loop-place-init : goal.loop-place-init
 loop-place-init g c =
-    let s = g.S.Scalars in
-    horner_start s.width 1 s.product g.met.S.Scalars.field_law.ring s.number (s.number c.args.x)
-    (s.number c.zero-value.result) _ c.args.coefficients.now (omega arith) c.zero-value.ensures
+    let number = g.S.Scalars.number c.args.field in
+    let times = g.S.Scalars.product c.args.field in
+    let width = g.S.Scalars.width c.args.field in
+    let ring = (g.met.S.Scalars.field_law c.args.field).ring in
+    horner_start width 1 times ring number (number c.args.x)
+    (number c.zero-value.result) _ c.args.coefficients.now (omega arith) c.zero-value.ensures
 
 pub loop-place-preserved : goal.loop-place-preserved
 loop-place-preserved g c =
-    let s = g.S.Scalars in
+    let number = g.S.Scalars.number c.args.field in
+    let times = g.S.Scalars.product c.args.field in
+    let width = g.S.Scalars.width c.args.field in
+    let ring = (g.met.S.Scalars.field_law c.args.field).ring in
     let law = g.met.S.Scalars in
     let coefficient = c.index-coefficients-place.result in
-    horner_step s.width 1 s.product law.field_law.ring s.number (s.number c.args.x) (s.number c.loop-place.value)
-    (s.number c.add-value.result) c.loop-place.place c.args.coefficients.now coefficient (omega arith) (omega arith)
-    (law.range_law coefficient) c.index-coefficients-place.is c.loop-place.invariant
-    (c.add-value.ensures ∙ ap (λ (n : ℕ). bit_xor n (s.number coefficient)) c.multiply.ensures)
+    horner_step width 1 times ring number (number c.args.x) (number c.loop-place.value)
+    (number c.add-value.result) c.loop-place.place c.args.coefficients.now coefficient (omega arith) (omega arith)
+    ((law.range_law c.args.field) coefficient) c.index-coefficients-place.is c.loop-place.invariant
+    (c.add-value.ensures ∙ ap (λ (n : ℕ). bit_xor n (number coefficient)) c.multiply.ensures)

@@ -6,13 +6,14 @@ use Rattle.field_slices.proofs.identities.write_identity.Goals as goal
 
 pub loop-row-init : goal.loop-row-init
 loop-row-init g c =
-    let number = g.S.Scalars.number in
+    let number = g.S.Scalars.number c.args.field in
     let columns = c.args.shape.columns in
     rows_start number columns (beside_identity c.args.from (entry_of number columns c.args.matrix.now)) c.args.matrix.now
 
 pub loop-row-preserved : goal.loop-row-preserved
 loop-row-preserved g c =
-    let entries = entry_of g.S.Scalars.number c.args.shape.columns in
+    let number = g.S.Scalars.number c.args.field in
+    let entries = entry_of number c.args.shape.columns in
     let row = c.loop-row.row in
     let so_far = c.loop-row.invariant in
     rows_step so_far

@@ -6,6 +6,6 @@ use Rattle.field_slices.proofs.identities.write_identity_row.Given as goal
 -- the entries before this column are done
 abbrev pub invariant-loop-column : goal.invariant-loop-column
 invariant-loop-column g l =
-    let number = g.S.Scalars.number in
+    let number = g.S.Scalars.number l.field in
     RowWritten number l.shape.columns l.row (beside_identity l.from (λ (i : ℕ). entry_of number l.shape.columns l.fn.matrix l.row) l.place)
     l.fn.matrix l.matrix l.column

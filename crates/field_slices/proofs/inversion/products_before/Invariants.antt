@@ -6,7 +6,8 @@ use Rattle.field_slices.proofs.inversion.products_before.Given as goal
 -- the places before this one hold the products before them, and the product so far is that of all elements before
 abbrev pub invariant-loop-place : goal.invariant-loop-place
 invariant-loop-place g l =
-    let s = g.S.Scalars in
-    let number = slice_index (map s.number l.values) in
-    ((i : ℕ) → i < l.place → slice_index (map s.number l.products) i ≡ nonzero_product s.product number i)
-    × (s.number l.product ≡ nonzero_product s.product number l.place)
+    let value = g.S.Scalars.number l.field in
+    let times = g.S.Scalars.product l.field in
+    let number = slice_index (map value l.values) in
+    ((i : ℕ) → i < l.place → slice_index (map value l.products) i ≡ nonzero_product times number i)
+    × (value l.product ≡ nonzero_product times number l.place)

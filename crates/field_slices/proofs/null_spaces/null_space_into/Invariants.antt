@@ -7,6 +7,7 @@ use Rattle.field_slices.proofs.null_spaces.null_space_into.Given as goal
 -- the columns before this one are done
 abbrev pub invariant-loop-column : goal.invariant-loop-column
 invariant-loop-column g l =
-    let scalars = g.S.Scalars in
-    VectorsWritten scalars.product l.columns l.rank (slice_index l.pivots) (entry_of scalars.number l.columns l.reduced)
-    (entry_of scalars.number l.columns) l.fn.basis l.basis l.passed (l.column - l.passed) l.column
+    let number = g.S.Scalars.number l.field in
+    let times = g.S.Scalars.product l.field in
+    VectorsWritten times l.columns l.rank (slice_index l.pivots) (entry_of number l.columns l.reduced)
+    (entry_of number l.columns) l.fn.basis l.basis l.passed (l.column - l.passed) l.column

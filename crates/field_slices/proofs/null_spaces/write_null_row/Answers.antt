@@ -6,18 +6,20 @@ use Rattle.field_slices.proofs.null_spaces.write_null_row.Goals as goal
 
 pub loop-k-init : goal.loop-k-init
 loop-k-init g c =
-    let entries = entry_of g.S.Scalars.number c.args.shape.columns in
+    let number = g.S.Scalars.number c.args.field in
+    let entries = entry_of number c.args.shape.columns in
     null_begin (slice_index c.args.pivots.now) (entries c.args.reduced.now) c.args.column
     (λ (i : ℕ). entries c.args.basis.now c.args.row) c.write_identity_row.ensures
 
 pub loop-k-preserved : goal.loop-k-preserved
 loop-k-preserved g c =
-    null_step (slice_index c.args.pivots.now) (entry_of g.S.Scalars.number c.args.shape.columns c.args.reduced.now) c.args.column
+    let number = g.S.Scalars.number c.args.field in
+    null_step (slice_index c.args.pivots.now) (entry_of number c.args.shape.columns c.args.reduced.now) c.args.column
     c.entry-value.ensures c.loop-k.invariant c.set_entry.ensures
 
 pub returns : goal.returns
 returns g c =
-    let number = g.S.Scalars.number in
+    let number = g.S.Scalars.number c.args.field in
     let columns = c.args.shape.columns in
     let all : c.loop-k.k ≡ c.args.rank = omega arith in
     subst (λ (n : ℕ). IsRowWritten number columns c.args.row

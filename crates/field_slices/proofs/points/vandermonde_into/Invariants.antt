@@ -7,6 +7,7 @@ use Rattle.field_slices.proofs.points.vandermonde_into.Given as goal
 -- the rows before this one are done
 abbrev pub invariant-loop-row : goal.invariant-loop-row
 invariant-loop-row g l =
-    let scalars = g.S.Scalars in
-    RowsWritten scalars.number l.columns (λ i. power 1 scalars.product (slice_index (map scalars.number l.points) i))
+    let number = g.S.Scalars.number l.field in
+    let times = g.S.Scalars.product l.field in
+    RowsWritten number l.columns (λ i. power 1 times (slice_index (map number l.points) i))
     l.fn.target l.target l.row

@@ -9,7 +9,7 @@ use Rattle.field_slices.proofs.points.write_inverses.Goals as goal
 
 pub invert-value-requires : goal.invert-value-requires
 invert-value-requires g c = λ e.
-    let number = g.S.Scalars.number in
+    let number = g.S.Scalars.number c.args.field in
     let others = c.args.others.now in
     let column = c.loop-column.column in
     let read = c.index-others-column in
@@ -20,24 +20,28 @@ invert-value-requires g c = λ e.
 
 pub loop-column-init : goal.loop-column-init
 loop-column-init g c =
-    let scalars = g.S.Scalars in
-    let other = slice_index (map scalars.number c.args.others.now) in
-    row_start scalars.number c.args.shape.columns c.args.row
-    (λ j. power 1 scalars.product (bit_xor (scalars.number c.args.point) (other j)) (2 ^ scalars.width - 2)) c.args.target.now
+    let number = g.S.Scalars.number c.args.field in
+    let times = g.S.Scalars.product c.args.field in
+    let width = g.S.Scalars.width c.args.field in
+    let other = slice_index (map number c.args.others.now) in
+    row_start number c.args.shape.columns c.args.row
+    (λ j. power 1 times (bit_xor (number c.args.point) (other j)) (2 ^ width - 2)) c.args.target.now
 
 pub loop-column-preserved : goal.loop-column-preserved
 loop-column-preserved g c =
-    let scalars = g.S.Scalars in
+    let number = g.S.Scalars.number c.args.field in
+    let times = g.S.Scalars.product c.args.field in
+    let width = g.S.Scalars.width c.args.field in
     let law = g.met.S.Scalars in
     let read = c.index-others-column in
     let sum = c.add.result in
     let value = c.invert-value.result in
-    let own = number-at scalars.number c.args.others.now c.loop-column.column read.result (omega (arith, c.requires.others)) read.is in
+    let own = number-at number c.args.others.now c.loop-column.column read.result (omega (arith, c.requires.others)) read.is in
     row_step c.loop-column.invariant (omega arith)
-    (inverse-power scalars.width scalars.product law.field_law law.wide_law (scalars.number sum) (scalars.number value)
-    (law.range_law sum) (law.range_law value) c.invert-value.ensures
-    ∙ ap (λ (x : ℕ). power 1 scalars.product x (2 ^ scalars.width - 2))
-    (c.add.ensures ∙ ap (bit_xor (scalars.number c.args.point)) (sym own))) c.set_entry.ensures
+    (inverse-power width times (law.field_law c.args.field) (law.wide_law c.args.field) (number sum) (number value)
+    ((law.range_law c.args.field) sum) ((law.range_law c.args.field) value) c.invert-value.ensures
+    ∙ ap (λ (x : ℕ). power 1 times x (2 ^ width - 2))
+    (c.add.ensures ∙ ap (bit_xor (number c.args.point)) (sym own))) c.set_entry.ensures
 
 pub returns : goal.returns
 returns g c = row_end c.loop-column.invariant (omega arith)

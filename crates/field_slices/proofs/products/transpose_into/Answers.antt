@@ -5,7 +5,7 @@ use Rattle.field_slices.proofs.products.transpose_into.Goals as goal
 
 pub loop-row-init : goal.loop-row-init
 loop-row-init g c =
-    let number = g.S.Scalars.number in
+    let number = g.S.Scalars.number c.args.field in
     rows_start number c.args.rows (λ i j. entry_of number c.args.columns c.args.source.now j i) c.args.target.now
 
 pub loop-row-preserved : goal.loop-row-preserved

@@ -8,28 +8,31 @@ use Rattle.field_base.proofs.BasisSums.{sum_below-none}
 
 pub loop-k-init : goal.loop-k-init
 loop-k-init g c =
-    let scalars = g.S.Scalars in
-    let left = entry_of scalars.number c.args.inner c.args.left.now in
-    let right = entry_of scalars.number c.args.shape.columns c.args.right.now in
+    let number = g.S.Scalars.number c.args.field in
+    let times = g.S.Scalars.product c.args.field in
+    let left = entry_of number c.args.inner c.args.left.now in
+    let right = entry_of number c.args.shape.columns c.args.right.now in
     row_wanted c.write_zero_row.ensures
-    (λ j inside. sym (sum_below-none (λ k. scalars.product (left c.args.row k) (right k j))))
+    (λ j inside. sym (sum_below-none (λ k. times (left c.args.row k) (right k j))))
 
 pub loop-k-preserved : goal.loop-k-preserved
 loop-k-preserved g c =
-    let scalars = g.S.Scalars in
-    let left = entry_of scalars.number c.args.inner c.args.left.now in
-    let right = entry_of scalars.number c.args.shape.columns c.args.right.now in
-    let own = entry_of scalars.number c.args.shape.columns c.loop-k.target c.args.row in
+    let number = g.S.Scalars.number c.args.field in
+    let times = g.S.Scalars.product c.args.field in
+    let left = entry_of number c.args.inner c.args.left.now in
+    let right = entry_of number c.args.shape.columns c.args.right.now in
+    let own = entry_of number c.args.shape.columns c.loop-k.target c.args.row in
     let so_far = c.loop-k.invariant in
     row_again so_far
     (λ j inside.
-    sum-more (λ k. scalars.product (left c.args.row k) (right k j)) c.loop-k.k (own j) _ (so_far.entries j inside)
-    (ap (bit_xor (own j)) (ap₂ scalars.product c.entry-scalar.ensures (c.row_of.ensures.entries j inside)))) c.add_to_row.ensures
+    sum-more (λ k. times (left c.args.row k) (right k j)) c.loop-k.k (own j) _ (so_far.entries j inside)
+    (ap (bit_xor (own j)) (ap₂ times c.entry-scalar.ensures (c.row_of.ensures.entries j inside)))) c.add_to_row.ensures
 
 pub returns : goal.returns
 returns g c =
-    let scalars = g.S.Scalars in
-    let left = entry_of scalars.number c.args.inner c.args.left.now in
-    let right = entry_of scalars.number c.args.shape.columns c.args.right.now in
+    let number = g.S.Scalars.number c.args.field in
+    let times = g.S.Scalars.product c.args.field in
+    let left = entry_of number c.args.inner c.args.left.now in
+    let right = entry_of number c.args.shape.columns c.args.right.now in
     let all : c.loop-k.k ≡ c.args.inner = omega arith in
-    row_wanted c.loop-k.invariant (λ j inside. ap (λ (n : ℕ). product_entry scalars.product n left right c.args.row j) all)
+    row_wanted c.loop-k.invariant (λ j inside. ap (λ (n : ℕ). product_entry times n left right c.args.row j) all)

@@ -4,8 +4,9 @@ use Rattle.field_slices.proofs.products.write_product_row.Given as goal
 -- the row is the sum of the products before this one
 abbrev pub invariant-loop-k : goal.invariant-loop-k
 invariant-loop-k g l =
-    let scalars = g.S.Scalars in
+    let number = g.S.Scalars.number l.field in
+    let times = g.S.Scalars.product l.field in
     let columns = l.shape.columns in
-    IsRowWritten scalars.number columns l.row
-    (product_entry scalars.product l.k (entry_of scalars.number l.inner l.left) (entry_of scalars.number columns l.right) l.row)
+    IsRowWritten number columns l.row
+    (product_entry times l.k (entry_of number l.inner l.left) (entry_of number columns l.right) l.row)
     l.fn.target l.target

@@ -5,7 +5,7 @@ use Rattle.field_slices.proofs.products.write_transposed_row.Goals as goal
 
 pub loop-column-init : goal.loop-column-init
 loop-column-init g c =
-    let number = g.S.Scalars.number in
+    let number = g.S.Scalars.number c.args.field in
     let shape = c.args.shape in
     row_start number shape.rows c.args.row (λ j. entry_of number shape.columns c.args.source.now j c.args.row) c.args.target.now
 

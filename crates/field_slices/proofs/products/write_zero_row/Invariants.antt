@@ -4,4 +4,5 @@ use Rattle.field_slices.proofs.products.write_zero_row.Given as goal
 -- the entries before this column are done
 abbrev pub invariant-loop-column : goal.invariant-loop-column
 invariant-loop-column g l =
-    RowWritten g.S.Scalars.number l.shape.columns l.row (λ j. 0) l.fn.target l.target l.column
+    let number = g.S.Scalars.number l.field in
+    RowWritten number l.shape.columns l.row (λ j. 0) l.fn.target l.target l.column

@@ -7,8 +7,9 @@ use Rattle.field_slices.proofs.reduction.clear_column.Given as goal
 -- the rows before this one are done
 abbrev pub invariant-loop-other : goal.invariant-loop-other
 invariant-loop-other g l =
-    let scalars = g.S.Scalars in
+    let number = g.S.Scalars.number l.field in
+    let times = g.S.Scalars.product l.field in
     let columns = l.shape.columns in
     (l.from ≤ l.other)
-    × RowsWritten scalars.number columns (cleared_from scalars.product l.from l.row l.column (entry_of scalars.number columns l.fn.matrix))
+    × RowsWritten number columns (cleared_from times l.from l.row l.column (entry_of number columns l.fn.matrix))
     l.fn.matrix l.matrix l.other

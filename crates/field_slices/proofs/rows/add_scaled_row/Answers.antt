@@ -25,16 +25,20 @@ row_of-requires-else-from-to g c =
 
 pub returns-then-from-to : goal.returns-then-from-to
 returns-then-from-to g c =
+    let number = g.S.Scalars.number c.args.field in
+    let times = g.S.Scalars.product c.args.field in
     let parts = c.split_at_mut-front in
-    earlier_added g.S.Scalars.number c.args.shape.columns g.S.Scalars.product (g.S.Scalars.number c.args.scalar) c.args.to c.args.from
+    earlier_added number c.args.shape.columns times (number c.args.scalar) c.args.to c.args.from
     parts.result.0.now c.row_of.result.now parts.ensures.value
     (rows_in_front c.args.shape.columns parts.ensures.front_len c.row_start-start.ensures.is (omega (arith, c.max-split.ensures)))
     c.if-from-to.true c.row_of.ensures.entries c.add_to_row.ensures
 
 pub returns-else-from-to : goal.returns-else-from-to
 returns-else-from-to g c =
+    let number = g.S.Scalars.number c.args.field in
+    let times = g.S.Scalars.product c.args.field in
     let parts = c.split_at_mut-front in
-    later_added g.S.Scalars.number c.args.shape.columns g.S.Scalars.product (g.S.Scalars.number c.args.scalar) c.args.to c.args.from
+    later_added number c.args.shape.columns times (number c.args.scalar) c.args.to c.args.from
     parts.result.1.now c.row_of-else-from-to.result.now parts.ensures.value
     (rows_in_front c.args.shape.columns parts.ensures.front_len c.row_start-start.ensures.is (omega (arith, c.max-split.ensures)))
     (omega arith) c.row_of-else-from-to.ensures.entries c.add_to_row-else-from-to.ensures

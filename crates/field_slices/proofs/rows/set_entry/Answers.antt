@@ -7,7 +7,7 @@ use Rattle.field_slices.proofs.rows.set_entry.Goals as goal
 
 pub returns : goal.returns
 returns g c =
-    let number = g.S.Scalars.number in
+    let number = g.S.Scalars.number c.args.field in
     let columns = c.args.shape.columns in
     let old = c.args.matrix.now in
     let value = c.args.value in

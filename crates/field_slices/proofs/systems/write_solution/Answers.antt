@@ -8,7 +8,7 @@ use Rattle.field_slices.proofs.systems.write_solution.Goals as goal
 
 pub loop-row-init : goal.loop-row-init
 loop-row-init g c =
-    let number = g.S.Scalars.number in (
+    let number = g.S.Scalars.number c.args.field in (
       c.write_zeros.ensures.count,
       solved_start (length c.args.solution.now) (slice_index c.args.pivots.now)
           (λ k. entry_of number c.args.shape.columns c.args.reduced.now k (length c.args.solution.now))
@@ -17,7 +17,7 @@ loop-row-init g c =
 
 pub loop-row-preserved : goal.loop-row-preserved
 loop-row-preserved g c =
-    let number = g.S.Scalars.number in
+    let number = g.S.Scalars.number c.args.field in
     let count = length c.args.solution.now in
     let row = c.loop-row.row in
     let pivot = slice_index c.args.pivots.now in

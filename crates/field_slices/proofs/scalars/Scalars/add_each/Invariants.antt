@@ -7,5 +7,5 @@ use Rattle.field_slices.proofs.scalars.Scalars.add_each.Given as goal
 -- the places before this one are done
 abbrev pub invariant-loop-place : goal.invariant-loop-place
 invariant-loop-place g l =
-    let s = g.Self.Scalars in
-    WrittenTo s.number (zip2 bit_xor (map s.number l.fn.values) (map s.number l.others)) l.fn.values l.values l.place
+    let number = g.Self.Scalars.number l.self in
+    WrittenTo number (zip2 bit_xor (map number l.fn.values) (map number l.others)) l.fn.values l.values l.place
