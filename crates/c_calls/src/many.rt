@@ -209,8 +209,8 @@ fn write_inverses<R: Stored, W: Holds<R>, K: Many<R, W>, V: Width + Vector>(
     truncate_all::<R, W, K>(inverses);
 }
 
-/// Writes the value at each point of the polynomial with these coefficients, the constant one first. From 512 coefficients on it goes by
-/// blocks of 128 and the power x^128 of a point, so that the products of a block are by one scalar.
+/// Writes the value at each point of the polynomial with these coefficients, the constant one first. From 128 coefficients on it goes by
+/// blocks of so many and the power x^128 of a point, so that the products of a block are by one scalar.
 #[inline]
 pub fn evaluate<R: Stored, W: Holds<R>, K: Many<R, W>, V: Width + Vector>(
     coefficients: &[W],

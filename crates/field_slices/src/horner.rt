@@ -15,7 +15,7 @@ pub fn evaluate<F: Field>(coefficients: &[F], x: F) -> F
 
 /// The value at `x` of the polynomial with these coefficients, lowest first, which are elements or words that stand for them. By Horner's
 /// rule from the last coefficient down (D. E. Knuth, The Art of Computer Programming, volume 2, "Evaluation of Polynomials"), so with one
-/// product and one sum for each coefficient. From 512 coefficients on it goes by blocks of 128 and x^128, so that the products of a block
+/// product and one sum for each coefficient. From 128 coefficients on it goes by blocks of so many and x^128, so that the products of a block
 /// are by one scalar, and the sums of the blocks are folded in half twice in the same way. It takes no memory.
 #[inline]
 pub fn value_at<S: Scalars>(field: S, coefficients: &[S::Value], x: S::Value) -> S::Value
@@ -31,8 +31,8 @@ pub fn value_at<S: Scalars>(field: S, coefficients: &[S::Value], x: S::Value) ->
 // How many sums there are: so many that a scalar's tables pay.
 const LANES: usize = 128;
 
-// From how many coefficients on the sums pay, of which 32 are added up one by one at the end.
-const LEAST_IN_LANES: usize = 4 * LANES;
+// From how many coefficients on the sums pay, of which 32 are added up one by one at the end: from one block on.
+const LEAST_IN_LANES: usize = LANES;
 
 // The same value by one chain: what is there times x, and the next coefficient.
 #[inline]
