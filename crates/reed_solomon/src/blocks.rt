@@ -280,26 +280,20 @@ fn add_shards<const N: usize>(
     }
 }
 
-// Writes N rows of another slice, of the first shard and then of so many at a time.
+// Writes N rows of another slice, of the first shard and then of two at a time.
 #[inline(always)]
-fn add_all<const N: usize, const AT_ONCE: usize>(
-    sources: &Sources<'_>,
-    out: &mut [u8],
-    rows: &[usize],
-)
-    requires fit { FitRows sources.now.size sources.now.entries.now sources.now.shards.now sources.now.starts.now (length out.old)
+fn add_all<const N: usize>(sources: &Sources<'_>, out: &mut [u8], rows: &[usize])
+    requires { FitRows sources.now.size sources.now.entries.now sources.now.shards.now sources.now.starts.now (length out.old)
         rows.now N }
-    requires one { 0 < AT_ONCE }
-    requires two { AT_ONCE ≤ 2 }
     ensures { AreWritten (row_sum sources.now.entries.now sources.now.shards.now sources.now.starts.now) (slice_index rows.now) N
         sources.now.size out.old out.new }
 {
     let count = sources.starts.len();
     add_shards::<N>(sources, 0, 1, out, rows);
     let mut done = 1;
-    while count - done >= AT_ONCE {
-        add_shards::<N>(sources, done, done + AT_ONCE, out, rows);
-        done += AT_ONCE;
+    while count - done >= 2 {
+        add_shards::<N>(sources, done, done + 2, out, rows);
+        done += 2;
     }
     for j in done..count {
         add_shards::<N>(sources, j, j + 1, out, rows);
@@ -309,38 +303,32 @@ fn add_all<const N: usize, const AT_ONCE: usize>(
 // The same, where the places of the rows are held. Few shards are read at a time, from one end of a strip to the other: of more, the
 // processor would not fetch the bytes ahead.
 #[inline(never)]
-fn write_rows<const N: usize, const AT_ONCE: usize>(
-    sources: &Sources<'_>,
-    out: &mut [u8],
-    rows: &[usize],
-)
-    requires fit { FitRows sources.now.size sources.now.entries.now sources.now.shards.now sources.now.starts.now (length out.old)
+fn write_rows<const N: usize>(sources: &Sources<'_>, out: &mut [u8], rows: &[usize])
+    requires { FitRows sources.now.size sources.now.entries.now sources.now.shards.now sources.now.starts.now (length out.old)
         rows.now N }
-    requires one { 0 < AT_ONCE }
-    requires two { AT_ONCE ≤ 2 }
     ensures { AreWritten (row_sum sources.now.entries.now sources.now.shards.now sources.now.starts.now) (slice_index rows.now) N
         sources.now.size out.old out.new }
 {
     let places = held_places::<N>(rows, 0, N);
-    add_all::<N, AT_ONCE>(sources, out, &places);
+    add_all::<N>(sources, out, &places);
 }
 
-// Writes four rows of another slice, two by two: sixteen registers of sixteen bytes do not hold the tables and the sums of four. The tables
-// of the last two rows begin 64 entries behind those of the first.
-fn write_pairs(sources: &Sources<'_>, out: &mut [u8], rows: &[usize])
-    requires fit { FitRows sources.now.size sources.now.entries.now sources.now.shards.now sources.now.starts.now (length out.old)
-        rows.now 4 }
-    ensures { AreWritten (row_sum sources.now.entries.now sources.now.shards.now sources.now.starts.now) (slice_index rows.now) 4
+// Writes two rows of another slice, and then N more, up to two: sixteen registers of sixteen bytes do not hold the tables of two shards and the
+// sums of more. The tables of the third row begin 64 entries behind those of the first.
+fn write_pairs<const N: usize>(sources: &Sources<'_>, out: &mut [u8], rows: &[usize])
+    requires { FitRows sources.now.size sources.now.entries.now sources.now.shards.now sources.now.starts.now (length out.old)
+        rows.now (2 + N) }
+    ensures { AreWritten (row_sum sources.now.entries.now sources.now.shards.now sources.now.starts.now) (slice_index rows.now) (2 + N)
         sources.now.size out.old out.new }
 {
-    write_rows::<2, 2>(sources, out, &rows[..2]);
+    write_rows::<2>(sources, out, &rows[..2]);
     let behind = Sources {
         shards: sources.shards,
         size: sources.size,
         starts: sources.starts,
         entries: &sources.entries[64..],
     };
-    write_rows::<2, 2>(&behind, out, &rows[2..]);
+    write_rows::<N>(&behind, out, &rows[2..]);
 }
 
 // Writes up to four rows of another slice, in strips of few columns, so that they stay in the nearest cache.
@@ -351,10 +339,10 @@ pub(crate) fn write_group(sources: &Sources<'_>, out: &mut [u8], rows: &[usize])
         (length rows.now) sources.now.size out.old out.new }
 {
     match rows.len() {
-        4 => write_pairs(sources, out, rows),
-        3 => write_rows::<3, 1>(sources, out, rows),
-        2 => write_rows::<2, 2>(sources, out, rows),
-        1 => write_rows::<1, 2>(sources, out, rows),
+        4 => write_pairs::<2>(sources, out, rows),
+        3 => write_pairs::<1>(sources, out, rows),
+        2 => write_rows::<2>(sources, out, rows),
+        1 => write_rows::<1>(sources, out, rows),
         _ => {}
     }
 }

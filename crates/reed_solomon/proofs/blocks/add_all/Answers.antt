@@ -8,7 +8,7 @@ loop-done-preserved g c =
     let done = c.loop-done.done in
     let sums = λ (n : ℕ). row_sum_of n c.args.sources.now.entries.now c.args.sources.now.shards.now c.args.sources.now.starts.now in (
       omega (arith, c.loop-done-test.true),
-      rows_rewritten (sums (done + g.row.AT_ONCE)) (sums done) (slice_index c.args.rows.now) g.row.N c.args.sources.now.size c.args.out.now c.loop-done.out
+      rows_rewritten (sums (done + 2)) (sums done) (slice_index c.args.rows.now) g.row.N c.args.sources.now.size c.args.out.now c.loop-done.out
           c.add_shards-in-loop-done.new.out c.loop-done.invariant.1 c.add_shards-in-loop-done.ensures,
     )
 

@@ -3,11 +3,11 @@ use Rattle.reed_solomon.specs.Tables.{row_sum}
 use Rattle.reed_solomon.proofs.RowWriting.{rows_held, written_at}
 use Rattle.reed_solomon.proofs.blocks.write_rows.Goals as goal
 
-pub add_all-requires-clause-fit : goal.add_all-requires-clause-fit
-add_all-requires-clause-fit g c =
+pub add_all-requires : goal.add_all-requires
+add_all-requires g c =
     rows_held c.args.sources.now.size (length c.args.out.now) g.row.N 0 g.row.N c.args.sources.now.entries.now c.args.sources.now.entries.now
-    c.args.sources.now.shards.now c.args.sources.now.starts.now c.args.rows.now c.held_places-places.result c.requires.fit (omega arith)
-    c.requires.fit.tables c.held_places-places.ensures.long c.held_places-places.ensures.same
+    c.args.sources.now.shards.now c.args.sources.now.starts.now c.args.rows.now c.held_places-places.result c.requires (omega arith)
+    c.requires.tables c.held_places-places.ensures.long c.held_places-places.ensures.same
 
 pub returns : goal.returns
 returns g c =
