@@ -18,8 +18,11 @@ FLAGS = {
 }
 # The two that one library has.
 BOTH = ["x86-64-v2", "x86-64-v3"]
-# What clang is told besides, where the kit does not: the processor that it names for WebAssembly has no vectors.
-MORE_FOR_CLANG = {"wasm64": ["-msimd128"]}
+# What clang is told besides, where the kit does not: the processor that it names for WebAssembly has no vectors; and on Intel's processors from
+# Skylake to Cascade Lake jumps that cross a multiple of 32 bytes are slow, so that loops of 16 bytes took 1.24 times as long where a linker
+# put them 16 bytes behind one (Intel, Mitigations for Jump Conditional Code Erratum, 2019).
+WITHIN_BOUNDS = ["-mbranches-within-32B-boundaries"]
+MORE_FOR_CLANG = {"x86-64-v2": WITHIN_BOUNDS, "x86-64-v3": WITHIN_BOUNDS, "wasm64": ["-msimd128"]}
 
 
 def is_module(form):

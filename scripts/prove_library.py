@@ -91,6 +91,12 @@ def compile_over(form):
     return 0 if is_built else 1
 
 
+def prove_archive(form, progress, kept):
+    """The same, and compiled once more where clang is told more."""
+    status = prove(form, progress, kept)
+    return status or (compile_over(form) if form in forms.MORE_FOR_CLANG else 0)
+
+
 def prove_module(form, progress, kept):
     """The same for a module, which is linked too."""
     plain = next(it for it in forms.FLAGS if forms.is_module(it) and it not in forms.MORE_FOR_CLANG)
@@ -110,7 +116,7 @@ def main():
     began, progress, status = time.monotonic(), Progress(names, costs), 0
     with open(log, "w", encoding="utf-8") as kept:
         for form in wanted:
-            status = status or (prove_module if forms.is_module(form) else prove)(form, progress, kept)
+            status = status or (prove_module if forms.is_module(form) else prove_archive)(form, progress, kept)
             progress = Progress([forms.CRATE], costs)
     spent = resource.getrusage(resource.RUSAGE_CHILDREN)
     if status == 0:
