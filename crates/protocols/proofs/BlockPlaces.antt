@@ -1,7 +1,7 @@
 -- Places of which one is drawn in each block.
-use Rattle.std.proofs.Common.{◌≡◌, ℕ, ◌+◌, ◌-◌, ◌*◌, ◌%◌, ◌^◌, ◌<◌, ◌≤◌, suc, List, length, sym, ◌∙◌, ap, subst, arith}
+use Rattle.std.proofs.Common.{◌≡◌, ℕ, ◌+◌, ◌-◌, ◌*◌, ◌%◌, ◌^◌, ◌<◌, ◌≤◌, suc, List, length, sym, ◌∙◌, ap, subst, arith, lit<}
 use Rattle.std.specs.Prelude.{slice_index}
-use Rattle.std.proofs.Math.Nat.{mul-le-mul_right}
+use Rattle.std.proofs.Math.Nat.{mul-le-mul_right, pow-le-pow_right}
 use Rattle.std.proofs.lemmas.List.FromFn.{get_or-map-range_with_len, length-map-range_with_len}
 use Rattle.std.proofs.lemmas.Nat.{pow-add, pow_pos}
 use native.Mathlib.Nat.{mod-lt}
@@ -50,6 +50,13 @@ pub blocks-whole : (m n : ℕ) → place_count m n * 2 ^ place_bits m n ≡ 2 ^ 
 blocks-whole m n =
     sym (pow-add 2 (word_levels m n - place_bits m n) (place_bits m n))
     ∙ ap (λ (b : ℕ). 2 ^ b) (let few : place_bits m n ≤ word_levels m n = omega arith in omega (arith, few))
+
+-- and so many of them are opened
+pub places-few : (m n : ℕ) → m ≤ 8 → (numbers : List ℕ) → length numbers ≡ place_count m n → length (block_places (place_bits m n) numbers) ≤ 256
+places-few m n few numbers count =
+    let up : 2 ^ (word_levels m n - place_bits m n) ≤ 2 ^ 8 = pow-le-pow_right (lit< tt) (let less : word_levels m n - place_bits m n ≤ 8 = omega (arith, few) in less) in
+    let long = length-map-range_with_len (λ i. i * 2 ^ place_bits m n + slice_index numbers i % 2 ^ place_bits m n) 0 (length numbers) in
+    omega (arith, up, long, count)
 
 -- a table as a matrix
 pub matrix-whole : (m n rows levels : ℕ) → rows ≡ matrix_rows m n → levels ≡ row_levels m n → 2 ^ n ≡ 2 ^ rows * 2 ^ levels

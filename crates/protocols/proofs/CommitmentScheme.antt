@@ -19,7 +19,7 @@ use Rattle.proximity.specs.Openings.{IsOpened}
 use Rattle.protocols.specs.CodeDistances.{FewQuarterRateCheats, point_generator}
 use Rattle.protocols.specs.CommitmentScheme.{AcceptedValue, FewOpeningsCheat, OpensValue, ShowsValue, ValuesAreBound, matrix_rows}
 use Rattle.protocols.specs.CommitmentScheme.{place_bits, row_levels, value_columns, word_levels}
-use Rattle.protocols.specs.JointOpenings.{FewPairsCheat}
+use Rattle.protocols.specs.JointTables.{FewTablesCheat}
 use Rattle.protocols.specs.OpenedTables.{AreColumnsOf, OpenedValuesNeedLuck, ShowsTable}
 use Rattle.protocols.specs.RootColumns.{AreAccepted, HasSent, HaveOtherColumns, RootsHoldColumns, SentColumns}
 use Rattle.protocols.specs.Tables.{AgreesAt, AreExtendedColumns, column_values}
@@ -252,8 +252,8 @@ pub few_openings_cheat : FewQuarterRateCheats → FewOpeningsCheat
 few_openings_cheat few times vector field vectors fit m n bits least most many little bound word prover cheats fits sends false_is =
     openings-cheat (matrix_rows m n) m n least most many little few times vector field vectors fit bits bound word prover cheats fits sends false_is
 
--- of two tables together, the challenge is one coordinate more
-pub few_pairs_cheat : FewQuarterRateCheats → FewPairsCheat
-few_pairs_cheat few times vector field vectors fit m n bits least most many little bound word prover cheats fits sends false_is =
-    openings-cheat (suc (matrix_rows m n)) m n least most many little few times vector field vectors fit bits bound word prover cheats fits sends
+-- of tables together, each challenge is one coordinate more
+pub few_tables_cheat : FewQuarterRateCheats → FewTablesCheat
+few_tables_cheat few times vector field vectors fit levels m n bits least most many little bound word prover cheats fits sends false_is =
+    openings-cheat (levels + matrix_rows m n) m n least most many little few times vector field vectors fit bits bound word prover cheats fits sends
     false_is

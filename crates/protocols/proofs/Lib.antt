@@ -1,21 +1,22 @@
 pub mod BlockPlaces
 mod CodeColumns
 pub mod CodeDistances
-pub mod CombinedLists
 pub mod CommitmentScheme
 pub mod HonestColumns
-pub mod HonestPairs
-pub mod JointOpenings
+pub mod HonestOpenings
+pub mod HonestTables
+pub mod JointTables
 pub mod OpenedColumns
 pub mod OpenedTables
-mod PairsBound
 pub mod ProofBytes
 mod RootColumns
 mod SchemeBits
 pub mod SchemeRuns
 pub mod SchemeTurns
 pub mod SoundnessErrors
+pub mod StackedTables
 mod TableLaws
 pub mod TableOpenings
 mod TableRows
+mod TablesBound
 mod Words

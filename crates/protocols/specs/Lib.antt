@@ -2,7 +2,7 @@ pub mod CodeDistances
 pub mod CodeWords
 pub mod CommitmentScheme
 pub mod Interleaved
-pub mod JointOpenings
+pub mod JointTables
 pub mod OpenedTables
 pub mod RootColumns
 pub mod SoundnessErrors

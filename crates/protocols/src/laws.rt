@@ -3,7 +3,7 @@
 ghost use Rattle.std.specs.Prelude.{◌*◌, ◌^◌, ◌<◌};
 ghost use Rattle.protocols.specs.CommitmentScheme.{FewOpeningsCheat, ValuesAreBound, VerdictsAgree};
 ghost use Rattle.protocols.specs.CodeDistances.{CodeWordsHaveDistance, FewQuarterRateCheats, QuarterRateGap};
-ghost use Rattle.protocols.specs.JointOpenings.{FewPairsCheat, OpenedPairsNeedLuck, PairVerdictsAgree, PairsAreBound};
+ghost use Rattle.protocols.specs.JointTables.{FewTablesCheat, OpenedTablesNeedLuck, TableVerdictsAgree, TablesAreBound};
 ghost use Rattle.protocols.specs.OpenedTables.{OpenedRowsNeedLuck, OpenedValuesNeedLuck, TableIsOne};
 ghost use Rattle.protocols.specs.RootColumns.{RootsHoldColumns};
 ghost use Rattle.protocols.specs.SoundnessErrors.{FewRunsSave};
@@ -52,13 +52,14 @@ pub fn opened_values_need_luck()
     ensures { OpenedValuesNeedLuck }
 {}
 
-/// States the same of two tables that a challenge combines: values whose combination such a row has at the other coordinates are those of
-/// the two tables to which the columns commit, or the challenge is the root of a line that is not 0, or one of few that stand before it
-/// is drawn; or a coordinate of the point is one of few, or the places are.
-pub fn opened_pairs_need_luck()
-    ensures { OpenedPairsNeedLuck }
+/// States the same of several tables that challenges combine: values whose combination such a row has at the other coordinates are those
+/// of the tables to which the columns commit, or a challenge is the root of a line that is not 0; or a challenge or a coordinate of the point
+/// is one of few, or the places are.
+pub fn opened_tables_need_luck()
+    ensures { OpenedTablesNeedLuck }
 {
     opened_values_need_luck();
+    zero_needs_root();
 }
 
 /// States what a root holds, whatever is opened under it: the columns of all openings that are accepted are those of one function, or two
@@ -99,27 +100,27 @@ pub fn verdicts_agree<
         (λ i. F.basis (F.cantor i)) }
 {}
 
-/// States the same of `joint_openings::verify_pair`: openings of two roots that it accepts, any number of them, each show their values of
-/// the one table to which the columns of each root commit, or a challenge or a coordinate of the point is one of few, or the places are;
+/// States the same of `joint_tables::verify_tables`: openings of the same roots that it accepts, any number of them, each show their values
+/// of the one table to which the columns of each root commit, or a challenge or a coordinate of the point is one of few, or the places are;
 /// or two of them have two inputs of the hash function that differ and have one digest, under one of the roots.
-pub fn pairs_are_bound<
+pub fn tables_are_bound<
     F: ShortElement,
     C: CanObserve<F> + CanSample<F> + GrindingChallenger<Witness = F> + CanSampleUniformBits<F>,
 >()
-    ensures { PairsAreBound C.observes C.gives C.passing C.checks C.gives_bits F.repr F.NUM_BYTES F.width F.product
+    ensures { TablesAreBound C.observes C.gives C.passing C.checks C.gives_bits F.repr F.NUM_BYTES F.width F.product
         (λ i. F.basis (F.cantor i)) }
 {
-    opened_pairs_need_luck();
+    opened_tables_need_luck();
     roots_hold_columns();
 }
 
-/// States completeness of openings of two tables with what `joint_openings::open_pair` says: in transcripts of the same state the verdict
-/// on one opening is the same. So a verifier accepts what a prover has opened.
-pub fn pair_verdicts_agree<
+/// States completeness of openings of several tables with what `joint_tables::open_tables` says: in transcripts of the same state the
+/// verdict on one opening is the same, and leads to the same state. So a verifier accepts what a prover has opened, and may go on.
+pub fn table_verdicts_agree<
     F: ShortElement,
     C: CanObserve<F> + CanSample<F> + GrindingChallenger<Witness = F> + CanSampleUniformBits<F>,
 >()
-    ensures { PairVerdictsAgree C.state C.observes C.gives C.passing C.checks C.gives_bits F.repr F.NUM_BYTES F.width F.product
+    ensures { TableVerdictsAgree C.state C.observes C.gives C.passing C.checks C.gives_bits F.repr F.NUM_BYTES F.width F.product
         (λ i. F.basis (F.cantor i)) }
 {}
 
@@ -131,9 +132,9 @@ pub fn few_openings_cheat()
     few_quarter_rate_cheats();
 }
 
-/// States the same of two tables that are opened together, where the challenge is one coordinate more.
-pub fn few_pairs_cheat()
-    ensures { FewPairsCheat }
+/// States the same of tables that are opened together, where each challenge is one coordinate more.
+pub fn few_tables_cheat()
+    ensures { FewTablesCheat }
 {
     few_quarter_rate_cheats();
 }

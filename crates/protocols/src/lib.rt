@@ -5,7 +5,7 @@
 pub mod commitment_scheme;
 pub mod extension;
 pub mod interleaved;
-pub mod joint_openings;
+pub mod joint_tables;
 pub mod laws;
 pub mod proof_bytes;
 pub mod tables;
