@@ -2,6 +2,7 @@ mod challengers;
 mod cheats;
 mod code_words;
 mod honest;
+mod joint;
 mod openings;
 mod rows;
 mod tables;
