@@ -1,8 +1,7 @@
 // A small proof system: that three committed tables meet a b = c in each row. A zero-check leaves a claim of the three tables' values at one
-// point. The first two are opened there together, and the third by itself.
-ghost use Rattle.std.specs.Prelude.{◌≡◌, ◌↔◌, ◌≤◌, IfOk, IsTrue, length};
-ghost use Rattle.protocols.specs.CommitmentScheme.{VerifiesValue};
-ghost use Rattle.protocols.specs.JointOpenings.{VerifiesPair, sent_table};
+// point, where one row opens all of them.
+ghost use Rattle.std.specs.Prelude.{◌↔◌, ◌≤◌, ◌∷◌, [], IfOk, IsTrue, length, map};
+ghost use Rattle.protocols.specs.JointTables.{sent_tables};
 ghost use Rattle.examples.specs.ProofSystem.{VerifiesProducts};
 
 use binary_field::{
@@ -10,10 +9,8 @@ use binary_field::{
     GrindingChallenger, HashChallenger, Sha256Hasher, ShortElement,
 };
 use protocols::ProtocolError;
-use protocols::commitment_scheme::{
-    ClaimedValue, OpenedValue, Parameters, ValueOpening, commit, open, verify as verify_value,
-};
-use protocols::joint_openings::{OpenedPair, PairOpening, TableOpening, open_pair, verify_pair};
+use protocols::commitment_scheme::{Parameters, commit};
+use protocols::joint_tables::{OpenedTables, open_tables, verify_tables};
 use protocols::merkle_paths::power_of_two;
 use protocols::zero_check::{prove_zero, verify_zero};
 use std::alloc::{AllocError, Global};
@@ -34,8 +31,7 @@ pub struct Roots {
 pub struct Proof<F: Field> {
     roots: Roots,
     messages: Vec<F>,
-    pair: OpenedPair<F, Global>,
-    last: OpenedValue<F, Global>,
+    opened: OpenedTables<F, Global>,
 }
 
 // The transcript begins with what is proved, the sizes and the roots.
@@ -75,19 +71,18 @@ pub fn prove(
     let mut challenger = transcript(alloc, sizes, &roots)?;
     let zeros = prove_zero(alloc, &mut challenger, sizes.variables, a, b, c)?;
     let point = zeros.sum.point.as_slice();
-    let pair = open_pair(alloc, &mut challenger, sizes, &first, &second, point)?;
-    let last = open(alloc, &mut challenger, sizes, &third, point)?;
+    let tables = [&first, &second, &third];
+    let opened = open_tables(alloc, &mut challenger, sizes, &tables, point)?;
     let messages = Vec::from_slice(alloc, zeros.sum.messages.as_slice())?;
     Ok(Proof {
         roots,
         messages,
-        pair,
-        last,
+        opened,
     })
 }
 
-/// Whether a proof is accepted in a transcript of any challenger, over a field of at least 2^26 elements: exactly if both openings are and
-/// their values meet what the zero-check leaves. It fails where the calls below do.
+/// Whether a proof is accepted in a transcript of any challenger, over a field of at least 2^26 elements: exactly if the opening is and
+/// its values meet what the zero-check leaves. It fails where the calls below do.
 pub fn verify_in<
     F: ShortElement,
     H: ByteHasher32,
@@ -102,117 +97,35 @@ pub fn verify_in<
     requires { 26 ≤ F.width }
     ensures { IfOk result (λ accepted. VerifiesProducts C.observes C.gives C.passing C.checks C.gives_bits F.repr (H.digest hasher.now)
         F.NUM_BYTES F.width F.product (λ i. F.basis (F.cantor i)) sizes.now.queries sizes.now.variables proof.now.messages.items
-        (sent_table proof.now.roots.a proof.now.pair.value proof.now.pair.one.columns.items proof.now.pair.one.nodes.items)
-        (sent_table proof.now.roots.b proof.now.pair.other_value proof.now.pair.other.columns.items proof.now.pair.other.nodes.items)
-        (sent_table proof.now.roots.c proof.now.last.value proof.now.last.columns.items proof.now.last.nodes.items)
-        proof.now.pair.row.items proof.now.last.row.items (C.number proof.now.pair.witness) (C.number proof.now.last.witness)
-        challenger.old accepted) }
+        (proof.now.roots.a ∷ proof.now.roots.b ∷ proof.now.roots.c ∷ []) (sent_tables proof.now.opened.values.items
+        proof.now.opened.row.items (C.number proof.now.opened.witness) (map (λ list. list.items) proof.now.opened.columns.items)
+        (map (λ list. list.items) proof.now.opened.nodes.items)) challenger.old accepted challenger.new) }
 {
     let messages = proof.messages.as_slice();
     let left = verify_zero(alloc, challenger, sizes.variables, messages)?;
     let point = left.sum.point.as_slice();
-    let (pair, last) = (&proof.pair, &proof.last);
-    let opened = opens_pair(alloc, hasher, challenger, sizes, &proof.roots, pair, point)?;
-    let also = opens_last(alloc, hasher, challenger, sizes, &proof.roots, last, point)?;
-    let met = left.is_met(pair.value, pair.other_value, last.value);
-    Ok(all_hold(opened, also, met))
+    let roots = [proof.roots.a, proof.roots.b, proof.roots.c];
+    let opened = &proof.opened;
+    let opens = verify_tables(alloc, hasher, challenger, sizes, &roots, point, opened)?;
+    if opened.values.len() != 3 {
+        return Ok(false);
+    }
+    let values = opened.values.as_slice();
+    let met = left.is_met(values[0], values[1], values[2]);
+    Ok(both_hold(opens, met))
 }
 
-// Whether the first two tables are opened at this point.
-fn opens_pair<
-    'a,
-    F: ShortElement,
-    H: ByteHasher32,
-    C: CanObserve<F> + CanSample<F> + GrindingChallenger<Witness = F> + CanSampleUniformBits<F>,
->(
-    alloc: Global,
-    hasher: &H,
-    challenger: &mut C,
-    sizes: &Parameters,
-    roots: &Roots,
-    pair: &'a OpenedPair<F, Global>,
-    point: &'a [F],
-) -> Result<bool, ProtocolError>
-    requires points { 26 ≤ F.width }
-    requires coordinates { length point.now ≡ sizes.now.variables }
-    ensures { IfOk result (λ opened. VerifiesPair C.observes C.gives C.passing C.checks C.gives_bits F.repr (H.digest hasher.now) F.NUM_BYTES
-        F.width F.product (λ i. F.basis (F.cantor i)) sizes.now.queries sizes.now.variables
-        (sent_table roots.now.a pair.now.value pair.now.one.columns.items pair.now.one.nodes.items)
-        (sent_table roots.now.b pair.now.other_value pair.now.other.columns.items pair.now.other.nodes.items)
-        point.now pair.now.row.items (C.number pair.now.witness) challenger.old opened) }
+// Whether both hold.
+fn both_hold(one: bool, other: bool) -> bool
+    ensures { IsTrue result ↔ IsTrue one × IsTrue other }
 {
-    let (root, other_root) = (roots.a, roots.b);
-    let row = pair.row.as_slice();
-    let columns = pair.one.columns.as_slice();
-    let nodes = pair.one.nodes.as_slice();
-    let others = pair.other.columns.as_slice();
-    let other_nodes = pair.other.nodes.as_slice();
-    let joint = PairOpening {
-        point,
-        row,
-        witness: pair.witness,
-    };
-    let one = TableOpening {
-        root,
-        value: pair.value,
-        columns,
-        nodes,
-    };
-    let other = TableOpening {
-        root: other_root,
-        value: pair.other_value,
-        columns: others,
-        nodes: other_nodes,
-    };
-    verify_pair(alloc, hasher, challenger, sizes, &joint, &one, &other)
-}
-
-// Whether the third table is opened at this point.
-fn opens_last<
-    F: ShortElement,
-    H: ByteHasher32,
-    C: CanObserve<F> + CanSample<F> + GrindingChallenger<Witness = F> + CanSampleUniformBits<F>,
->(
-    alloc: Global,
-    hasher: &H,
-    challenger: &mut C,
-    sizes: &Parameters,
-    roots: &Roots,
-    last: &OpenedValue<F, Global>,
-    point: &[F],
-) -> Result<bool, ProtocolError>
-    requires points { 26 ≤ F.width }
-    requires coordinates { length point.now ≡ sizes.now.variables }
-    ensures { IfOk result (λ opened. VerifiesValue C.observes C.gives C.passing C.checks C.gives_bits F.repr (H.digest hasher.now)
-        F.NUM_BYTES F.width F.product (λ i. F.basis (F.cantor i)) sizes.now.queries sizes.now.variables roots.now.c point.now last.now.value
-        last.now.row.items (C.number last.now.witness) last.now.columns.items last.now.nodes.items challenger.old opened) }
-{
-    let root = roots.c;
-    let value = last.value;
-    let row = last.row.as_slice();
-    let columns = last.columns.as_slice();
-    let nodes = last.nodes.as_slice();
-    let claim = ClaimedValue { point, value };
-    let opening = ValueOpening {
-        row,
-        witness: last.witness,
-        columns,
-        nodes,
-    };
-    verify_value(alloc, hasher, challenger, sizes, root, &claim, &opening)
-}
-
-// Whether all three hold.
-fn all_hold(one: bool, other: bool, third: bool) -> bool
-    ensures { IsTrue result ↔ IsTrue one × IsTrue other × IsTrue third }
-{
-    one && other && third
+    one && other
 }
 
 /// Whether a proof shows that a b = c in each of 2^variables rows: `verify_in`, in a transcript that begins with the sizes and the roots.
 /// Of each part it is proved what that shows. Values that are opened are those of the tables to which the roots' columns commit, or a
 /// challenge, a coordinate or a drawing of places is one of few, or two inputs of SHA-256 that differ have one digest
-/// (`laws::pairs_are_bound`, `laws::values_are_bound`). Tables whose values at the point meet what the zero-check leaves have a b = c in
+/// (`laws::tables_are_bound`). Tables whose values at the point meet what the zero-check leaves have a b = c in
 /// each row, or a coordinate or a challenge is one of few (`laws::false_zeros_need_luck`).
 pub fn verify(
     alloc: Global,
