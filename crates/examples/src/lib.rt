@@ -1,7 +1,7 @@
 //! Examples of programs over `binary_field`: contracts of their own over any ring and at a field by its name, secret sharing over
 //! any field, elements as keys of a hash map, one product in both bases, a linear map of a few elements, generic code over
-//! packings and over elements as data, elements as JSON, the errors of a transcript in one of the program's own, and a proof system of
-//! committed tables and a zero-check.
+//! packings and over elements as data, elements as JSON, a text through a channel that changes bytes, the errors of a transcript in one
+//! of the program's own, and a proof system of committed tables and a zero-check.
 //!
 //! All of it is for tests alone: a crate that names `binary_field` loads every crate below it, once for its functions and once more for
 //! its tests.
@@ -9,6 +9,8 @@
 
 #[cfg(test)]
 mod bases;
+#[cfg(test)]
+mod channel;
 #[cfg(test)]
 mod contracts;
 #[cfg(test)]
