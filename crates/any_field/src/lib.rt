@@ -16,6 +16,7 @@ pub use crate::extension::{
 };
 pub use crate::irreducible::is_irreducible;
 pub use crate::search::{
-    irreducible_pentanomial, irreducible_trinomial, is_field_modulus, next_irreducible,
-    random_irreducible,
+    irreducible_pentanomial, irreducible_trinomial, is_field_modulus, is_primitive_modulus,
+    next_irreducible, next_primitive, primitive_pentanomial, primitive_trinomial,
+    random_irreducible, random_primitive,
 };

@@ -1,7 +1,8 @@
 // Numbers that others published, against what the calls answer.
 use crate::{
     BinaryExtension, Embedding, NotIrreducible, irreducible_pentanomial, irreducible_trinomial,
-    is_field_modulus, next_irreducible,
+    is_field_modulus, is_primitive_modulus, next_irreducible, next_primitive,
+    primitive_pentanomial, primitive_trinomial, random_irreducible, random_primitive,
 };
 
 // How many binary polynomials of degree 1 to 16 are irreducible, by the formula of Gauss (The On-Line Encyclopedia of Integer Sequences,
@@ -23,6 +24,24 @@ fn irreducible_polynomials_are_as_many_as_gauss_has(rt: HostRuntime) {
     }
 }
 
+// How many of them are primitive (the same, A011260).
+const PRIMITIVE_COUNTS: [u32; 16] = [
+    1, 1, 2, 2, 6, 6, 18, 16, 48, 60, 176, 144, 630, 756, 1800, 2048,
+];
+
+#[test]
+fn primitive_polynomials_are_as_many_as_euler_has(rt: HostRuntime) {
+    for place in 0..16u32 {
+        let mut count = 0u32;
+        for tail in 0..1u128 << (place + 1) {
+            if is_primitive_modulus(place + 1, tail) {
+                count = count.wrapping_add(1);
+            }
+        }
+        assert_eq!(rt; count, PRIMITIVE_COUNTS[place as usize]);
+    }
+}
+
 // Rows of G. Seroussi, Table of low-weight binary irreducible polynomials, HP Laboratories HPL-98-135, 1998.
 #[test]
 fn polynomials_of_few_terms_are_those_of_the_table(rt: HostRuntime) {
@@ -38,6 +57,35 @@ fn polynomials_of_few_terms_are_those_of_the_table(rt: HostRuntime) {
     assert_eq!(rt; irreducible_pentanomial(128), Some((7, 2, 1)));
     assert_eq!(rt; next_irreducible(8, 0), Some(0x1b));
     assert_eq!(rt; next_irreducible(8, 0x1c), Some(0x1d));
+}
+
+// Rows of W. Stahnke, Primitive binary polynomials, Mathematics of Computation 27, 1973; the modulus of AES is not primitive.
+#[test]
+fn primitive_polynomials_are_those_of_the_table(rt: HostRuntime) {
+    assert_eq!(rt; primitive_trinomial(1), None);
+    assert_eq!(rt; primitive_trinomial(9), Some(4));
+    assert_eq!(rt; primitive_trinomial(31), Some(3));
+    assert_eq!(rt; primitive_trinomial(127), Some(1));
+    assert_eq!(rt; primitive_pentanomial(8), Some((4, 3, 2)));
+    assert_eq!(rt; primitive_pentanomial(16), Some((5, 3, 2)));
+    assert_eq!(rt; next_primitive(8, 0), Some(0x1d));
+    assert_eq!(rt; next_primitive(8, 0x1e), Some(0x2b));
+    assert_eq!(rt; next_primitive(8, 0xf6), None);
+    assert_eq!(rt; next_primitive(128, 0), Some(0x87));
+    assert!(rt; !is_primitive_modulus(8, 0x1b));
+    assert!(rt; is_primitive_modulus(1, 1));
+    assert!(rt; !is_primitive_modulus(0, 0));
+    assert!(rt; !is_primitive_modulus(129, 0x87));
+}
+
+// Of draws the first is taken whose low bits are the tail of one: that of AES is irreducible alone.
+#[test]
+fn draws_give_the_first_of_the_kind(rt: HostRuntime) {
+    let draws: [u128; 4] = [0x11c, 0x11b, 0x31d, 0x12b];
+    assert_eq!(rt; random_irreducible(8, &draws), Some(0x1b));
+    assert_eq!(rt; random_primitive(8, &draws), Some(0x1d));
+    assert_eq!(rt; random_primitive(8, &draws[..2]), None);
+    assert_eq!(rt; random_primitive(0, &draws), None);
 }
 
 // FIPS 197: the modulus of AES is the minimal polynomial of 2, whose powers are 51, and 3 is primitive.
