@@ -24,9 +24,8 @@ static double now(void) {
 }
 
 static uint8_t *words, *theirs, *received, *flags, *values;
-static uint8_t *interleaved, *interleaved_values;
+static uint8_t *interleaved, *interleaved_values, *settled;
 static uint16_t *corrected;
-static bool *settled;
 static void *rs;
 
 static void fail(const char *what) {
@@ -133,7 +132,7 @@ int main(int given, char **arguments) {
     int samples = given > 2 ? atoi(arguments[2]) : 9;
     double least[KINDS];
     words = malloc(count * SYMBOLS), theirs = malloc(count * SYMBOLS), received = malloc(count * SYMBOLS), flags = malloc(count);
-    values = malloc(count * CHECKS), corrected = malloc(count * sizeof *corrected), settled = calloc(count, sizeof *settled);
+    values = malloc(count * CHECKS), corrected = malloc(count * sizeof *corrected), settled = malloc(count);
     interleaved = malloc(count * SYMBOLS), interleaved_values = malloc(count * CHECKS);
     rs = init_rs_char(8, 0x187, 112, 11, CHECKS, 0);
     if (!words || !theirs || !received || !flags || !values || !corrected || !settled || !interleaved || !interleaved_values || !rs) {

@@ -2098,15 +2098,16 @@ uint32_t bf_code_syndromes_interleaved(uint64_t modulus, size_t symbols, size_t 
     uint64_t root_step, const uint8_t *words, size_t words_length,
     uint8_t *syndromes, size_t syndromes_length) BF_CHECKED;
 
-/* Corrects each word as bf_code_correct does, of words that stand interleaved, and writes to corrected whether it
- * could. Symbol i of every word is erased where byte i of erasures is not 0. To syndromes it writes the values of
- * the received words, as bf_code_syndromes_interleaved does. A bool is the byte 0 or 1, before the call too. BF_CODE
- * if modulus is none of those above, data is 0 or not below symbols, symbols is above 255, or a power of g^root_step
- * with an exponent from 1 to symbols - 1 is 1. BF_LENGTH unless words has a multiple of symbols, erasures one byte
- * for each symbol of a word or none, syndromes symbols - data for each word, and corrected one for each. */
+/* Corrects each word as bf_code_correct does, of words that stand interleaved, and writes to corrected 1 for a word
+ * that it could correct, or that had no error, and 0 for each other. Symbol i of every word is erased where byte i
+ * of erasures is not 0. To syndromes it writes the values of the received words, as bf_code_syndromes_interleaved
+ * does. BF_CODE if modulus is none of those above, data is 0 or not below symbols, symbols is above 255, or a power
+ * of g^root_step with an exponent from 1 to symbols - 1 is 1. BF_LENGTH unless words has a multiple of symbols,
+ * erasures one byte for each symbol of a word or none, syndromes symbols - data for each word, and corrected one for
+ * each. */
 uint32_t bf_code_correct_interleaved(uint64_t modulus, size_t symbols, size_t data, uint64_t first_root,
     uint64_t root_step, uint8_t *words, size_t words_length, const uint8_t *erasures, size_t erasures_length,
-    uint8_t *syndromes, size_t syndromes_length, bool *corrected, size_t corrected_length) BF_CHECKED;
+    uint8_t *syndromes, size_t syndromes_length, uint8_t *corrected, size_t corrected_length) BF_CHECKED;
 
 /* ------------------------------------------------------------------------------------------------------------------ */
 /* The same codes over a field of the caller's choice, of up to 65536 elements, with words of up to 65535 symbols. A

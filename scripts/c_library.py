@@ -100,10 +100,10 @@ CODE_FUNCTIONS = [
      "the same as code_encode, of words that stand interleaved: the first symbols of all words, one after the other, then the second symbols"),
     ("syndromes_interleaved", [("in", "words", "u8"), ("out", "syndromes", "u8")],
      "the same as code_syndromes, of words that stand interleaved, whose values do too: those of all words at a root stand one after the other"),
-    ("correct_interleaved", [("inout", "words", "u8"), ("in", "erasures", "u8"), ("out", "syndromes", "u8"), ("inout", "corrected", "bool")],
-     "corrects each word as code_correct does, of words that stand interleaved, and writes to corrected whether it could. Symbol i of every word is erased "
-     "where byte i of erasures is not 0. To syndromes it writes the values of the received words, as code_syndromes_interleaved does. A bool is the byte "
-     "0 or 1, before the call too"),
+    ("correct_interleaved", [("inout", "words", "u8"), ("in", "erasures", "u8"), ("out", "syndromes", "u8"), ("out", "corrected", "u8")],
+     "corrects each word as code_correct does, of words that stand interleaved, and writes to corrected 1 for a word that it could correct, or that had no "
+     "error, and 0 for each other. Symbol i of every word is erased where byte i of erasures is not 0. To syndromes it writes the values of the received "
+     "words, as code_syndromes_interleaved does"),
 ]
 
 # Of such codes over a field that the caller chooses, as bf_field_code_NAME, and of binary BCH codes, as bf_bch_NAME.

@@ -70,10 +70,10 @@ def interleaved_cases(draw):
             yield case("code_syndromes_interleaved", *code, interleaved(received), values)
             for given in (flags, []) if lost == 0 else (flags,):
                 words = (interleaved(received), interleaved(sent))
-                yield case("code_correct_interleaved", *code, words, given, values, ([0] * count, [1] * count))
+                yield case("code_correct_interleaved", *code, words, given, values, [1] * count)
         # One more than can be erased, in words of the code.
         flags, words, zeros = [1] * (checks + 1) + [0] * (code[2] - 1), interleaved(sent), [0] * (checks * count)
-        yield case("code_correct_interleaved", *code, (words, words), flags, zeros, ([1] * count, [0] * count))
+        yield case("code_correct_interleaved", *code, (words, words), flags, zeros, [0] * count)
     for code in FEW_WORDS:
         symbols, checks = code[1], code[1] - code[2]
         words = [definitions.code_word(code, [it]) for it in range(256)]
@@ -82,11 +82,11 @@ def interleaved_cases(draw):
         meant = [definitions.code_meant(checks, words, it, flags) for it in received]
         after = [old if new is None else new for old, new in zip(received, meant)]
         values = interleaved([definitions.code_syndromes(code, it) for it in received])
-        said = ([0] * 30, [int(it is not None) for it in meant])
+        said = [int(it is not None) for it in meant]
         yield case("code_correct_interleaved", *code, (interleaved(received), interleaved(after)), flags, values, said)
     code, words = FEW_WORDS[1], [0] * 15
     for symbols, flags, values, count in ((15, 4, 12, 3), (15, 6, 12, 3), (15, 5, 11, 3), (15, 5, 12, 2), (15, 0, 12, 4), (14, 5, 8, 2)):
-        wrong = case("code_correct_interleaved", *code, (words[:symbols],) * 2, [0] * flags, [0] * values, ([0] * count,) * 2)
+        wrong = case("code_correct_interleaved", *code, (words[:symbols],) * 2, [0] * flags, [0] * values, [0] * count)
         yield refused(wrong, "BF_LENGTH")
     yield refused(case("code_encode_interleaved", *code, (words[1:], words[1:])), "BF_LENGTH")
     for values in (11, 13):
@@ -94,7 +94,7 @@ def interleaved_cases(draw):
     for code in NO_CODES:
         yield refused(case("code_encode_interleaved", *code, (words, words)), "BF_CODE")
         yield refused(case("code_syndromes_interleaved", *code, words, [0] * 4), "BF_CODE")
-        yield refused(case("code_correct_interleaved", *code, (words, words), [], [0] * 4, ([0], [0])), "BF_CODE")
+        yield refused(case("code_correct_interleaved", *code, (words, words), [], [0] * 4, [0]), "BF_CODE")
 
 
 def correction(code, received, erased, meant):

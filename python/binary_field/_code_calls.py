@@ -113,7 +113,7 @@ class ByteCalls:
         if axis == 0:
             received = words.copy()
             values = np.empty(resized(words.shape, 0, checks), self.dtype)
-            corrected = np.zeros(words.shape[1:], np.bool_)
+            corrected = np.empty(words.shape[1:], np.uint8)
             self._call("correct", words.shape[0], checks, axis, words, flags_of(erasures, words.shape[:1]), values, corrected)
             return np.where(corrected, (words != received).sum(axis=0), -1)
         columns = self._columns(words, axis) if erasures is None else None

@@ -3452,13 +3452,13 @@ unsafe extern "C" {
         syndromes: *mut u8,
         syndromes_length: usize,
     ) -> u32;
-    /// Corrects each word as bf_code_correct does, of words that stand interleaved, and writes to corrected whether
-    /// it could. Symbol i of every word is erased where byte i of erasures is not 0. To syndromes it writes the
-    /// values of the received words, as bf_code_syndromes_interleaved does. A bool is the byte 0 or 1, before the
-    /// call too. BF_CODE if modulus is none of those above, data is 0 or not below symbols, symbols is above 255, or
-    /// a power of g^root_step with an exponent from 1 to symbols - 1 is 1. BF_LENGTH unless words has a multiple of
-    /// symbols, erasures one byte for each symbol of a word or none, syndromes symbols - data for each word, and
-    /// corrected one for each.
+    /// Corrects each word as bf_code_correct does, of words that stand interleaved, and writes to corrected 1 for a
+    /// word that it could correct, or that had no error, and 0 for each other. Symbol i of every word is erased where
+    /// byte i of erasures is not 0. To syndromes it writes the values of the received words, as
+    /// bf_code_syndromes_interleaved does. BF_CODE if modulus is none of those above, data is 0 or not below symbols,
+    /// symbols is above 255, or a power of g^root_step with an exponent from 1 to symbols - 1 is 1. BF_LENGTH unless
+    /// words has a multiple of symbols, erasures one byte for each symbol of a word or none, syndromes symbols - data
+    /// for each word, and corrected one for each.
     pub fn bf_code_correct_interleaved(
         modulus: u64,
         symbols: usize,
@@ -3471,7 +3471,7 @@ unsafe extern "C" {
         erasures_length: usize,
         syndromes: *mut u8,
         syndromes_length: usize,
-        corrected: *mut bool,
+        corrected: *mut u8,
         corrected_length: usize,
     ) -> u32;
     /// Writes the symbols behind the data of each word, so that it is a word of the code; what stood there is not

@@ -108,9 +108,9 @@ pub extern "C" fn bf_code_syndromes_interleaved(
     )
 }
 
-/// Corrects each word as code_correct does, of words that stand interleaved, and writes to corrected whether it could. Symbol i of every
-/// word is erased where byte i of erasures is not 0. To syndromes it writes the values of the received words, as
-/// code_syndromes_interleaved does. A bool is the byte 0 or 1, before the call too.
+/// Corrects each word as code_correct does, of words that stand interleaved, and writes to corrected 1 for a word that it could correct,
+/// or that had no error, and 0 for each other. Symbol i of every word is erased where byte i of erasures is not 0. To syndromes it writes
+/// the values of the received words, as code_syndromes_interleaved does.
 #[unsafe(no_mangle)]
 pub extern "C" fn bf_code_correct_interleaved(
     modulus: u64,
@@ -121,7 +121,7 @@ pub extern "C" fn bf_code_correct_interleaved(
     words: &mut [u8],
     erasures: &[u8],
     syndromes: &mut [u8],
-    corrected: &mut [bool],
+    corrected: &mut [u8],
 ) -> u32
     ensures { CorrectsInterleaved modulus symbols «data» first_root root_step erasures.now words.old
         syndromes.old corrected.old words.new syndromes.new corrected.new result }

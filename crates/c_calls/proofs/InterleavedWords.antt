@@ -1,7 +1,7 @@
 -- Interleaved words that are corrected with a list of the erased places, as a call says it by flags.
-use Rattle.std.proofs.Common.{◌≡◌, ℕ, ◌<◌, Bool, List, length, sym, ◌∙◌}
+use Rattle.std.proofs.Common.{◌≡◌, ℕ, ◌<◌, Bool, List, length, slice_index, sym, ◌∙◌}
+use Rattle.std.specs.Prelude.{nat_eq}
 use Rattle.error_codes.specs.Correcting.{is_listed}
-use Rattle.error_codes.specs.Filling.{is_marked}
 use Rattle.error_codes.specs.Interleaved.{IsSettled, interleaved_word}
 use Rattle.c_calls.specs.Codes.{is_flagged}
 use Rattle.c_calls.specs.InterleavedCodes.{AreSettled, IsSettledBy}
@@ -21,14 +21,17 @@ module _ (times : ℕ → ℕ → ℕ) (root first n checks : ℕ) (flags places
       }
 
   -- all words
-  pub words-settled : (depth : ℕ) (old new : List ℕ) (said : List Bool) → length new ≡ length old → length said ≡ depth
-      → ((c : ℕ) → c < depth → IsSettled times root first n checks (interleaved_word n depth old c) places (is_marked said c)
-      (interleaved_word n depth new c))
+  pub words-settled : (depth : ℕ) (old new said : List ℕ) → length new ≡ length old → length said ≡ depth
+      → ((c : ℕ) → c < depth → slice_index said c < 2)
+      → ((c : ℕ) → c < depth → IsSettled times root first n checks (interleaved_word n depth old c) places
+      (nat_eq (slice_index said c) 1) (interleaved_word n depth new c))
       → AreSettled times root first n checks depth flags old new said
-  words-settled depth old new said long answers settled =
+  words-settled depth old new said long answers bits settled =
       record {
         long = long;
         flags_long = answers;
+        bits = bits;
         words = λ c below.
-            settled-by (interleaved_word n depth old c) (is_marked said c) (interleaved_word n depth new c) (settled c below);
+            settled-by (interleaved_word n depth old c) (nat_eq (slice_index said c) 1) (interleaved_word n depth new c)
+            (settled c below);
       }

@@ -1,7 +1,6 @@
 -- What calls of Reed-Solomon codes do on words that stand interleaved (CCSDS 131.0-B, symbol interleaving): symbol i of word c of `depth` words
 -- stands at i · depth + c.
-use Rattle.std.specs.Prelude.{◌≡◌, ◌⊎◌, Bool, true, false, ℕ, ◌-◌, ◌*◌, ◌/◌, ◌%◌, ◌<◌, List, length}
-use Rattle.error_codes.specs.Filling.{is_marked}
+use Rattle.std.specs.Prelude.{◌≡◌, ◌⊎◌, Bool, true, false, ℕ, ◌-◌, ◌*◌, ◌/◌, ◌%◌, ◌<◌, List, length, nat_eq, slice_index}
 use Rattle.error_codes.specs.Interleaved.{AreEncoded, AreWordValues, interleaved_word}
 use Rattle.c_calls.specs.Bytes.{CallOfCode}
 use Rattle.c_calls.specs.Codes.{HasCorrectingCode, IsMeantBy, OverCode}
@@ -13,12 +12,13 @@ module _ (times : ℕ → ℕ → ℕ) (root first n checks : ℕ) where
     pub right : said ≡ true → IsMeantBy times root first n checks flags old new
     pub kept : said ≡ false → new ≡ old
 
-  -- so many words are corrected, with one flag for the symbols at each place
-  pub record AreSettled (depth : ℕ) (flags old new : List ℕ) (said : List Bool) : Type 0 where
+  -- so many words are corrected, with one flag for the symbols at each place, and 1 is said where a word is the one that was meant, else 0
+  pub record AreSettled (depth : ℕ) (flags old new said : List ℕ) : Type 0 where
     pub long : length new ≡ length old
     pub flags_long : length said ≡ depth
+    pub bits : (c : ℕ) → c < depth → slice_index said c < 2
     pub words : (c : ℕ) → c < depth
-        → IsSettledBy flags (interleaved_word n depth old c) (is_marked said c) (interleaved_word n depth new c)
+        → IsSettledBy flags (interleaved_word n depth old c) (nat_eq (slice_index said c) 1) (interleaved_word n depth new c)
 
 module _ (modulus n k first step : ℕ) where
   -- a call that encodes interleaved words
@@ -36,9 +36,9 @@ module _ (modulus n k first step : ℕ) where
       × OverCode modulus n k first step (λ times root. AreWordValues times root first n (n - k) (length words / n) words new)) old new status
 
   -- a call that corrects interleaved words, and writes the values that they had at the roots
-  abbrev pub CorrectsInterleaved : List ℕ → List ℕ → List ℕ → List Bool → List ℕ → List ℕ → List Bool → ℕ → Type 0
+  abbrev pub CorrectsInterleaved : List ℕ → List ℕ → List ℕ → List ℕ → List ℕ → List ℕ → List ℕ → ℕ → Type 0
   CorrectsInterleaved flags old old_values old_said new new_values new_said status =
-      CallOfCode {T = List ℕ × List ℕ × List Bool} (HasCorrectingCode modulus n k step)
+      CallOfCode {T = List ℕ × List ℕ × List ℕ} (HasCorrectingCode modulus n k step)
       ((length old % n ≡ 0) × ((length flags ≡ 0) ⊎ (length flags ≡ n)) × (length old_values ≡ length old / n * (n - k))
       × (length old_said ≡ length old / n)) (Unit {0})
       ((length new_values ≡ length old_values)

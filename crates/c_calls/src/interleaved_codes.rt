@@ -59,7 +59,7 @@ pub fn syndromes(
 }
 
 /// Corrects each word in place: it becomes the only word of the code from which it differs at t places beside e erased ones, where 2 t + e is
-/// at most the number of symbols that are not data, and `true` is written. Where there is none it stays, and `false` is written. A place is
+/// at most the number of symbols that are not data, and 1 is written. Where there is none it stays, and 0 is written. A place is
 /// erased in all words where its flag is not 0; no flags say that none is. The values of the received words are written too, as `syndromes`
 /// writes them. `CODE` says that there is no such code, and then `LENGTH` that there are no whole words, not as many values as they have, not
 /// one answer for each word, or flags but not one for each place.
@@ -72,7 +72,7 @@ pub fn correct(
     words: &mut [u8],
     erasures: &[u8],
     values: &mut [u8],
-    corrected: &mut [bool],
+    corrected: &mut [u8],
 ) -> u32
     ensures { CorrectsInterleaved modulus word_length dimension first_root root_step erasures.now words.old values.old corrected.old
         words.new values.new corrected.new result }
@@ -102,7 +102,7 @@ fn correct_words(
     depth: usize,
     erasures: &[u8],
     values: &mut [u8],
-    corrected: &mut [bool],
+    corrected: &mut [u8],
 )
     requires whole { length words.old ≡ code.now.word_length * depth }
     requires room { length values.old ≡ (code.now.word_length - code.now.dimension) * depth }

@@ -1,6 +1,7 @@
 -- A code word of which few symbols are erased is the word that is meant as it stands.
 use Rattle.std.proofs.Common.{◌≡◌, inl, inr, ℕ, ◌-◌, ◌/◌, ◌<◌, ◌≤◌, List, length, Bool, true, false, refl, sym, ◌∙◌, arith}
-use Rattle.std.proofs.Common.{lit<}
+use Rattle.std.proofs.Common.{ap, lit<, subst}
+use mir.Val.{bool_byte}
 use Rattle.std.specs.Prelude.{nat_eq, not, slice_index, ◌&&◌}
 use Rattle.std.proofs.lemmas.Bool.{cases_Bool}
 use Rattle.std.proofs.lemmas.List.{ext_get_or}
@@ -68,3 +69,19 @@ module _ (times : ℕ → ℕ → ℕ) (field : IsField 8 times) (root first n c
     right = λ said. itself;
     kept = λ said. let none : true ≡ false = said in absurd (cc);
   }
+
+-- ---- the flag of a word
+
+byte-told : (b : Bool) → nat_eq (bool_byte b) 1 ≡ b
+byte-told true = refl
+byte-told false = refl
+
+byte-small : (b : Bool) → bool_byte b < 2
+byte-small true = omega arith
+byte-small false = omega arith
+
+pub flag-told : (b : Bool) (byte : ℕ) → byte ≡ bool_byte b → nat_eq byte 1 ≡ b
+flag-told b byte is = ap (λ (v : ℕ). nat_eq v 1) is ∙ byte-told b
+
+pub flag-small : (b : Bool) (byte : ℕ) → byte ≡ bool_byte b → byte < 2
+flag-small b byte is = subst (λ (v : ℕ). v < 2) (sym is) (byte-small b)

@@ -282,21 +282,6 @@ module _ (width : ℕ) (times : ℕ → ℕ → ℕ) (wide : 0 < width) (field :
 
   -- ---- what a code is made of
 
-  -- a row of falling powers has no 1 but the last exactly where the order is long enough
-  pub order-of-row : (n r : ℕ) (row : ℕ → ℕ) → ((i : ℕ) → i < n → row i ≡ power 1 times r (n - 1 - i))
-      → ((i : ℕ) → i < n - 1 → row i ≢ 1) → HasOrder times r n
-  order-of-row n r row powers others d some below one =
-      others (n - 1 - d) (omega (arith, some, below))
-      (powers (n - 1 - d) (omega (arith, some, below)) ∙ ap (power 1 times r) back ∙ one)
-    where
-      back : n - 1 - (n - 1 - d) ≡ d
-      back = omega (arith, below)
-
-  pub row-of-order : (n r : ℕ) (row : ℕ → ℕ) → ((i : ℕ) → i < n → row i ≡ power 1 times r (n - 1 - i))
-      → HasOrder times r n → (i : ℕ) → i < n - 1 → row i ≢ 1
-  row-of-order n r row powers order i below one =
-      order (n - 1 - i) (omega (arith, below)) (omega (arith, below)) (sym (powers i (omega (arith, below))) ∙ one)
-
   -- the roots are powers of one element
   pub root-power : (r b m first value : ℕ) → first ≡ power 1 times r b → value ≡ times first (power 1 times r m)
       → value ≡ power 1 times r (b + m)

@@ -1,5 +1,4 @@
 pub mod Marks
-pub mod ByteTables
 pub mod CodeValues
 pub mod Encoding
 pub mod Orders
@@ -42,3 +41,5 @@ pub mod FieldRegisters
 pub mod FieldEncoding
 pub mod FieldPowers
 pub mod BinaryCodes
+pub mod ByteWords
+pub mod TurnedValues

@@ -13,3 +13,4 @@ pub mod Interleaved
 pub mod Nibbles
 pub mod DualBasis
 pub mod FieldCodes
+pub mod ByteFieldLemmas

@@ -1,17 +1,19 @@
 // The code: its field, its length, and its roots.
-ghost use Rattle.std.specs.Prelude.{◌≡◌, ◌≢◌, ◌+◌, ◌-◌, ◌<◌, ◌≤◌, ◌↔◌, ℕ, length, slice_index, bit_xor, IsTrue, IsOk, IfOk};
+ghost use Rattle.std.specs.Prelude.{◌≡◌, ◌≢◌, ◌+◌, ◌-◌, ◌<◌, ◌≤◌, ◌↔◌, ℕ, length, slice_index, IsTrue, IsOk, IfOk};
 ghost use Rattle.std.specs.Prelude.{IfErr};
 ghost use Rattle.field_base.specs.Powers.{power};
 ghost use Rattle.error_codes.specs.ByteFields.{byte_generator, byte_times};
 ghost use Rattle.error_codes.specs.Checks.{AreScaled};
 ghost use Rattle.error_codes.specs.Correcting.{HasOrder, HasRoots, code_value};
-ghost use Rattle.error_codes.specs.Filling.{falling_point, falling_scale};
 ghost use Rattle.error_codes.specs.Generators.{power_point, power_scale};
 ghost use Rattle.error_codes.specs.declared.error.CodeError.TheVariants.{NoSymbols, RepeatedPoints, TooLong};
 
 use crate::byte_field::{ByteField, generator, multiply, power_of};
 use crate::encoder::generator_polynomial;
 use crate::error::CodeError;
+use crate::field_code::has_order;
+use crate::field_code::values::evaluate;
+use crate::symbols::{narrow, widen};
 
 /// A Reed-Solomon code over bytes that corrects errors: words of `word_length` symbols, the first `dimension` of them
 /// data. The first symbol is the coefficient of the highest power, and the polynomials of code words are 0 at
@@ -23,8 +25,6 @@ pub struct CorrectingCode {
     pub(crate) dimension: usize,
     pub(crate) root: u8,
     pub(crate) first_root: usize,
-    pub(crate) points: [u8; 256],
-    pub(crate) scales: [u8; 256],
     pub(crate) roots: [u8; 256],
     pub(crate) generator: [u8; 256],
     ghost some_data: { 0 < dimension },
@@ -32,10 +32,6 @@ pub struct CorrectingCode {
     ghost short: { word_length ≤ 255 },
     ghost scaled: { AreScaled 8 word_length (power_point (byte_times field) root)
         (power_scale (byte_times field) root first_root) },
-    ghost points_are: { (i : ℕ) → i < word_length
-        → slice_index points i ≡ falling_point (byte_times field) root word_length i },
-    ghost scales_are: { (i : ℕ) → i < word_length
-        → slice_index scales i ≡ falling_scale (byte_times field) root first_root word_length i },
     ghost roots_are: { (m : ℕ) → m < word_length - dimension
         → slice_index roots m ≡ power 1 (byte_times field) root (first_root + m) },
     ghost monic: { slice_index generator 0 ≡ 1 },
@@ -75,13 +71,11 @@ impl CorrectingCode {
             return Err(CodeError::TooLong);
         }
         let root = power_of(field, generator(field), root_step);
-        let points = falling_powers(field, root, word_length);
-        if !has_order(&points, word_length) {
+        if !has_order(field, root as u16, word_length) {
             return Err(CodeError::RepeatedPoints);
         }
         let checks = word_length - dimension;
         let first = power_of(field, root, first_root);
-        let scales = falling_powers(field, first, word_length);
         let roots = rising_powers(field, first, root, checks);
         let generator = generator_polynomial(field, &roots, checks);
         Ok(CorrectingCode {
@@ -90,8 +84,6 @@ impl CorrectingCode {
             dimension,
             root,
             first_root,
-            points,
-            scales,
             roots,
             generator,
         })
@@ -120,12 +112,17 @@ impl CorrectingCode {
             (power 1 (byte_times self.now.field) self.now.root (self.now.first_root + m)) }
         ensures zeros { (m : ℕ) → self.now.word_length - self.now.dimension ≤ m → slice_index result m ≡ 0 }
     {
-        values_at(
-            self.field,
-            word,
-            &self.roots,
-            self.word_length - self.dimension,
-        )
+        let checks = self.word_length - self.dimension;
+        let mut symbols = [0; 255];
+        let own = &mut symbols[..self.word_length];
+        widen(word, own);
+        let mut points = [0; 255];
+        let found = &mut points[..checks];
+        widen(&self.roots[..checks], found);
+        evaluate(self.field, own, found);
+        let mut values = [0; 256];
+        narrow(found, &mut values[..checks]);
+        values
     }
 
     /// Whether a word has the code's length, and the polynomial whose coefficients are its symbols is 0 at every root.
@@ -147,69 +144,6 @@ impl CorrectingCode {
     }
 }
 
-// One symbol more for each of eight values: the value so far times its root, and the symbol.
-#[inline]
-fn add_symbol(field: ByteField, values: &mut [u8; 8], roots: &[u8; 256], first: usize, symbol: u8)
-    requires { first + 8 ≤ 256 }
-    ensures { (k : ℕ) → k < 8 → slice_index values.new k
-        ≡ bit_xor (byte_times field (slice_index values.old k) (slice_index roots.now (first + k))) symbol }
-{
-    for k in 0..8 {
-        values[k] = multiply(field, values[k], roots[first + k]) ^ symbol;
-    }
-}
-
-// The values at eight roots of the polynomial whose coefficients are the symbols, the first that of the highest power. The products
-// for one root wait for each other, and those for eight do not.
-fn values_at_eight(field: ByteField, word: &[u8], roots: &[u8; 256], first: usize) -> [u8; 8]
-    requires { first + 8 ≤ 256 }
-    ensures { (k : ℕ) → k < 8 → slice_index result k
-        ≡ code_value (byte_times field) (length word.now) (slice_index word.now) (slice_index roots.now (first + k)) }
-{
-    let mut values = [0; 8];
-    for symbol in word {
-        add_symbol(field, &mut values, roots, first, *symbol);
-    }
-    values
-}
-
-// The values at the first points, and zeros behind them.
-pub(crate) fn values_at(
-    field: ByteField,
-    word: &[u8],
-    points: &[u8; 256],
-    count: usize,
-) -> [u8; 256]
-    requires { count ≤ 256 }
-    ensures values { (m : ℕ) → m < count → slice_index result m
-        ≡ code_value (byte_times field) (length word.now) (slice_index word.now) (slice_index points.now m) }
-    ensures zeros { (m : ℕ) → count ≤ m → slice_index result m ≡ 0 }
-{
-    let mut values = [0; 256];
-    let mut found = [0; 8];
-    for m in 0..count {
-        if m % 8 == 0 {
-            found = values_at_eight(field, word, points, m);
-        }
-        values[m] = found[m % 8];
-    }
-    values
-}
-
-// base^(count - 1), base^(count - 2), .., 1.
-fn falling_powers(field: ByteField, base: u8, count: usize) -> [u8; 256]
-    requires { count ≤ 256 }
-    ensures { (i : ℕ) → i < count → slice_index result i ≡ power 1 (byte_times field) base (count - 1 - i) }
-{
-    let mut powers = [0; 256];
-    let mut next = 1;
-    for i in 0..count {
-        powers[count - 1 - i] = next;
-        next = multiply(field, next, base);
-    }
-    powers
-}
-
 // first, first base, first base^2, ..
 fn rising_powers(field: ByteField, first: u8, base: u8, count: usize) -> [u8; 256]
     requires { count ≤ 256 }
@@ -222,18 +156,4 @@ fn rising_powers(field: ByteField, first: u8, base: u8, count: usize) -> [u8; 25
         next = multiply(field, next, base);
     }
     powers
-}
-
-// Whether none of the first `count` - 1 entries is 1.
-fn has_order(powers: &[u8; 256], count: usize) -> bool
-    requires few { count ≤ 256 }
-    requires some { 0 < count }
-    ensures { IsTrue result ↔ ((i : ℕ) → i < count - 1 → slice_index powers.now i ≢ 1) }
-{
-    for i in 0..count - 1 {
-        if powers[i] == 1 {
-            return false;
-        }
-    }
-    true
 }

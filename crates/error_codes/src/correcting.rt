@@ -1,18 +1,15 @@
-// Correction of words, some symbols of which are wrong and some erased (W. W. Peterson, Encoding and error-correction
-// procedures for the Bose-Chaudhuri codes, 1960; G. D. Forney, On decoding BCH codes, 1965; J. L. Massey, Shift-register
-// synthesis and BCH decoding, 1969).
-ghost use Rattle.std.specs.Prelude.{◌≡◌, ◌↔◌, ◌+◌, ◌-◌, ◌*◌, ◌<◌, ◌≤◌, ◌||◌, ◌&&◌, ℕ, List, length, take, slice_index};
-ghost use Rattle.std.specs.Prelude.{false, not, nat_eq, IsOk, IsSomeAnd, IfOk, OnOk, OnErr};
+// Correction of words of bytes, by the decoder over any field (`field_code::correcting`), and marks of their places.
+ghost use Rattle.std.specs.Prelude.{◌≡◌, ◌+◌, ◌-◌, ◌*◌, ◌<◌, ◌≤◌, ◌&&◌, ℕ, List, length, slice_index};
+ghost use Rattle.std.specs.Prelude.{false, not, nat_eq, IsOk, IfOk, OnOk, OnErr};
 ghost use Rattle.proximity.specs.Marks.{marked_below};
 ghost use Rattle.error_codes.specs.ByteFields.{byte_times};
-ghost use Rattle.error_codes.specs.Checks.{IsSent};
-ghost use Rattle.error_codes.specs.Correcting.{HasRoots, IsMeant, code_value, is_listed};
-ghost use Rattle.error_codes.specs.Filling.{falling_point, falling_scale, is_marked};
-ghost use Rattle.error_codes.specs.Words.{is_wrong};
+ghost use Rattle.error_codes.specs.Correcting.{IsMeant, is_listed};
+ghost use Rattle.error_codes.specs.Filling.{is_marked};
 
-use crate::code::{CorrectingCode, values_at};
+use crate::code::CorrectingCode;
 use crate::error::TooManyErrors;
-use crate::shift_registers::{Register, shortest_register};
+use crate::field_code::FieldCode;
+use crate::symbols::{narrow, widen};
 
 /// What was corrected in a word.
 #[derive(Clone, Copy, Debug, PartialEq, Eq)]
@@ -74,108 +71,7 @@ pub(crate) fn count_others(marks: &[bool], left_out: &[bool], count: usize) -> u
     marked
 }
 
-// Where two words differ.
-fn differing_places(word: &[u8], other: &[u8; 256]) -> [bool; 256]
-    requires { length word.now ≤ 256 }
-    ensures within { (i : ℕ) → i < length word.now
-        → is_marked result i ≡ not (nat_eq (slice_index word.now i) (slice_index other.now i)) }
-    ensures behind { (i : ℕ) → length word.now ≤ i → is_marked result i ≡ false }
-{
-    let mut marks = [false; 256];
-    for i in 0..word.len() {
-        marks[i] = word[i] != other[i];
-    }
-    marks
-}
-
 impl CorrectingCode {
-    // The erased places, and those whose points are roots of the reverse of a register.
-    fn suspected_places(&self, erased: &[bool; 256], register: &Register) -> [bool; 256]
-        requires { register.now.size < 256 }
-        ensures { let times = byte_times self.now.field in let n = self.now.word_length in (i : ℕ) → i < n
-            → is_marked result i ≡ (is_marked erased.now i || nat_eq (code_value times (register.now.size + 1)
-            (slice_index register.now.coefficients) (falling_point times self.now.root n i)) 0) }
-    {
-        let coefficients = &register.coefficients[..register.size + 1];
-        let values = values_at(self.field, coefficients, &self.points, self.word_length);
-        let mut marks = *erased;
-        for i in 0..self.word_length {
-            let value = values[i];
-            if value == 0 {
-                marks[i] = true;
-            }
-        }
-        marks
-    }
-
-    // The only word that can be meant, where at most `most` symbols are wrong besides the erased.
-    fn candidate(&self, word: &[u8], erased: &[bool; 256], most: usize) -> Option<[u8; 256]>
-        requires long { length word.now ≡ self.now.word_length }
-        requires few { 2 * most + marked_below (is_marked erased.now) self.now.word_length
-            ≤ self.now.word_length - self.now.dimension }
-        ensures { let times = byte_times self.now.field in let n = self.now.word_length in (sent : ℕ → ℕ)
-            → IsSent 8 times (n - self.now.dimension) n most (falling_point times self.now.root n)
-            (falling_scale times self.now.root self.now.first_root n) (slice_index word.now) (is_marked erased.now) sent
-            → IsSomeAnd result (λ fixed. (i : ℕ) → i < n → slice_index fixed i ≡ sent i) }
-    {
-        let syndromes = self.syndromes(word);
-        let mut sums = syndromes;
-        let left = self.sift(&mut sums, erased, self.word_length);
-        let register = shortest_register(self.field, &sums, left);
-        let size = register.size;
-        if size > most {
-            return None;
-        }
-        let suspected = self.suspected_places(erased, &register);
-        let count = count_marks(&suspected, self.word_length);
-        let checks = self.word_length - self.dimension;
-        if count > checks {
-            return None;
-        }
-        Some(self.filled(word, &syndromes, &suspected))
-    }
-
-    // Takes another word in place of the received one, if it is a code word and differs at no more than `most` places
-    // besides the erased.
-    fn accept(
-        &self,
-        word: &mut [u8],
-        erased: &[bool; 256],
-        most: usize,
-        fixed: &[u8; 256],
-    ) -> Result<Corrected, TooManyErrors>
-        requires { length word.old ≡ self.now.word_length }
-        ensures long { length word.new ≡ length word.old }
-        ensures accepted { IsOk result ↔ (HasRoots (byte_times self.now.field) self.now.root self.now.first_root
-            (self.now.word_length - self.now.dimension) (take self.now.word_length fixed.now)
-            × (marked_below (is_wrong (λ i. i) (slice_index word.old) (is_marked erased.now) (slice_index fixed.now))
-            self.now.word_length ≤ most)) }
-        ensures whole { length (take self.now.word_length fixed.now) ≡ self.now.word_length }
-        ensures bytes { (i : ℕ) → slice_index fixed.now i < 256 }
-        ensures taken { OnOk result (word.new ≡ take self.now.word_length fixed.now) }
-        ensures kept { OnErr result (word.new ≡ word.old) }
-        ensures within { IfOk result (λ corrected. (i : ℕ) → i < self.now.word_length
-            → is_marked corrected.changed i ≡ not (nat_eq (slice_index word.old i) (slice_index word.new i))) }
-        ensures behind { IfOk result (λ corrected. (i : ℕ) → self.now.word_length ≤ i
-            → is_marked corrected.changed i ≡ false) }
-        ensures count { IfOk result (λ corrected. corrected.count
-            ≡ marked_below (is_marked corrected.changed) self.now.word_length) }
-    {
-        let changed = differing_places(word, fixed);
-        let errors = count_others(&changed, erased, self.word_length);
-        if errors > most {
-            return Err(TooManyErrors);
-        }
-        if !self.is_code_word(&fixed[..self.word_length]) {
-            return Err(TooManyErrors);
-        }
-        word.copy_from_slice(&fixed[..self.word_length]);
-        Ok(Corrected {
-            count: count_marks(&changed, self.word_length),
-            changed,
-        })
-    }
-
     /// Corrects a word of `word_length` symbols in place, some of which may be wrong at places that are not known, and
     /// those at the `erasures` may be wrong too. Where a code word differs from it at t places that are not listed, and
     /// 2 t and the number of listed places of the word are together at most the number of symbols that are not data, the
@@ -197,16 +93,27 @@ impl CorrectingCode {
         ensures count { IfOk result (λ corrected. corrected.count
             ≡ marked_below (is_marked corrected.changed) self.now.word_length) }
     {
-        let erased = listed_places(erasures);
-        let count = count_marks(&erased, self.word_length);
-        let checks = self.word_length - self.dimension;
-        if count > checks {
-            return Err(TooManyErrors);
-        }
-        let most = (checks - count) / 2;
-        match self.candidate(word, &erased, most) {
-            Some(fixed) => self.accept(word, &erased, most, &fixed),
-            None => Err(TooManyErrors),
-        }
+        let mut symbols = [0; 255];
+        let mut room = [0; 1783];
+        let mut erased = [false; 255];
+        let mut changed = [false; 256];
+        let own = &mut symbols[..self.word_length];
+        widen(word, own);
+        let code = FieldCode {
+            field: self.field,
+            word_length: self.word_length,
+            dimension: self.dimension,
+            root: self.root as u16,
+            first_root: self.first_root,
+        };
+        let count = code.correct(
+            own,
+            erasures,
+            &mut room[..code.room()],
+            &mut erased[..self.word_length],
+            &mut changed[..self.word_length],
+        )?;
+        narrow(own, word);
+        Ok(Corrected { count, changed })
     }
 }

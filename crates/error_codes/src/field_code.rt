@@ -10,9 +10,11 @@ ghost use Rattle.error_codes.specs.declared.error.CodeError.TheVariants.{NoSymbo
 mod correcting;
 mod encoding;
 mod filling;
-mod registers;
+pub(crate) mod registers;
+pub(crate) mod values;
 
 use crate::error::CodeError;
+use crate::field_code::values::evaluate;
 use crate::symbols::SymbolField;
 use std::alloc::AllocError;
 
@@ -127,9 +129,19 @@ impl<F: SymbolField> FieldCode<F> {
             → slice_index values.new m ≡ code_value (F.product self.now.field) (length word.now) (slice_index word.now)
             (power 1 (F.product self.now.field) self.now.root (self.now.first_root + m)) }
     {
+        self.write_roots(values);
+        evaluate(self.field, word, values);
+    }
+
+    // Writes the roots, as many as there is room for.
+    fn write_roots(&self, roots: &mut [u16])
+        ensures long { length roots.new ≡ length roots.old }
+        ensures roots { (m : ℕ) → m < length roots.old
+            → slice_index roots.new m ≡ power 1 (F.product self.now.field) self.now.root (self.now.first_root + m) }
+    {
         let mut x = power_of(self.field, self.root, self.first_root);
-        for m in 0..values.len() {
-            values[m] = value_at(self.field, word, x);
+        for m in 0..roots.len() {
+            roots[m] = x;
             x = self.field.multiply(x, self.root);
         }
     }
@@ -174,7 +186,7 @@ fn is_root<F: SymbolField>(field: F, root: u16, count: usize) -> bool
 }
 
 // Whether no power with an exponent from 1 to `count` - 1 is 1.
-fn has_order<F: SymbolField>(field: F, root: u16, count: usize) -> bool
+pub(crate) fn has_order<F: SymbolField>(field: F, root: u16, count: usize) -> bool
     requires { 0 < count }
     ensures { IsTrue result ↔ HasOrder (F.product field) root count }
 {
@@ -207,7 +219,7 @@ pub(crate) fn power_of<F: SymbolField>(field: F, a: u16, exponent: usize) -> u16
 
 // The value at x of the polynomial whose coefficients are the symbols, the first that of the highest power. A symbol is read by the bits of
 // the field, so that the last product reduces what is left of the last symbol.
-pub(crate) fn value_at<F: SymbolField>(field: F, word: &[u16], x: u16) -> u16
+fn value_at<F: SymbolField>(field: F, word: &[u16], x: u16) -> u16
     ensures { result ≡ code_value (F.product field) (length word.now) (slice_index word.now) x }
 {
     let mut value = 0;

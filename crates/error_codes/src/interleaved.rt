@@ -1,12 +1,11 @@
 // Many words at once, as the columns of a matrix: interleaved words of telemetry (CCSDS 131.0-B, section 4), or packets of one
 // size, each of which has a symbol of every word. Where there are many, the products at a root are those of a row by one scalar.
-ghost use Rattle.std.specs.Prelude.{◌≡◌, ◌≢◌, ◌↔◌, ◌+◌, ◌-◌, ◌*◌, ◌<◌, ◌≤◌, ℕ, IsTrue, bit_xor, length, slice_index};
+ghost use Rattle.std.specs.Prelude.{◌≡◌, ◌≢◌, ◌↔◌, ◌+◌, ◌-◌, ◌*◌, ◌<◌, ◌≤◌, ℕ, IsTrue, bit_xor, length, nat_eq, slice_index};
 ghost use Rattle.field_base.specs.LinearMaps.{linear_image};
 ghost use Rattle.field_base.specs.Powers.{power};
 ghost use Rattle.proximity.specs.Marks.{marked_below};
 ghost use Rattle.error_codes.specs.ByteFields.{byte_times};
 ghost use Rattle.error_codes.specs.Correcting.{HasRoots, code_value, is_listed};
-ghost use Rattle.error_codes.specs.Filling.{is_marked};
 ghost use Rattle.error_codes.specs.Interleaved.{AreEncoded, AreWordValues, IsSettled, interleaved_word};
 
 use crate::byte_field::{ByteField, images_of};
@@ -243,8 +242,8 @@ impl CorrectingCode {
     }
 
     /// Corrects each of `depth` words in place as `correct` does, with the same places erased in all: symbol i of word c is
-    /// `words[i * depth + c]`, so that a row that is lost, as a packet, is one erased place. `corrected[c]` becomes whether word
-    /// c is now the only code word that it can stand for; where it is not, the word stays as it was. `values` becomes what
+    /// `words[i * depth + c]`, so that a row that is lost, as a packet, is one erased place. `corrected[c]` becomes 1 where word c
+    /// is now the only code word that it can stand for; where it is not, 0, and the word stays as it was. `values` becomes what
     /// `syndromes_interleaved` writes of the received words, and only words whose values are not all 0 take time beyond that.
     /// There have to be `word_length` times `depth` symbols, room for a value for each root and word, and a flag for each word.
     pub fn correct_interleaved(
@@ -253,7 +252,7 @@ impl CorrectingCode {
         depth: usize,
         erasures: &[usize],
         values: &mut [u8],
-        corrected: &mut [bool],
+        corrected: &mut [u8],
     )
         requires whole { length words.old ≡ self.now.word_length * depth }
         requires room { length values.old ≡ (self.now.word_length - self.now.dimension) * depth }
@@ -265,8 +264,9 @@ impl CorrectingCode {
             (self.now.word_length - self.now.dimension) depth words.old values.new }
         ensures settled { (c : ℕ) → c < depth → IsSettled (byte_times self.now.field) self.now.root self.now.first_root
             self.now.word_length (self.now.word_length - self.now.dimension)
-            (interleaved_word self.now.word_length depth words.old c) erasures.now (is_marked corrected.new c)
+            (interleaved_word self.now.word_length depth words.old c) erasures.now (nat_eq (slice_index corrected.new c) 1)
             (interleaved_word self.now.word_length depth words.new c) }
+        ensures bits { (c : ℕ) → c < depth → slice_index corrected.new c < 2 }
     {
         let checks = self.word_length - self.dimension;
         self.syndromes_interleaved(words, depth, values);
@@ -277,7 +277,7 @@ impl CorrectingCode {
             } else {
                 false
             };
-            corrected[c] = self.settle_word(words, depth, c, erasures, is_clean);
+            corrected[c] = u8::from(self.settle_word(words, depth, c, erasures, is_clean));
         }
     }
 }

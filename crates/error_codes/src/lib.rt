@@ -11,7 +11,6 @@ mod dual_basis;
 mod encoder;
 mod error;
 mod field_code;
-mod filling;
 mod interleaved;
 mod lanes;
 pub mod laws;

@@ -1,9 +1,13 @@
 // Fields of at most 65,536 elements, as codes over words of 16 bits compute in them. Bit i of a word is the coefficient of x^i.
-ghost use Rattle.std.specs.Prelude.{◌≡◌, ◌≢◌, ◌<◌, ◌≤◌, ◌^◌, ◌↔◌, ℕ, IfErr, IfOk, IsTrue};
+ghost use Rattle.std.specs.Prelude.{◌≡◌, ◌≢◌, ◌<◌, ◌≤◌, ◌^◌, ◌↔◌, ℕ, IfErr, IfOk, IsTrue, length};
 ghost use Rattle.field_base.specs.Field.{IsField};
 ghost use Rattle.any_field.specs.Contexts.{field_product};
 ghost use Rattle.any_field.proofs.ContextFields.{field-at};
+ghost use Rattle.error_codes.specs.ByteFields.{byte_times};
+ghost use Rattle.error_codes.specs.FieldCodes.{AreSymbols};
+ghost use Rattle.error_codes.specs.ByteFieldLemmas.{bytes-narrow, bytes-wide, bytes_are_fields};
 
+use crate::byte_field::{self, ByteField};
 use crate::error::CodeError;
 use any_field::BinaryExtension;
 
@@ -76,4 +80,50 @@ impl SymbolField for WordField {
         words.field.irreducible };
 
     ghost narrow_law = { λ words. words.narrow };
+}
+
+/// Bytes, as the low halves of words.
+impl SymbolField for ByteField {
+    ghost width = { λ _. 8 };
+
+    ghost product = { byte_times };
+
+    fn is_element(self, x: u16) -> bool {
+        x < 256
+    }
+
+    fn multiply(self, x: u16, y: u16) -> u16 {
+        byte_field::multiply(self, (x % 256) as u8, (y % 256) as u8) as u16
+    }
+
+    fn invert(self, x: u16) -> u16 {
+        byte_field::invert(self, (x % 256) as u8) as u16
+    }
+
+    ghost wide_law = { bytes-wide };
+
+    ghost field_law = { bytes_are_fields };
+
+    ghost narrow_law = { bytes-narrow };
+}
+
+// Writes bytes as words.
+pub(crate) fn widen(bytes: &[u8], words: &mut [u16])
+    requires { length words.old ≡ length bytes.now }
+    ensures { words.new ≡ bytes.now }
+{
+    for i in 0..bytes.len() {
+        words[i] = bytes[i] as u16;
+    }
+}
+
+// Writes words that are bytes.
+pub(crate) fn narrow(words: &[u16], bytes: &mut [u8])
+    requires long { length bytes.old ≡ length words.now }
+    requires bytes { AreSymbols 8 (length words.now) words.now }
+    ensures { bytes.new ≡ words.now }
+{
+    for i in 0..words.len() {
+        bytes[i] = words[i] as u8;
+    }
 }

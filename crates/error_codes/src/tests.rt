@@ -146,7 +146,7 @@ fn a_word_is_sent_in_the_dual_basis(rt: HostRuntime) -> Result<(), Fail> {
 fn corrects_side_by_side(code: &CorrectingCode, depth: usize) -> bool {
     let mut sent = [0; 858];
     let mut values = [7; 330];
-    let mut corrected = [false; 33];
+    let mut corrected = [7; 33];
     if depth < 3 || depth > 33 || code.word_length() != 26 || code.dimension() != 16 {
         return false;
     }
@@ -174,7 +174,7 @@ fn corrects_side_by_side(code: &CorrectingCode, depth: usize) -> bool {
     );
     for i in 0..26 * depth {
         let wanted = if i % depth == 2 { before[i] } else { sent[i] };
-        if received[i] != wanted || corrected[i % depth] == (i % depth == 2) {
+        if received[i] != wanted || corrected[i % depth] != u8::from(i % depth != 2) {
             return false;
         }
     }

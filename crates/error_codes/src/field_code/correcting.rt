@@ -1,6 +1,9 @@
-// Correction of words over any field, by the steps of the module `correcting` in memory that is made once.
+// Correction of words over any field, some symbols of which are wrong and some erased (W. W. Peterson, Encoding and error-correction
+// procedures for the Bose-Chaudhuri codes, 1960; G. D. Forney, On decoding BCH codes, 1965; J. L. Massey, Shift-register synthesis and BCH
+// decoding, 1969).
 ghost use Rattle.std.specs.Prelude.{◌≡◌, ◌↔◌, ◌+◌, ◌-◌, ◌*◌, ◌<◌, ◌≤◌, ◌||◌, ◌&&◌, ℕ, List, length, slice_index};
 ghost use Rattle.std.specs.Prelude.{false, not, nat_eq, IsOk, IsTrue, IfOk, OnOk, OnErr};
+ghost use Rattle.field_base.specs.Powers.{power};
 ghost use Rattle.proximity.specs.Marks.{marked_below};
 ghost use Rattle.error_codes.specs.Checks.{IsSent};
 ghost use Rattle.error_codes.specs.Correcting.{HasRoots, IsMeantIn, code_value, is_listed};
@@ -10,8 +13,9 @@ ghost use Rattle.error_codes.specs.Words.{is_wrong};
 
 use crate::correcting::{count_marks, count_others, mark_listed};
 use crate::error::TooManyErrors;
+use crate::field_code::FieldCode;
 use crate::field_code::registers::write_register;
-use crate::field_code::{FieldCode, value_at};
+use crate::field_code::values::evaluate;
 use crate::symbols::SymbolField;
 
 // Marks where two words differ.
@@ -27,20 +31,35 @@ fn mark_differing(word: &[u16], other: &[u16], marks: &mut [bool])
     }
 }
 
+// Whether all values are 0.
+fn are_zeros(values: &[u16]) -> bool
+    ensures { IsTrue result ↔ ((m : ℕ) → m < length values.now → slice_index values.now m ≡ 0) }
+{
+    for value in values {
+        if *value != 0 {
+            return false;
+        }
+    }
+    true
+}
+
 impl<F: SymbolField> FieldCode<F> {
     // Marks besides the places that are marked those whose points are roots of the reverse of a register, which is given by its coefficients.
-    fn suspect(&self, points: &[u16], register: &[u16], marks: &mut [bool])
+    fn suspect(&self, points: &[u16], register: &[u16], values: &mut [u16], marks: &mut [bool])
         requires points { AreFallingPoints (F.product self.now.field) self.now.root self.now.word_length points.now }
         requires whole { length points.now ≡ self.now.word_length }
+        requires values { length values.old ≡ self.now.word_length }
         requires room { length marks.old ≡ self.now.word_length }
+        ensures values { length values.new ≡ length values.old }
         ensures long { length marks.new ≡ length marks.old }
         ensures marks { let times = F.product self.now.field in let n = self.now.word_length in (i : ℕ) → i < n
             → is_marked marks.new i ≡ (is_marked marks.old i || nat_eq (code_value times (length register.now)
             (slice_index register.now) (falling_point times self.now.root n i)) 0) }
     {
+        values.copy_from_slice(points);
+        evaluate(self.field, register, values);
         for i in 0..self.word_length {
-            let value = value_at(self.field, register, points[i]);
-            if value == 0 {
+            if values[i] == 0 {
                 marks[i] = true;
             }
         }
@@ -75,6 +94,10 @@ impl<F: SymbolField> FieldCode<F> {
         requires symbols { length symbols.old ≡ self.now.word_length }
         requires few { 2 * most + marked_below (is_marked erased.now) self.now.word_length
             ≤ self.now.word_length - self.now.dimension }
+        ensures given { length syndromes.new ≡ length syndromes.old }
+        ensures values { (m : ℕ) → m < self.now.word_length - self.now.dimension
+            → slice_index syndromes.new m ≡ code_value (F.product self.now.field) self.now.word_length (slice_index word.now)
+            (power 1 (F.product self.now.field) self.now.root (self.now.first_root + m)) }
         ensures marks { length suspected.new ≡ length suspected.old }
         ensures room { length symbols.new ≡ length symbols.old }
         ensures found { let times = F.product self.now.field in let n = self.now.word_length in (sent : ℕ → ℕ)
@@ -90,7 +113,7 @@ impl<F: SymbolField> FieldCode<F> {
             return false;
         }
         suspected.copy_from_slice(erased);
-        self.suspect(points, &coefficients[..size + 1], suspected);
+        self.suspect(points, &coefficients[..size + 1], symbols, suspected);
         let count = count_marks(suspected, self.word_length);
         if count > self.word_length - self.dimension {
             return false;
@@ -100,18 +123,26 @@ impl<F: SymbolField> FieldCode<F> {
     }
 
     // Takes another word in place of the received one, if it is a code word and differs at no more than `most` places besides the erased. The
-    // places where they differ are marked, and it is returned how many they are.
+    // places where they differ are marked, and it is returned how many they are. The values of the received word are given.
     fn accept(
         &self,
+        points: &[u16],
         word: &mut [u16],
         erased: &[bool],
         most: usize,
         fixed: &[u16],
+        values: &mut [u16],
         changed: &mut [bool],
     ) -> Result<usize, TooManyErrors>
+        requires points { AreFallingPoints (F.product self.now.field) self.now.root self.now.word_length points.now }
+        requires whole_points { length points.now ≡ self.now.word_length }
+        requires given { (m : ℕ) → m < self.now.word_length - self.now.dimension
+            → slice_index values.old m ≡ code_value (F.product self.now.field) self.now.word_length (slice_index word.old)
+            (power 1 (F.product self.now.field) self.now.root (self.now.first_root + m)) }
         requires long { length word.old ≡ self.now.word_length }
         requires whole { length fixed.now ≡ self.now.word_length }
         requires erased { length erased.now ≡ self.now.word_length }
+        requires values { length values.old ≡ self.now.word_length - self.now.dimension }
         requires room { length changed.old ≡ self.now.word_length }
         ensures long { length word.new ≡ length word.old }
         ensures room { length changed.new ≡ length changed.old }
@@ -131,7 +162,11 @@ impl<F: SymbolField> FieldCode<F> {
         if errors > most {
             return Err(TooManyErrors);
         }
-        if !self.is_code_word(fixed) {
+        if !self.are_elements(fixed) {
+            return Err(TooManyErrors);
+        }
+        self.turn_values(points, word, fixed, values);
+        if !are_zeros(values) {
             return Err(TooManyErrors);
         }
         word.copy_from_slice(fixed);
@@ -199,7 +234,7 @@ impl<F: SymbolField> FieldCode<F> {
         ) {
             return Err(TooManyErrors);
         }
-        self.accept(word, erased, most, symbols, changed)
+        self.accept(points, word, erased, most, symbols, syndromes, changed)
     }
 
     /// How many numbers `correct` needs room for: two for each symbol of a word, five for each root, and three.
@@ -230,6 +265,7 @@ impl<F: SymbolField> FieldCode<F> {
         requires erased { length erased.old ≡ self.now.word_length }
         requires changed { length changed.old ≡ self.now.word_length }
         ensures long { length word.new ≡ length word.old }
+        ensures flags { length changed.new ≡ length changed.old }
         ensures found { (sent : List ℕ) → IsMeantIn (F.width self.now.field) (F.product self.now.field) self.now.root self.now.first_root
             self.now.word_length (self.now.word_length - self.now.dimension) word.old erasures.now sent
             → IsOk result × (word.new ≡ sent) }

@@ -1,4 +1,6 @@
-// Symbols at marked places, no more than there are checks, so that all syndromes are 0, by the steps of the module `filling` over any field.
+// Symbols at marked places, no more than there are checks, so that all syndromes are 0 where symbols do that. They come from the syndromes
+// alone (G. D. Forney, On decoding BCH codes, 1965): the sum of the coefficients of a polynomial times the syndromes is the sum of its values
+// times the scaled symbols, so a polynomial that is 0 at all marked places but one leaves the difference there.
 ghost use Rattle.std.specs.Prelude.{◌≡◌, ◌+◌, ◌-◌, ◌<◌, ◌≤◌, ◌^◌, ℕ, length, slice_index, true, false, bit_xor};
 ghost use Rattle.field_base.specs.Basis.{sum_below};
 ghost use Rattle.field_base.specs.Powers.{power};

@@ -1,4 +1,5 @@
-// The shortest shift register of a sequence of elements of any field, by the algorithm of `shift_registers`, in memory of the caller.
+// The shortest shift register of a sequence of elements of any field (E. R. Berlekamp, Algebraic coding theory, 1968; J. L. Massey,
+// Shift-register synthesis and BCH decoding, 1969), in memory of the caller.
 ghost use Rattle.std.specs.Prelude.{◌≡◌, ◌≢◌, ◌+◌, ◌-◌, ◌<◌, ◌≤◌, ◌^◌, ℕ, length, slice_index, bit_xor};
 ghost use Rattle.error_codes.specs.FieldCodes.{AreSymbols};
 ghost use Rattle.error_codes.specs.Registers.{IsShortest, register_sum};
@@ -79,6 +80,7 @@ pub(crate) fn write_register<F: SymbolField>(
     ensures long { length coefficients.new ≡ length coefficients.old }
     ensures long_older { length older.new ≡ length older.old }
     ensures long_spare { length spare.new ≡ length spare.old }
+    ensures fits { (i : ℕ) → slice_index coefficients.new i < 2 ^ F.width field }
     ensures shortest { IsShortest (F.product field) (slice_index entries.now) result count (slice_index coefficients.new) }
 {
     clear_from(coefficients, 0);

@@ -10,4 +10,4 @@ returns-clause-settled c =
     words-settled (byte_times code.field) code.root code.first_root n (n - code.dimension) c.args.erasures.now
     (take c.list_places-count.result c.list_places-count.new.places) c.list_places-count.ensures.listed c.args.depth c.args.words.now
     c.correct_interleaved.new.words c.correct_interleaved.new.corrected c.correct_interleaved.ensures.long
-    (c.correct_interleaved.ensures.flags ∙ c.requires.answers) c.correct_interleaved.ensures.settled
+    (c.correct_interleaved.ensures.flags ∙ c.requires.answers) c.correct_interleaved.ensures.bits c.correct_interleaved.ensures.settled

@@ -1,6 +1,6 @@
-use Rattle.std.proofs.Common.{◌≡◌, ◌-◌, length}
+use Rattle.std.proofs.Common.{◌≡◌, ◌-◌, ◌<◌, ℕ, length, slice_index}
+use Rattle.std.specs.Prelude.{nat_eq}
 use Rattle.error_codes.specs.ByteFields.{byte_times}
-use Rattle.error_codes.specs.Filling.{is_marked}
 use Rattle.error_codes.specs.Interleaved.{IsSettled}
 use Rattle.error_codes.proofs.WordColumns.{ColumnsChanged}
 use Rattle.error_codes.proofs.code.CorrectingCode.correct_interleaved.Given as goal
@@ -12,5 +12,6 @@ invariant-loop-c l =
     (length l.corrected ≡ l.depth)
     × ColumnsChanged code.word_length l.depth
     (λ c old new. IsSettled (byte_times code.field) code.root code.first_root code.word_length (code.word_length - code.dimension)
-    old l.erasures (is_marked l.corrected c) new)
+    old l.erasures (nat_eq (slice_index l.corrected c) 1) new)
     l.initial.words l.words l.c
+    × ((c : ℕ) → c < l.c → slice_index l.corrected c < 2)

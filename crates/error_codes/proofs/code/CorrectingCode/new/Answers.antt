@@ -1,9 +1,9 @@
-use Rattle.std.proofs.Common.{◌≡◌, ◌≢◌, ℕ, ◌-◌, slice_index, refl, sym, ◌∙◌, ap, subst, arith, lit<}
+use Rattle.std.proofs.Common.{◌≡◌, ◌≢◌, ℕ, slice_index, refl, sym, ◌∙◌, ap, subst, arith, lit<}
 use Rattle.field_base.specs.Powers.{power}
 use Rattle.error_codes.specs.ByteFields.{byte_generator, byte_times}
 use Rattle.error_codes.specs.Correcting.{HasOrder}
-use Rattle.error_codes.proofs.ByteTables.{bytes_are_fields, generator-fits, generator-nonzero}
-use Rattle.error_codes.proofs.CodeValues.{order-of-row, order-scaled, root-power}
+use Rattle.error_codes.specs.ByteFieldLemmas.{bytes_are_fields, generator-fits, generator-nonzero}
+use Rattle.error_codes.proofs.CodeValues.{order-scaled, root-power}
 use Rattle.error_codes.proofs.Generators.{power-nonzero}
 use Rattle.error_codes.proofs.code.CorrectingCode.new.Goals as goal
 
@@ -23,13 +23,7 @@ invariant_of-result c =
           (subst (λ (r : ℕ). r ≢ 0) root_is
           (power-nonzero 8 times (lit< tt) field (byte_generator c.args.field) (generator-fits c.args.field)
           (generator-nonzero c.args.field) c.args.root_step))
-          (order-of-row 8 times (lit< tt) field c.args.word_length root (slice_index c.falling_powers-points.result)
-          c.falling_powers-points.ensures
-          (c.has_order.ensures.0 c.if-not-has_order.false));
-      points_are = c.falling_powers-points.ensures;
-      scales_are = λ i below.
-          c.falling_powers-scales.ensures i below
-          ∙ ap (λ (f : ℕ). power 1 times f (c.args.word_length - 1 - i)) c.power_of-first.ensures;
+          (c.has_order.ensures.0 c.if-not-has_order.false);
       roots_are = λ m below.
           root-power 8 times (lit< tt) field root c.args.first_root m c.power_of-first.result
           (slice_index c.rising_powers-roots.result m) c.power_of-first.ensures (c.rising_powers-roots.ensures m below);
@@ -49,9 +43,7 @@ returns-clause-accepted c =
         omega arith,
         omega arith,
         subst (λ (r : ℕ). HasOrder times r c.args.word_length) (sym root_is)
-            (order-of-row 8 times (lit< tt) field c.args.word_length root (slice_index c.falling_powers-points.result)
-            c.falling_powers-points.ensures
-            (c.has_order.ensures.0 c.if-not-has_order.false)),
+            (c.has_order.ensures.0 c.if-not-has_order.false),
       ),
       λ holds. refl,
     )

@@ -1,6 +1,7 @@
 use Rattle.std.proofs.Common.{◌<◌, ◌+◌, ◌-◌, ◌^◌, ℕ, Bool, List, slice_index, refl, sym, ◌∙◌, ap, ap₂, subst, arith}
 use Rattle.std.specs.Prelude.{nat_eq, ◌||◌}
 use Rattle.field_base.specs.Powers.{power}
+use Rattle.error_codes.specs.Correcting.{code_value}
 use Rattle.error_codes.specs.Filling.{falling_point, falling_scale, is_marked, is_other, marked_product}
 use Rattle.error_codes.proofs.Candidates.{all-marked, register-fits, suspected-fit, trusted-right}
 use Rattle.error_codes.proofs.CodeValues.{falling-scaled, syndrome-read}
@@ -125,3 +126,24 @@ returns-clause-found g c = λ sent is_sent.
           c.write_register-size.ensures.shortest sent is_sent
           c.suspect.new.marks are),
     )
+
+pub returns-then-size-most-clause-values : goal.returns-then-size-most-clause-values
+returns-then-size-most-clause-values g c = λ m below.
+    let code = c.args.self.now in
+    let times = g.F.SymbolField.product code.field in
+    c.syndromes.ensures.values m below
+    ∙ ap (λ (k : ℕ). code_value times k (slice_index c.args.word.now) (power 1 times code.root (code.first_root + m))) c.requires.long
+
+pub returns-then-count-self-clause-values : goal.returns-then-count-self-clause-values
+returns-then-count-self-clause-values g c = λ m below.
+    let code = c.args.self.now in
+    let times = g.F.SymbolField.product code.field in
+    c.syndromes.ensures.values m below
+    ∙ ap (λ (k : ℕ). code_value times k (slice_index c.args.word.now) (power 1 times code.root (code.first_root + m))) c.requires.long
+
+pub returns-clause-values : goal.returns-clause-values
+returns-clause-values g c = λ m below.
+    let code = c.args.self.now in
+    let times = g.F.SymbolField.product code.field in
+    c.syndromes.ensures.values m below
+    ∙ ap (λ (k : ℕ). code_value times k (slice_index c.args.word.now) (power 1 times code.root (code.first_root + m))) c.requires.long

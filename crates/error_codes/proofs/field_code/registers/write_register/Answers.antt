@@ -1,8 +1,9 @@
 use Rattle.std.proofs.Common.{◌≡◌, ◌≢◌, suc, ◌<◌, ◌+◌, ◌-◌, ◌^◌, ℕ, List, length, slice_index, set, sym, ◌∙◌, ap, subst, arith}
+use Rattle.std.specs.Prelude.{bit_xor}
 use Rattle.std.proofs.lemmas.List.{get_or-set_other, get_or-set_same, get_or_past, length-set}
 use Rattle.field_base.specs.Field.{IsField}
 use Rattle.error_codes.specs.Registers.{IsShortest}
-use Rattle.error_codes.proofs.FieldRegisters.{sum-cancels}
+use Rattle.error_codes.proofs.FieldRegisters.{added-fits, sum-cancels, unit-fits}
 use Rattle.error_codes.proofs.MasseySteps.{IsBetweenEntries, between-as, massey-grows, massey-keeps, massey-starts, massey-stays}
 use Rattle.error_codes.proofs.MasseySteps.{zeros-shortest}
 use Rattle.error_codes.proofs.field_code.registers.write_register.Goals as goal
@@ -34,6 +35,8 @@ loop-l-init g c =
       long,
       ap length c.copy_from_slice.ensures.after ∙ long,
       c.requires.spare,
+      unit-fits width times wide field entry cleared (omega (arith, c.clear_from.ensures.long, c.requires.room))
+          (λ i. c.clear_from.ensures.cleared i (omega arith)),
     )
 
 pub loop-l-preserved : goal.loop-l-preserved
@@ -56,6 +59,8 @@ loop-l-preserved g c =
         ap length (w.older-is ∙ w.copy_from_slice-then-l-size.ensures.after ∙ w.copy_from_slice-then-sum-ne0.ensures.after)
             ∙ c.loop-l.invariant.1,
         ap length (w.spare-is ∙ w.copy_from_slice-then-sum-ne0.ensures.after) ∙ c.loop-l.invariant.1,
+        fit_on w.coefficients-is (added (l - c.loop-l.failed) w.multiply-factor.result w.add_shifted.new.coefficients
+            w.add_shifted.ensures.long w.add_shifted.ensures.before w.add_shifted.ensures.behind),
       )
       | then-sum-ne0+else-l-size w ↦ (
         between-as times entry (l + 1) L _ c.loop-l.failed _ c.loop-l.failure _ w.add_shifted.new.coefficients _
@@ -72,6 +77,8 @@ loop-l-preserved g c =
         ap length w.coefficients-is ∙ w.add_shifted.ensures.long ∙ c.loop-l.invariant.1,
         ap length w.older-is ∙ c.loop-l.invariant.2,
         ap length (w.spare-is ∙ w.copy_from_slice-then-sum-ne0.ensures.after) ∙ c.loop-l.invariant.1,
+        fit_on w.coefficients-is (added (l - c.loop-l.failed) w.multiply-factor.result w.add_shifted.new.coefficients
+            w.add_shifted.ensures.long w.add_shifted.ensures.before w.add_shifted.ensures.behind),
       )
       | else-sum-ne0 w ↦ (
         between-as times entry (l + 1) L _ c.loop-l.failed _ c.loop-l.failure _ c.loop-l.coefficients _ c.loop-l.older _
@@ -81,6 +88,7 @@ loop-l-preserved g c =
         ap length w.coefficients-is ∙ c.loop-l.invariant.1,
         ap length w.older-is ∙ c.loop-l.invariant.2,
         ap length w.spare-is ∙ c.loop-l.invariant.3,
+        fit_on w.coefficients-is c.loop-l.invariant.4,
       )
     ]
   where
@@ -114,6 +122,18 @@ loop-l-preserved g c =
     fits : suc c.loop-l.l < length c.loop-l.coefficients
     fits = omega (arith, c.loop-l.invariant.1, c.loop-l-test.true, c.requires.room)
 
+    fit_on : {new old : List ℕ} → new ≡ old → ((i : ℕ) → slice_index old i < 2 ^ width) → (i : ℕ) → slice_index new i < 2 ^ width
+    fit_on is fits i = subst (λ (row : List ℕ). slice_index row i < 2 ^ width) (sym is) (fits i)
+
+    added : (shift factor : ℕ) (new : List ℕ) → length new ≡ length c.loop-l.coefficients
+        → ((i : ℕ) → i < shift → slice_index new i ≡ slice_index c.loop-l.coefficients i)
+        → ((i : ℕ) → shift + i < length c.loop-l.coefficients
+        → slice_index new (shift + i) ≡ bit_xor (slice_index c.loop-l.coefficients (shift + i)) (times factor (slice_index c.loop-l.older i)))
+        → (i : ℕ) → slice_index new i < 2 ^ width
+    added shift factor new long before behind =
+        added-fits width times wide field entry shift factor (slice_index c.loop-l.older) c.loop-l.coefficients new long before behind
+        c.loop-l.invariant.4
+
     cancels : (a inverse : ℕ) → a ≡ times sum inverse
         → (c.loop-l.failure < 2 ^ width → c.loop-l.failure ≢ 0 → times c.loop-l.failure inverse ≡ 1)
         → times a c.loop-l.failure ≡ sum
@@ -131,6 +151,12 @@ returns-then-first-count-clause-shortest g c =
     (one-first cleared (omega (arith, c.clear_from.ensures.long, c.requires.room)))
     (zeros-behind cleared (λ i. c.clear_from.ensures.cleared i (omega arith)))
     (λ n below. c.first_nonzero-first.ensures.before n (omega (arith, below, c.if-first-count.true)))
+
+pub returns-then-first-count-clause-fits : goal.returns-then-first-count-clause-fits
+returns-then-first-count-clause-fits g c =
+    unit-fits (g.F.SymbolField.width c.args.field) (g.F.SymbolField.product c.args.field) (g.met.F.SymbolField.wide_law c.args.field)
+    (g.met.F.SymbolField.field_law c.args.field) (slice_index c.args.entries.now) c.clear_from.new.word
+    (omega (arith, c.clear_from.ensures.long, c.requires.room)) (λ i. c.clear_from.ensures.cleared i (omega arith))
 
 pub returns-clause-shortest : goal.returns-clause-shortest
 returns-clause-shortest g c =

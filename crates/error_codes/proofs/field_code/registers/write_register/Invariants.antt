@@ -1,4 +1,4 @@
-use Rattle.std.proofs.Common.{◌≡◌, length, slice_index}
+use Rattle.std.proofs.Common.{◌≡◌, ◌<◌, ◌^◌, ℕ, length, slice_index}
 use Rattle.error_codes.proofs.MasseySteps.{IsBetweenEntries}
 use Rattle.error_codes.proofs.field_code.registers.write_register.Given as goal
 
@@ -8,3 +8,4 @@ invariant-loop-l g l =
     (slice_index l.older) l.failure
     × (length l.coefficients ≡ length l.fn.coefficients) × (length l.older ≡ length l.fn.coefficients)
     × (length l.spare ≡ length l.fn.coefficients)
+    × ((i : ℕ) → slice_index l.coefficients i < 2 ^ g.F.SymbolField.width l.field)

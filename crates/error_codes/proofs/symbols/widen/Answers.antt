@@ -1,0 +1,16 @@
+use Rattle.std.proofs.Common.{length, slice_index, refl, arith}
+use Rattle.std.proofs.lemmas.List.{ext_get_or}
+use Rattle.error_codes.proofs.CodeValues.{entry-more}
+use Rattle.error_codes.proofs.symbols.widen.Goals as goal
+
+pub loop-i-init : goal.loop-i-init
+loop-i-init c = (c.requires, λ n below. absurd (omega (arith, below)))
+
+pub loop-i-preserved : goal.loop-i-preserved
+loop-i-preserved c =
+    entry-more (slice_index c.args.bytes.now) (length c.args.bytes.now) c.loop-i.i _ c.loop-i.words c.loop-i.invariant c.loop-i-test.true refl
+
+pub returns : goal.returns
+returns c =
+    ext_get_or 0 c.loop-i.words c.args.bytes.now c.loop-i.invariant.0
+    (λ n below. c.loop-i.invariant.1 n (omega (arith, below, c.loop-i.invariant.0, c.loop-i-test.false)))
