@@ -1764,6 +1764,50 @@ uint32_t bf_field_embed(const bf_field *source, const bf_field *target, const bf
     const bf_u128 *values, size_t values_length,
     bf_u128 *images, size_t images_length) BF_CHECKED BF_NONNULL(1) BF_NONNULL(2) BF_NONNULL(3);
 
+/* product: the product of left, of rows rows of inner elements, and right, of inner rows of columns elements.
+ * BF_LENGTH unless left has rows * inner elements, right inner * columns, and product rows * columns.
+ * BF_NOT_AN_ELEMENT unless each word that is read is below 2^degree. */
+uint32_t bf_field_matrix_multiply(const bf_field *field, const bf_u128 *left, size_t left_length,
+    const bf_u128 *right, size_t right_length, bf_u128 *product, size_t product_length, size_t rows, size_t inner,
+    size_t columns) BF_CHECKED BF_NONNULL(1);
+
+/* Brings a matrix of rows rows of columns elements to reduced row echelon form; rank is its rank, the first rank of
+ * the rows places of pivots become the columns of its leading entries, and the others stay. BF_LENGTH unless matrix
+ * has rows * columns elements, and pivots rows places. BF_NOT_AN_ELEMENT unless each word that is read is below
+ * 2^degree. */
+uint32_t bf_field_matrix_row_reduce(const bf_field *field, bf_u128 *matrix, size_t matrix_length, size_t rows,
+    size_t columns, size_t *pivots, size_t pivots_length, size_t *rank) BF_CHECKED BF_NONNULL(1) BF_NONNULL(8);
+
+/* rank: the rank of a matrix of rows rows of columns elements, in as much space and rows places, which may be
+ * written whatever the status. BF_LENGTH unless matrix and space have rows * columns elements, and places has rows
+ * places. BF_NOT_AN_ELEMENT unless each word that is read is below 2^degree. */
+uint32_t bf_field_matrix_rank(const bf_field *field, const bf_u128 *matrix, size_t matrix_length, size_t rows,
+    size_t columns, bf_u128 *space, size_t space_length, size_t *places, size_t places_length,
+    size_t *rank) BF_CHECKED BF_NONNULL(1) BF_NONNULL(10);
+
+/* determinant: the determinant of a matrix of size rows of size elements, in as much space, which may be written
+ * whatever the status; 1 of no rows. BF_LENGTH unless matrix and space have size * size elements. BF_NOT_AN_ELEMENT
+ * unless each word that is read is below 2^degree. */
+uint32_t bf_field_matrix_determinant(const bf_field *field, const bf_u128 *matrix, size_t matrix_length, size_t size,
+    bf_u128 *space, size_t space_length, bf_u128 *determinant) BF_CHECKED BF_NONNULL(1) BF_NONNULL(7);
+
+/* inverse: the inverse of a matrix of size rows of size elements, in space for two of these and size places, which
+ * may be written whatever the status. BF_LENGTH unless matrix and inverse have size * size elements, space 2 * size
+ * * size, and places size places. BF_NOT_AN_ELEMENT unless each word that is read is below 2^degree. BF_UNSOLVABLE
+ * unless the matrix has an inverse. */
+uint32_t bf_field_matrix_inverse(const bf_field *field, const bf_u128 *matrix, size_t matrix_length, size_t size,
+    bf_u128 *inverse, size_t inverse_length, bf_u128 *space, size_t space_length,
+    size_t *places, size_t places_length) BF_CHECKED BF_NONNULL(1);
+
+/* solution: a solution x of matrix * x = right, of rows equations in columns unknowns, in space for rows times
+ * columns + 1 elements and rows places, which may be written whatever the status; an unknown that the others leave
+ * open is 0. BF_LENGTH unless matrix has rows * columns elements, right rows, solution columns, space rows *
+ * (columns + 1), and places rows places. BF_NOT_AN_ELEMENT unless each word that is read is below 2^degree.
+ * BF_UNSOLVABLE unless there is a solution. */
+uint32_t bf_field_matrix_solve(const bf_field *field, const bf_u128 *matrix, size_t matrix_length, size_t rows,
+    size_t columns, const bf_u128 *right, size_t right_length, bf_u128 *solution, size_t solution_length,
+    bf_u128 *space, size_t space_length, size_t *places, size_t places_length) BF_CHECKED BF_NONNULL(1);
+
 /* ------------------------------------------------------------------------------------------------------------------ */
 /* Stages of additive transforms over g128, and the whole transform over g128 and levels of the tower. s_0(x) = x,
  * and s_(j+1)(x) = s_j(x)^2 + s_j(x). The basis of subspace polynomials is the products of the s_j: coefficient k is

@@ -66,7 +66,7 @@ FIELD_FUNCTIONS = [
     ("generator", [("result", "generator")], "the generator of the field's multiplicative group that the library names"),
 ]
 
-# For every field too: matrices, whose elements stand row after row.
+# For every field too, and as bf_field_NAME: matrices, whose elements stand row after row.
 MATRIX_FUNCTIONS = [
     ("matrix_multiply", [("in", "left"), ("in", "right"), ("out", "product"), ("count", "rows"), ("count", "inner"), ("count", "columns")],
      "the product of left, of rows rows of inner elements, and right, of inner rows of columns elements"),
@@ -128,6 +128,12 @@ BCH_FUNCTIONS = [
      "code from which it differs at t places beside e erased ones, with t + e / 2 at most errors. Where there is none it stays, and corrected is 65535"),
 ]
 
+
+def typed(parameters, word):
+    """The parameters of a function of a field, with the field's word."""
+    return [(*it, word)[:3] if it[0] not in ("number", "count") else (*it, "u64") for it in parameters]
+
+
 # (name, parameters, what it computes). The word of every parameter stands in it.
 OTHER_FUNCTIONS = [
     *[(f"{a.name}_to_{b.name}", [("in", "values", a.word), ("out", "images", a.word)],
@@ -172,6 +178,7 @@ OTHER_FUNCTIONS = [
         ("logarithm", [("in", "values", "u128"), ("scalar", "base", "u128"), ("out", "logarithms", "u128")],
          "the logarithm of each element to the base: the least exponent to which the power of the base is the element, found in as many steps as "
          "the greatest prime factor of the order of the base is"),
+        *[(name, typed(parameters, "u128"), text) for name, parameters, text in MATRIX_FUNCTIONS],
     ]],
     ("field_embedding", [("scalar", "source", "field"), ("scalar", "target", "field"), ("result", "root", "u128")],
      "an element of target that is a root of the modulus of source, by which field_embed takes elements of source to target"),
@@ -339,8 +346,3 @@ def sentence(text, parameters=()):
     """A text as a sentence; it keeps its first letter where it begins with the name of a parameter."""
     keeps = text.split()[0] in [it[1] for it in parameters]
     return f"{text}." if keeps else f"{text[0].upper()}{text[1:]}."
-
-
-def typed(parameters, word):
-    """The parameters of a function of a field, with the field's word."""
-    return [(*it, word)[:3] if it[0] not in ("number", "count") else (*it, "u64") for it in parameters]

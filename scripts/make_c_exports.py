@@ -204,6 +204,16 @@ matrix_inverse      InvertsMatrix {} size matrix.now (length space.old) (length 
 matrix_solve        SolvesEquations {} rows columns matrix.now right.now (length space.old) (length places.old) solution.old solution.new result
 """.splitlines()}
 
+# Those over a field that the caller chooses: what a call writes is kept where its words name no field.
+for _name, _parameters, _ in c_library.MATRIX_FUNCTIONS:
+    _written = [it[1] for it in _parameters if it[0] in ("out", "inout", "result")]
+    _clause = MATRIX_CALLS[_name].format("(chosen_field field.now)")
+    if len(_written) > 1:
+        _clause = MATRIX_CALLS[_name].replace(" {}", "Over field.now")
+    else:
+        _clause = f"OverField field.now ({_clause}) {_written[0]}.old {_written[0]}.new result"
+    OTHER_CALLS[f"field_{_name}"] = ["field_matrices", f"field_matrices::{_name.removeprefix('matrix_')}", _clause]
+
 # What each file of such functions has.
 ABOUT = {
     "binary_codes": "Calls of binary BCH codes, on words of bits that stand one after the other, a byte each.",
@@ -213,6 +223,7 @@ ABOUT = {
     "chosen": "Calls over slices of elements of a field that the caller chooses.",
     "erasure": "Calls of erasure codes by transforms, over words of 16 bits: shards of data, and those of parity, stand one after the other.",
     "field_codes": "Calls of Reed-Solomon codes that correct errors over a field that the caller chooses, on words that stand one after the other.",
+    "field_matrices": "Calls over matrices over a field that the caller chooses, row after row.",
     "linear": "Calls that map words linearly.",
     "lines": "Calls over lines of text.",
     "transforms": "Calls that transform values in the field of GHASH, and in levels of the tower.",
@@ -243,7 +254,7 @@ HOMES = {
     "c_calls.specs.Codes": ["CorrectsWords", "EncodesWords", "TellsCodeWords", "WritesSyndromes"],
     "c_calls.specs.InterleavedCodes": ["CorrectsInterleaved", "EncodesInterleaved", "WritesInterleavedSyndromes"],
     "c_calls.specs.ChosenFields": [
-        "EmbedsOver", "FindsARootOver", "OverField", "PreparesField", "TakesLogarithms", "TakesPrimitive", "TakesQuotients", "TakesTraces", "chosen_field",
+        "EmbedsOver", "FindsARootOver", "OverField", "PreparesField", "ReducesRowsOver", "TakesLogarithms", "TakesPrimitive", "TakesQuotients", "TakesTraces", "chosen_field",
     ],
     "c_calls.specs.Erasure": ["EncodesErasure", "ReconstructsErasure", "TellsSpace", "VerifiesErasure"],
     "c_calls.specs.Linear": ["MapsLinearly"],
@@ -307,9 +318,9 @@ def field_clause(contract, field, parameters, is_in_place=False):
     return " ".join([contract, named, *reads, *writes, "result"])
 
 
-def function(name, parameters, text, called, clause, more=(), inside=()):
-    """An exported function: what it computes, its signature, its contract and its call, with arguments behind its own but for those that lie
-    inside one of them."""
+def function(name, parameters, text, called, clause, more=(), inside=(), first=()):
+    """An exported function: what it computes, its signature, its contract and its call, with arguments before its own and behind them, which are
+    all but those that lie inside one of the others."""
     typed = [(kind, it, WORDS.get(word, word)) for kind, it, word in parameters]
     arguments = [f"*{it}" if kind == "scalar" and word in WORDS.values() else it for kind, it, word in typed if it not in inside]
     shown = [parameter(*it) for it in typed]
@@ -320,7 +331,7 @@ def function(name, parameters, text, called, clause, more=(), inside=()):
     contract = f"    ensures {{ {clause} }}"
     if len(contract) > CONTRACT_COLUMNS:
         contract = textwrap.fill(contract, COLUMNS, subsequent_indent=" " * 8, drop_whitespace=True)
-    passed = [*arguments, *more]
+    passed = [*first, *arguments, *more]
     body = f"    {called}({', '.join(passed)})"
     if len(body) > COLUMNS or len(", ".join(passed)) > ARGUMENT_COLUMNS:
         # Short arguments share their lines.
@@ -383,9 +394,10 @@ def field_function(field, name, parameters, text):
 def matrix_function(field, name, parameters, text, vector=NARROW):
     """A function of matrices over a field, whose rows are added in vectors of that type."""
     own = name.removesuffix("_wide")
-    called = called_over(field, f"c_calls::matrices::{own.removeprefix('matrix_')}", f", {vector}")
+    words = f"{called_over(field, 'Words', f', {vector}')}::new()"
     named = f"({field.contract})" if " " in field.contract else field.contract
-    return function(f"{field.name}_{name}", parameters, text, called, MATRIX_CALLS[own].format(named))
+    called = f"c_calls::matrices::{own.removeprefix('matrix_')}"
+    return function(f"{field.name}_{name}", parameters, text, called, MATRIX_CALLS[own].format(named), first=[words])
 
 
 def change_of_basis(name, parameters, text):
@@ -452,8 +464,9 @@ def import_of(names):
 def used(bodies):
     """The line that brings in what bodies and signatures name without a path."""
     operations = sorted({it for it in OPERATIONS.values() if re.search(rf"&{it}\b", bodies)})
-    parameters = " ".join(re.findall(r"::<([^(]+)>\(", bodies))
-    named = set(re.findall(r"(?<![:\w])[A-Z]\w+", parameters)) | set(re.findall(r"(?<![:\w])(slices|in_place)::", bodies))
+    parameters = " ".join(re.findall(r"::<([^(]+)>(?:::new)?\(", bodies))
+    named = {"Words"} if "Words::<" in bodies else set()
+    named |= set(re.findall(r"(?<![:\w])[A-Z]\w+", parameters)) | set(re.findall(r"(?<![:\w])(slices|in_place)::", bodies))
     named |= {it for it in [*WORDS.values(), *STORED.values()] if re.search(rf"\b{it}\b", bodies)}
     lines = [f"use c_calls::operations::{{{', '.join(operations)}}};"] if operations else []
     if named:

@@ -155,12 +155,17 @@ def statuses_of(name, parameters, bits):
         yield "BF_UNSOLVABLE", "so few shares are wrong"
     if bits < 8 and any(it[0] in ("in", "inout", "scalar") for it in parameters):
         yield "BF_NOT_AN_ELEMENT", f"each word that is read is below {1 << bits}"
+    yield from matrix_statuses(name)
+    if "reconstruct" in name or name == "rs_shard_factors":
+        yield "BF_TOO_FEW_SHARDS", "at least as many entries of present as data are not 0"
+
+
+def matrix_statuses(name):
+    """Those by which a matrix has no inverse, and equations no solution."""
     if name.endswith("matrix_inverse"):
         yield "BF_UNSOLVABLE", "the matrix has an inverse"
     if name.endswith("matrix_solve"):
         yield "BF_UNSOLVABLE", "there is a solution"
-    if "reconstruct" in name or name == "rs_shard_factors":
-        yield "BF_TOO_FEW_SHARDS", "at least as many entries of present as data are not 0"
 
 
 def field_code_statuses(name, parameters):
@@ -186,8 +191,9 @@ def field_statuses(name, parameters):
         yield "BF_UNSOLVABLE", "root is a root of the modulus of source in target"
     if lengths := lengths_of(name, parameters):
         yield "BF_LENGTH", lengths
-    if any(it[0] == "in" for it in parameters):
+    if any(it[0] in ("in", "inout") for it in parameters):
         yield "BF_NOT_AN_ELEMENT", "each word that is read is below 2^degree"
+    yield from matrix_statuses(name)
 
 
 def comment(text):
@@ -495,7 +501,7 @@ CASES    default: return "unknown status";
 SUBJECTS = [
     ("changes of basis and linear maps", "Changes of basis, and linear maps over GF(2).", [r"_to_", r"_linear_map$"]),
     ("packed matrices over GF(2)", PACKED, [r"^bit_matrix_"]),
-    ("fields of the caller's choice", CHOSEN, [rf"^field_{it}" for it in ("init$", "(?!code_)")]),
+    ("fields of the caller's choice", CHOSEN, [rf"^field_{it}" for it in ("init$", "(?!code_|matrix_)", "matrix_")]),
     ("transforms", TRANSFORMS, [r"_butterfly_|_low_stages$", r"_transform$"]),
     ("tags", TAGS, [r"ghash|polyval", r"^tags_"]),
     # What others call comes first.

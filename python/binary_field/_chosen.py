@@ -1,7 +1,7 @@
 """Fields of 2**m elements modulo an irreducible polynomial that the caller chooses, each a class of arrays.
 
 An array has words of 8 to 128 bits by the degree; the library's functions bf_field_* read and write words of 128, to which and from
-which elements are copied. Matrices are multiplied and reduced here, row by row.
+which elements are copied.
 """
 
 from __future__ import annotations
@@ -14,7 +14,7 @@ from typing import Any, Callable, Iterable, Union
 
 import numpy as np
 
-from . import _matrices, _primitive
+from . import _primitive
 from ._arrays import FieldArray
 from ._fields import Gf2, Ghash128, Poly64, Rijndael8b
 from ._library import CHOSEN, WORDS, Words, call
@@ -200,27 +200,30 @@ def _words_of(number: int, dtype: np.dtype[Any]) -> Words:
 
 
 class _MatrixFunctions:
-    """What the library's functions of matrices over a fixed field are for a chosen one."""
+    """What the library's functions of matrices over a fixed field are for a chosen one, by its words."""
 
-    def __init__(self, field: Any) -> None:
-        self.field = field
+    def __init__(self, words: Words) -> None:
+        self.words = words
 
-    def matrix_multiply(self, left: Words, right: Words, product: Words, *_: int) -> None:
-        rows, columns, result = self.field._of(left), self.field._of(right), self.field.zeros((1, *product.shape))
-        for at in range(left.shape[1]):
-            _matrices._add_multiples(result, rows[np.newaxis, :, at], columns[np.newaxis, at])
-        product[...] = result._words[0]
+    def matrix_multiply(self, left: Words, right: Words, product: Words, *shape: int) -> None:
+        made = np.empty(product.shape, _WIDE)
+        call("field_matrix_multiply", self.words, _wide(left), _wide(right), made, *shape)
+        product[...] = _narrow(made, product.dtype)
 
     def matrix_row_reduce(self, matrix: Words, rows: int, columns: int, pivots: Words, rank: Words) -> None:
-        found, ranks, _ = _matrices.reduced(self.field._of(matrix.copy()), columns)
-        matrix[...], rank[...] = found._words, ranks
+        made = _wide(matrix)
+        call("field_matrix_row_reduce", self.words, made, rows, columns, pivots, rank)
+        matrix[...] = _narrow(made, matrix.dtype)
 
-    def matrix_inverse(self, matrix: Words, size: int, inverse: Words, *_: Words) -> None:
-        inverse[...] = _matrices._solved(self.field._of(matrix), self.field.Identity(size))._words
+    def matrix_inverse(self, matrix: Words, size: int, inverse: Words, space: Words, places: Words) -> None:
+        made = np.empty(inverse.shape, _WIDE)
+        call("field_matrix_inverse", self.words, _wide(matrix), size, made, np.empty(space.shape, _WIDE), places)
+        inverse[...] = _narrow(made, inverse.dtype)
 
     def matrix_determinant(self, matrix: Words, size: int, space: Words, determinant: Words) -> None:
-        _, rank, pivots = _matrices.reduced(self.field._of(matrix), size)
-        determinant[...] = pivots._words if rank == size else np.zeros((), determinant.dtype)
+        made = np.empty(determinant.shape, _WIDE)
+        call("field_matrix_determinant", self.words, _wide(matrix), size, np.empty(space.shape, _WIDE), made)
+        determinant[...] = _narrow(made, determinant.dtype)
 
 
 def _lent(functions: Any) -> dict[str, Callable[..., None]]:
@@ -307,7 +310,7 @@ def _made(degree: int, modulus: int, primitive: int | None) -> type[ChosenField]
         "__doc__": f"Arrays over GF(2)[x] modulo {Poly.Int(modulus)}.",
     }
     field: Any = _Chosen(name, (ChosenField,), body)
-    for own, function in (_lent(functions) | _lent(_MatrixFunctions(field))).items():
+    for own, function in (_lent(functions) | _lent(_MatrixFunctions(words))).items():
         CHOSEN[f"{name}_{own}"] = function
         CHOSEN[f"{name}_{own}_in_place"] = functools.partial(_in_place, function)
     if primitive is not None and not (0 < primitive < 1 << degree and field.is_primitive_element(primitive)):

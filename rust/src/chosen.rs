@@ -20,6 +20,14 @@ fn whole(words: [u64; 2]) -> u128 {
     u128::from(words[1]) << 64 | u128::from(words[0])
 }
 
+// A place for each row of a matrix, once it has this shape.
+fn places_for(matrix: &[[u64; 2]], rows: usize, columns: usize) -> Result<Vec<usize>, Error> {
+    if rows.checked_mul(columns) != Some(matrix.len()) {
+        return Err(Error::Length);
+    }
+    Ok(vec![0; rows])
+}
+
 /// A field modulo an irreducible polynomial. A call first tests anew that the modulus is irreducible, which takes as many squarings as its
 /// degree, so that many elements in one call cost less an element.
 #[derive(Clone, Copy, Debug, PartialEq, Eq, Hash)]
@@ -283,6 +291,130 @@ impl ChosenField {
         self.written(
             images,
             |made| call!(bf_field_embed: &raw const self.words, &raw const target.words, &raw const root, [values], [mut made]),
+        )
+    }
+}
+
+/// Matrices, whose elements stand row after row in a slice. A call fails with `Error::Length` where a slice has another length than it says.
+/// It takes the memory that it works in.
+impl ChosenField {
+    /// Writes the product of `left`, of `rows` rows of `inner` elements, and `right`, of `inner` rows of `columns` elements.
+    ///
+    /// ```
+    /// use binary_field::chosen::ChosenField;
+    ///
+    /// let (field, matrix) = (ChosenField::new(8, 0x1d)?, [1, 2, 3, 4]);
+    /// let (mut inverse, mut product) = ([0; 4], [0; 4]);
+    /// field.matrix_inverse(&matrix, 2, &mut inverse)?;
+    /// field.matrix_multiply(&matrix, &inverse, &mut product, 2, 2, 2)?;
+    /// assert_eq!(product, [1, 0, 0, 1]);
+    /// # Ok::<(), binary_field::Error>(())
+    /// ```
+    pub fn matrix_multiply(
+        &self,
+        left: &[u128],
+        right: &[u128],
+        product: &mut [u128],
+        rows: usize,
+        inner: usize,
+        columns: usize,
+    ) -> Result<(), Error> {
+        let (left, right) = (words_of(left), words_of(right));
+        self.written(
+            product,
+            |made| call!(bf_field_matrix_multiply: &raw const self.words, [left], [right], [mut made], rows, inner, columns),
+        )
+    }
+
+    /// Brings a matrix of `rows` rows of `columns` elements to reduced row echelon form, and returns its rank. The first so many places of
+    /// `pivots`, which has one for each row, become the columns of the leading entries, and the others stay.
+    ///
+    /// ```
+    /// use binary_field::chosen::ChosenField;
+    ///
+    /// let (mut matrix, mut pivots) = ([0, 2, 4, 0, 1, 2], [9; 2]);
+    /// assert_eq!(ChosenField::new(8, 0x1d)?.matrix_row_reduce(&mut matrix, 2, 3, &mut pivots)?, 1);
+    /// assert_eq!((matrix, pivots), ([0, 1, 2, 0, 0, 0], [1, 9]));
+    /// # Ok::<(), binary_field::Error>(())
+    /// ```
+    pub fn matrix_row_reduce(
+        &self,
+        matrix: &mut [u128],
+        rows: usize,
+        columns: usize,
+        pivots: &mut [usize],
+    ) -> Result<usize, Error> {
+        let (mut words, mut rank) = (words_of(matrix), 0);
+        Error::of(
+            call!(bf_field_matrix_row_reduce: &raw const self.words, [mut words], rows, columns, [mut pivots], &raw mut rank),
+        )?;
+        for (element, it) in matrix.iter_mut().zip(words) {
+            *element = whole(it);
+        }
+        Ok(rank)
+    }
+
+    /// The rank of a matrix of `rows` rows of `columns` elements.
+    pub fn matrix_rank(
+        &self,
+        matrix: &[u128],
+        rows: usize,
+        columns: usize,
+    ) -> Result<usize, Error> {
+        let (matrix, mut rank) = (words_of(matrix), 0);
+        let (mut space, mut places) = (matrix.clone(), places_for(&matrix, rows, columns)?);
+        Error::of(
+            call!(bf_field_matrix_rank: &raw const self.words, [matrix], rows, columns, [mut space], [mut places], &raw mut rank),
+        )?;
+        Ok(rank)
+    }
+
+    /// The determinant of a matrix of `size` rows of `size` elements, of no rows 1.
+    pub fn matrix_determinant(&self, matrix: &[u128], size: usize) -> Result<u128, Error> {
+        let (matrix, mut determinant) = (words_of(matrix), [0; 2]);
+        let mut space = matrix.clone();
+        Error::of(
+            call!(bf_field_matrix_determinant: &raw const self.words, [matrix], size, [mut space], &raw mut determinant),
+        )?;
+        Ok(whole(determinant))
+    }
+
+    /// Writes the inverse of a matrix of `size` rows of `size` elements, or fails with `Error::Unsolvable` where it has none.
+    pub fn matrix_inverse(
+        &self,
+        matrix: &[u128],
+        size: usize,
+        inverse: &mut [u128],
+    ) -> Result<(), Error> {
+        let matrix = words_of(matrix);
+        let (mut space, mut places) = (
+            vec![[0u64; 2]; 2 * matrix.len()],
+            places_for(&matrix, size, size)?,
+        );
+        self.written(
+            inverse,
+            |made| call!(bf_field_matrix_inverse: &raw const self.words, [matrix], size, [mut made], [mut space], [mut places]),
+        )
+    }
+
+    /// Writes an x with `matrix` x = `right`, or fails with `Error::Unsolvable` where there is none: `rows` equations, each a row of `columns`
+    /// coefficients.
+    pub fn matrix_solve(
+        &self,
+        matrix: &[u128],
+        rows: usize,
+        columns: usize,
+        right: &[u128],
+        solution: &mut [u128],
+    ) -> Result<(), Error> {
+        let (matrix, right) = (words_of(matrix), words_of(right));
+        let (mut space, mut places) = (
+            vec![[0u64; 2]; matrix.len() + right.len()],
+            vec![0usize; right.len()],
+        );
+        self.written(
+            solution,
+            |made| call!(bf_field_matrix_solve: &raw const self.words, [matrix], rows, columns, [right], [mut made], [mut space], [mut places]),
         )
     }
 }

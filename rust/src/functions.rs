@@ -2999,6 +2999,98 @@ unsafe extern "C" {
         images: *mut [u64; 2],
         images_length: usize,
     ) -> u32;
+    /// product: the product of left, of rows rows of inner elements, and right, of inner rows of columns elements.
+    /// BF_LENGTH unless left has rows * inner elements, right inner * columns, and product rows * columns.
+    /// BF_NOT_AN_ELEMENT unless each word that is read is below 2^degree.
+    pub fn bf_field_matrix_multiply(
+        field: *const [u64; 5],
+        left: *const [u64; 2],
+        left_length: usize,
+        right: *const [u64; 2],
+        right_length: usize,
+        product: *mut [u64; 2],
+        product_length: usize,
+        rows: usize,
+        inner: usize,
+        columns: usize,
+    ) -> u32;
+    /// Brings a matrix of rows rows of columns elements to reduced row echelon form; rank is its rank, the first rank
+    /// of the rows places of pivots become the columns of its leading entries, and the others stay. BF_LENGTH unless
+    /// matrix has rows * columns elements, and pivots rows places. BF_NOT_AN_ELEMENT unless each word that is read is
+    /// below 2^degree.
+    pub fn bf_field_matrix_row_reduce(
+        field: *const [u64; 5],
+        matrix: *mut [u64; 2],
+        matrix_length: usize,
+        rows: usize,
+        columns: usize,
+        pivots: *mut usize,
+        pivots_length: usize,
+        rank: *mut usize,
+    ) -> u32;
+    /// rank: the rank of a matrix of rows rows of columns elements, in as much space and rows places, which may be
+    /// written whatever the status. BF_LENGTH unless matrix and space have rows * columns elements, and places has
+    /// rows places. BF_NOT_AN_ELEMENT unless each word that is read is below 2^degree.
+    pub fn bf_field_matrix_rank(
+        field: *const [u64; 5],
+        matrix: *const [u64; 2],
+        matrix_length: usize,
+        rows: usize,
+        columns: usize,
+        space: *mut [u64; 2],
+        space_length: usize,
+        places: *mut usize,
+        places_length: usize,
+        rank: *mut usize,
+    ) -> u32;
+    /// determinant: the determinant of a matrix of size rows of size elements, in as much space, which may be written
+    /// whatever the status; 1 of no rows. BF_LENGTH unless matrix and space have size * size elements.
+    /// BF_NOT_AN_ELEMENT unless each word that is read is below 2^degree.
+    pub fn bf_field_matrix_determinant(
+        field: *const [u64; 5],
+        matrix: *const [u64; 2],
+        matrix_length: usize,
+        size: usize,
+        space: *mut [u64; 2],
+        space_length: usize,
+        determinant: *mut [u64; 2],
+    ) -> u32;
+    /// inverse: the inverse of a matrix of size rows of size elements, in space for two of these and size places,
+    /// which may be written whatever the status. BF_LENGTH unless matrix and inverse have size * size elements, space
+    /// 2 * size * size, and places size places. BF_NOT_AN_ELEMENT unless each word that is read is below 2^degree.
+    /// BF_UNSOLVABLE unless the matrix has an inverse.
+    pub fn bf_field_matrix_inverse(
+        field: *const [u64; 5],
+        matrix: *const [u64; 2],
+        matrix_length: usize,
+        size: usize,
+        inverse: *mut [u64; 2],
+        inverse_length: usize,
+        space: *mut [u64; 2],
+        space_length: usize,
+        places: *mut usize,
+        places_length: usize,
+    ) -> u32;
+    /// solution: a solution x of matrix * x = right, of rows equations in columns unknowns, in space for rows times
+    /// columns + 1 elements and rows places, which may be written whatever the status; an unknown that the others
+    /// leave open is 0. BF_LENGTH unless matrix has rows * columns elements, right rows, solution columns, space
+    /// rows * (columns + 1), and places rows places. BF_NOT_AN_ELEMENT unless each word that is read is below
+    /// 2^degree. BF_UNSOLVABLE unless there is a solution.
+    pub fn bf_field_matrix_solve(
+        field: *const [u64; 5],
+        matrix: *const [u64; 2],
+        matrix_length: usize,
+        rows: usize,
+        columns: usize,
+        right: *const [u64; 2],
+        right_length: usize,
+        solution: *mut [u64; 2],
+        solution_length: usize,
+        space: *mut [u64; 2],
+        space_length: usize,
+        places: *mut usize,
+        places_length: usize,
+    ) -> u32;
     /// low += scalar * high, and then high += low, at each place. BF_LENGTH unless low and high have one length.
     pub fn bf_g128_butterfly_forward(
         low: *mut [u64; 2],

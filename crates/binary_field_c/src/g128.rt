@@ -7,7 +7,7 @@ ghost use Rattle.c_calls.specs.Fields.{ghash_field};
 ghost use Rattle.c_calls.specs.Matrices.{InvertsMatrix, MultipliesMatrices, ReducesRows, SolvesEquations, TakesDeterminant, TakesRank};
 
 use c_calls::operations::{Power, Square, SquareRoot, Sum};
-use c_calls::{GhashKernel, Wide, in_place, slices};
+use c_calls::{GhashKernel, Wide, Words, in_place, slices};
 use std::simd::prelude::*;
 
 /// The sum of the elements at each place.
@@ -186,8 +186,14 @@ pub extern "C" fn bf_g128_matrix_multiply(
 ) -> u32
     ensures { MultipliesMatrices ghash_field rows inner columns left.now right.now product.old product.new result }
 {
-    c_calls::matrices::multiply::<u128, Wide, GhashKernel, u64x2>(
-        left, right, product, rows, inner, columns,
+    c_calls::matrices::multiply(
+        Words::<u128, Wide, GhashKernel, u64x2>::new(),
+        left,
+        right,
+        product,
+        rows,
+        inner,
+        columns,
     )
 }
 
@@ -203,8 +209,13 @@ pub extern "C" fn bf_g128_matrix_row_reduce(
 ) -> u32
     ensures { ReducesRows ghash_field rows columns matrix.old pivots.old rank.old matrix.new pivots.new rank.new result }
 {
-    c_calls::matrices::row_reduce::<u128, Wide, GhashKernel, u64x2>(
-        matrix, rows, columns, pivots, rank,
+    c_calls::matrices::row_reduce(
+        Words::<u128, Wide, GhashKernel, u64x2>::new(),
+        matrix,
+        rows,
+        columns,
+        pivots,
+        rank,
     )
 }
 
@@ -220,8 +231,14 @@ pub extern "C" fn bf_g128_matrix_rank(
 ) -> u32
     ensures { TakesRank ghash_field rows columns matrix.now (length space.old) (length places.old) rank.old rank.new result }
 {
-    c_calls::matrices::rank::<u128, Wide, GhashKernel, u64x2>(
-        matrix, rows, columns, space, places, rank,
+    c_calls::matrices::rank(
+        Words::<u128, Wide, GhashKernel, u64x2>::new(),
+        matrix,
+        rows,
+        columns,
+        space,
+        places,
+        rank,
     )
 }
 
@@ -235,7 +252,8 @@ pub extern "C" fn bf_g128_matrix_determinant(
 ) -> u32
     ensures { TakesDeterminant ghash_field size matrix.now (length space.old) determinant.old determinant.new result }
 {
-    c_calls::matrices::determinant::<u128, Wide, GhashKernel, u64x2>(
+    c_calls::matrices::determinant(
+        Words::<u128, Wide, GhashKernel, u64x2>::new(),
         matrix,
         size,
         space,
@@ -255,8 +273,13 @@ pub extern "C" fn bf_g128_matrix_inverse(
 ) -> u32
     ensures { InvertsMatrix ghash_field size matrix.now (length space.old) (length places.old) inverse.old inverse.new result }
 {
-    c_calls::matrices::inverse::<u128, Wide, GhashKernel, u64x2>(
-        matrix, size, inverse, space, places,
+    c_calls::matrices::inverse(
+        Words::<u128, Wide, GhashKernel, u64x2>::new(),
+        matrix,
+        size,
+        inverse,
+        space,
+        places,
     )
 }
 
@@ -275,7 +298,14 @@ pub extern "C" fn bf_g128_matrix_solve(
     ensures { SolvesEquations ghash_field rows columns matrix.now right.now (length space.old)
         (length places.old) solution.old solution.new result }
 {
-    c_calls::matrices::solve::<u128, Wide, GhashKernel, u64x2>(
-        matrix, rows, columns, right, solution, space, places,
+    c_calls::matrices::solve(
+        Words::<u128, Wide, GhashKernel, u64x2>::new(),
+        matrix,
+        rows,
+        columns,
+        right,
+        solution,
+        space,
+        places,
     )
 }

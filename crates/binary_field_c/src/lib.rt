@@ -10,6 +10,7 @@ mod chosen;
 mod codes;
 mod erasure;
 mod field_codes;
+mod field_matrices;
 mod g128;
 mod gf2;
 mod linear;

@@ -7,7 +7,7 @@ ghost use Rattle.c_calls.specs.Fields.{cubic_field};
 ghost use Rattle.c_calls.specs.Matrices.{InvertsMatrix, MultipliesMatrices, ReducesRows, SolvesEquations, TakesDeterminant, TakesRank};
 
 use c_calls::operations::{Power, Square, SquareRoot, Sum};
-use c_calls::{Cubic, CubicKernel, Triple, in_place, slices};
+use c_calls::{Cubic, CubicKernel, Triple, Words, in_place, slices};
 use std::simd::prelude::*;
 
 /// The sum of the elements at each place.
@@ -190,8 +190,14 @@ pub extern "C" fn bf_p192_matrix_multiply(
 ) -> u32
     ensures { MultipliesMatrices cubic_field rows inner columns left.now right.now product.old product.new result }
 {
-    c_calls::matrices::multiply::<Triple, Cubic, CubicKernel, u64x2>(
-        left, right, product, rows, inner, columns,
+    c_calls::matrices::multiply(
+        Words::<Triple, Cubic, CubicKernel, u64x2>::new(),
+        left,
+        right,
+        product,
+        rows,
+        inner,
+        columns,
     )
 }
 
@@ -207,8 +213,13 @@ pub extern "C" fn bf_p192_matrix_row_reduce(
 ) -> u32
     ensures { ReducesRows cubic_field rows columns matrix.old pivots.old rank.old matrix.new pivots.new rank.new result }
 {
-    c_calls::matrices::row_reduce::<Triple, Cubic, CubicKernel, u64x2>(
-        matrix, rows, columns, pivots, rank,
+    c_calls::matrices::row_reduce(
+        Words::<Triple, Cubic, CubicKernel, u64x2>::new(),
+        matrix,
+        rows,
+        columns,
+        pivots,
+        rank,
     )
 }
 
@@ -224,8 +235,14 @@ pub extern "C" fn bf_p192_matrix_rank(
 ) -> u32
     ensures { TakesRank cubic_field rows columns matrix.now (length space.old) (length places.old) rank.old rank.new result }
 {
-    c_calls::matrices::rank::<Triple, Cubic, CubicKernel, u64x2>(
-        matrix, rows, columns, space, places, rank,
+    c_calls::matrices::rank(
+        Words::<Triple, Cubic, CubicKernel, u64x2>::new(),
+        matrix,
+        rows,
+        columns,
+        space,
+        places,
+        rank,
     )
 }
 
@@ -239,7 +256,8 @@ pub extern "C" fn bf_p192_matrix_determinant(
 ) -> u32
     ensures { TakesDeterminant cubic_field size matrix.now (length space.old) determinant.old determinant.new result }
 {
-    c_calls::matrices::determinant::<Triple, Cubic, CubicKernel, u64x2>(
+    c_calls::matrices::determinant(
+        Words::<Triple, Cubic, CubicKernel, u64x2>::new(),
         matrix,
         size,
         space,
@@ -259,8 +277,13 @@ pub extern "C" fn bf_p192_matrix_inverse(
 ) -> u32
     ensures { InvertsMatrix cubic_field size matrix.now (length space.old) (length places.old) inverse.old inverse.new result }
 {
-    c_calls::matrices::inverse::<Triple, Cubic, CubicKernel, u64x2>(
-        matrix, size, inverse, space, places,
+    c_calls::matrices::inverse(
+        Words::<Triple, Cubic, CubicKernel, u64x2>::new(),
+        matrix,
+        size,
+        inverse,
+        space,
+        places,
     )
 }
 
@@ -279,7 +302,14 @@ pub extern "C" fn bf_p192_matrix_solve(
     ensures { SolvesEquations cubic_field rows columns matrix.now right.now (length space.old)
         (length places.old) solution.old solution.new result }
 {
-    c_calls::matrices::solve::<Triple, Cubic, CubicKernel, u64x2>(
-        matrix, rows, columns, right, solution, space, places,
+    c_calls::matrices::solve(
+        Words::<Triple, Cubic, CubicKernel, u64x2>::new(),
+        matrix,
+        rows,
+        columns,
+        right,
+        solution,
+        space,
+        places,
     )
 }

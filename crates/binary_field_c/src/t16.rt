@@ -7,7 +7,7 @@ ghost use Rattle.c_calls.specs.Fields.{level_field};
 ghost use Rattle.c_calls.specs.Matrices.{InvertsMatrix, MultipliesMatrices, ReducesRows, SolvesEquations, TakesDeterminant, TakesRank};
 
 use c_calls::operations::{Power, Square, SquareRoot, Sum};
-use c_calls::{Bits16, Tower, in_place, slices};
+use c_calls::{Bits16, Tower, Words, in_place, slices};
 use std::simd::prelude::*;
 
 /// The sum of the elements at each place.
@@ -182,8 +182,14 @@ pub extern "C" fn bf_t16_matrix_multiply(
 ) -> u32
     ensures { MultipliesMatrices (level_field 4) rows inner columns left.now right.now product.old product.new result }
 {
-    c_calls::matrices::multiply::<u16, u16, Tower<Bits16>, u64x2>(
-        left, right, product, rows, inner, columns,
+    c_calls::matrices::multiply(
+        Words::<u16, u16, Tower<Bits16>, u64x2>::new(),
+        left,
+        right,
+        product,
+        rows,
+        inner,
+        columns,
     )
 }
 
@@ -199,8 +205,13 @@ pub extern "C" fn bf_t16_matrix_row_reduce(
 ) -> u32
     ensures { ReducesRows (level_field 4) rows columns matrix.old pivots.old rank.old matrix.new pivots.new rank.new result }
 {
-    c_calls::matrices::row_reduce::<u16, u16, Tower<Bits16>, u64x2>(
-        matrix, rows, columns, pivots, rank,
+    c_calls::matrices::row_reduce(
+        Words::<u16, u16, Tower<Bits16>, u64x2>::new(),
+        matrix,
+        rows,
+        columns,
+        pivots,
+        rank,
     )
 }
 
@@ -216,8 +227,14 @@ pub extern "C" fn bf_t16_matrix_rank(
 ) -> u32
     ensures { TakesRank (level_field 4) rows columns matrix.now (length space.old) (length places.old) rank.old rank.new result }
 {
-    c_calls::matrices::rank::<u16, u16, Tower<Bits16>, u64x2>(
-        matrix, rows, columns, space, places, rank,
+    c_calls::matrices::rank(
+        Words::<u16, u16, Tower<Bits16>, u64x2>::new(),
+        matrix,
+        rows,
+        columns,
+        space,
+        places,
+        rank,
     )
 }
 
@@ -231,7 +248,8 @@ pub extern "C" fn bf_t16_matrix_determinant(
 ) -> u32
     ensures { TakesDeterminant (level_field 4) size matrix.now (length space.old) determinant.old determinant.new result }
 {
-    c_calls::matrices::determinant::<u16, u16, Tower<Bits16>, u64x2>(
+    c_calls::matrices::determinant(
+        Words::<u16, u16, Tower<Bits16>, u64x2>::new(),
         matrix,
         size,
         space,
@@ -251,8 +269,13 @@ pub extern "C" fn bf_t16_matrix_inverse(
 ) -> u32
     ensures { InvertsMatrix (level_field 4) size matrix.now (length space.old) (length places.old) inverse.old inverse.new result }
 {
-    c_calls::matrices::inverse::<u16, u16, Tower<Bits16>, u64x2>(
-        matrix, size, inverse, space, places,
+    c_calls::matrices::inverse(
+        Words::<u16, u16, Tower<Bits16>, u64x2>::new(),
+        matrix,
+        size,
+        inverse,
+        space,
+        places,
     )
 }
 
@@ -271,7 +294,14 @@ pub extern "C" fn bf_t16_matrix_solve(
     ensures { SolvesEquations (level_field 4) rows columns matrix.now right.now (length space.old)
         (length places.old) solution.old solution.new result }
 {
-    c_calls::matrices::solve::<u16, u16, Tower<Bits16>, u64x2>(
-        matrix, rows, columns, right, solution, space, places,
+    c_calls::matrices::solve(
+        Words::<u16, u16, Tower<Bits16>, u64x2>::new(),
+        matrix,
+        rows,
+        columns,
+        right,
+        solution,
+        space,
+        places,
     )
 }

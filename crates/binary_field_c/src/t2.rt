@@ -7,7 +7,7 @@ ghost use Rattle.c_calls.specs.Fields.{level_field};
 ghost use Rattle.c_calls.specs.Matrices.{InvertsMatrix, MultipliesMatrices, ReducesRows, SolvesEquations, TakesDeterminant, TakesRank};
 
 use c_calls::operations::{Power, Square, SquareRoot, Sum};
-use c_calls::{Bits2, Tower, in_place, slices};
+use c_calls::{Bits2, Tower, Words, in_place, slices};
 use std::simd::prelude::*;
 
 /// The sum of the elements at each place.
@@ -182,8 +182,14 @@ pub extern "C" fn bf_t2_matrix_multiply(
 ) -> u32
     ensures { MultipliesMatrices (level_field 1) rows inner columns left.now right.now product.old product.new result }
 {
-    c_calls::matrices::multiply::<u8, u8, Tower<Bits2>, u64x2>(
-        left, right, product, rows, inner, columns,
+    c_calls::matrices::multiply(
+        Words::<u8, u8, Tower<Bits2>, u64x2>::new(),
+        left,
+        right,
+        product,
+        rows,
+        inner,
+        columns,
     )
 }
 
@@ -199,8 +205,13 @@ pub extern "C" fn bf_t2_matrix_row_reduce(
 ) -> u32
     ensures { ReducesRows (level_field 1) rows columns matrix.old pivots.old rank.old matrix.new pivots.new rank.new result }
 {
-    c_calls::matrices::row_reduce::<u8, u8, Tower<Bits2>, u64x2>(
-        matrix, rows, columns, pivots, rank,
+    c_calls::matrices::row_reduce(
+        Words::<u8, u8, Tower<Bits2>, u64x2>::new(),
+        matrix,
+        rows,
+        columns,
+        pivots,
+        rank,
     )
 }
 
@@ -216,8 +227,14 @@ pub extern "C" fn bf_t2_matrix_rank(
 ) -> u32
     ensures { TakesRank (level_field 1) rows columns matrix.now (length space.old) (length places.old) rank.old rank.new result }
 {
-    c_calls::matrices::rank::<u8, u8, Tower<Bits2>, u64x2>(
-        matrix, rows, columns, space, places, rank,
+    c_calls::matrices::rank(
+        Words::<u8, u8, Tower<Bits2>, u64x2>::new(),
+        matrix,
+        rows,
+        columns,
+        space,
+        places,
+        rank,
     )
 }
 
@@ -231,7 +248,13 @@ pub extern "C" fn bf_t2_matrix_determinant(
 ) -> u32
     ensures { TakesDeterminant (level_field 1) size matrix.now (length space.old) determinant.old determinant.new result }
 {
-    c_calls::matrices::determinant::<u8, u8, Tower<Bits2>, u64x2>(matrix, size, space, determinant)
+    c_calls::matrices::determinant(
+        Words::<u8, u8, Tower<Bits2>, u64x2>::new(),
+        matrix,
+        size,
+        space,
+        determinant,
+    )
 }
 
 /// The inverse of a matrix of size rows of size elements, in space for two of these and size places, which may be written whatever the
@@ -246,7 +269,14 @@ pub extern "C" fn bf_t2_matrix_inverse(
 ) -> u32
     ensures { InvertsMatrix (level_field 1) size matrix.now (length space.old) (length places.old) inverse.old inverse.new result }
 {
-    c_calls::matrices::inverse::<u8, u8, Tower<Bits2>, u64x2>(matrix, size, inverse, space, places)
+    c_calls::matrices::inverse(
+        Words::<u8, u8, Tower<Bits2>, u64x2>::new(),
+        matrix,
+        size,
+        inverse,
+        space,
+        places,
+    )
 }
 
 /// A solution x of matrix * x = right, of rows equations in columns unknowns, in space for rows times columns + 1 elements and rows
@@ -264,7 +294,14 @@ pub extern "C" fn bf_t2_matrix_solve(
     ensures { SolvesEquations (level_field 1) rows columns matrix.now right.now (length space.old)
         (length places.old) solution.old solution.new result }
 {
-    c_calls::matrices::solve::<u8, u8, Tower<Bits2>, u64x2>(
-        matrix, rows, columns, right, solution, space, places,
+    c_calls::matrices::solve(
+        Words::<u8, u8, Tower<Bits2>, u64x2>::new(),
+        matrix,
+        rows,
+        columns,
+        right,
+        solution,
+        space,
+        places,
     )
 }

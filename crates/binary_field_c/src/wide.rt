@@ -13,6 +13,7 @@ ghost use Rattle.c_calls.specs.Matrices.{InvertsMatrix, MultipliesMatrices, Redu
 
 use c_calls::{
     Bits8, Bits16, Bits32, Bits64, Bits128, GhashKernel, HashState, Poly64Kernel, Tower, Wide,
+    Words,
 };
 use std::simd::prelude::*;
 
@@ -373,8 +374,14 @@ pub extern "C" fn bf_g128_matrix_multiply_wide(
 ) -> u32
     ensures { MultipliesMatrices ghash_field rows inner columns left.now right.now product.old product.new result }
 {
-    c_calls::matrices::multiply::<u128, Wide, GhashKernel, u64x4>(
-        left, right, product, rows, inner, columns,
+    c_calls::matrices::multiply(
+        Words::<u128, Wide, GhashKernel, u64x4>::new(),
+        left,
+        right,
+        product,
+        rows,
+        inner,
+        columns,
     )
 }
 
@@ -389,8 +396,13 @@ pub extern "C" fn bf_g128_matrix_row_reduce_wide(
 ) -> u32
     ensures { ReducesRows ghash_field rows columns matrix.old pivots.old rank.old matrix.new pivots.new rank.new result }
 {
-    c_calls::matrices::row_reduce::<u128, Wide, GhashKernel, u64x4>(
-        matrix, rows, columns, pivots, rank,
+    c_calls::matrices::row_reduce(
+        Words::<u128, Wide, GhashKernel, u64x4>::new(),
+        matrix,
+        rows,
+        columns,
+        pivots,
+        rank,
     )
 }
 
@@ -406,8 +418,14 @@ pub extern "C" fn bf_g128_matrix_rank_wide(
 ) -> u32
     ensures { TakesRank ghash_field rows columns matrix.now (length space.old) (length places.old) rank.old rank.new result }
 {
-    c_calls::matrices::rank::<u128, Wide, GhashKernel, u64x4>(
-        matrix, rows, columns, space, places, rank,
+    c_calls::matrices::rank(
+        Words::<u128, Wide, GhashKernel, u64x4>::new(),
+        matrix,
+        rows,
+        columns,
+        space,
+        places,
+        rank,
     )
 }
 
@@ -421,7 +439,8 @@ pub extern "C" fn bf_g128_matrix_determinant_wide(
 ) -> u32
     ensures { TakesDeterminant ghash_field size matrix.now (length space.old) determinant.old determinant.new result }
 {
-    c_calls::matrices::determinant::<u128, Wide, GhashKernel, u64x4>(
+    c_calls::matrices::determinant(
+        Words::<u128, Wide, GhashKernel, u64x4>::new(),
         matrix,
         size,
         space,
@@ -440,8 +459,13 @@ pub extern "C" fn bf_g128_matrix_inverse_wide(
 ) -> u32
     ensures { InvertsMatrix ghash_field size matrix.now (length space.old) (length places.old) inverse.old inverse.new result }
 {
-    c_calls::matrices::inverse::<u128, Wide, GhashKernel, u64x4>(
-        matrix, size, inverse, space, places,
+    c_calls::matrices::inverse(
+        Words::<u128, Wide, GhashKernel, u64x4>::new(),
+        matrix,
+        size,
+        inverse,
+        space,
+        places,
     )
 }
 
@@ -459,8 +483,15 @@ pub extern "C" fn bf_g128_matrix_solve_wide(
     ensures { SolvesEquations ghash_field rows columns matrix.now right.now (length space.old)
         (length places.old) solution.old solution.new result }
 {
-    c_calls::matrices::solve::<u128, Wide, GhashKernel, u64x4>(
-        matrix, rows, columns, right, solution, space, places,
+    c_calls::matrices::solve(
+        Words::<u128, Wide, GhashKernel, u64x4>::new(),
+        matrix,
+        rows,
+        columns,
+        right,
+        solution,
+        space,
+        places,
     )
 }
 

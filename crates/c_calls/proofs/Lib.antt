@@ -1,6 +1,7 @@
 mod BinaryCalls
 mod Calls
 mod ChosenCalls
+mod ChosenScalars
 mod LogarithmCalls
 mod CodeCalls
 mod Endings

@@ -58,30 +58,44 @@ module _ {W : Type 0} (number : W → ℕ) (width : ℕ) where
         ∙ xor_mod a (times s x) width
         ∙ ap (bit_xor (a % 2 ^ width)) (mod-eq_of_lt (ring.below s x) ∙ sym (low-factors s x))
 
-module _ {W : Type 0} (field : WordField W) where
+module _ {W : Type 0} (field : WordField W) (low : W → ℕ) (is_low : (x : W) → low x ≡ low_number field.number field.width x) where
   -- words that are elements are their low bits
-  pub low_elements : (words : List W) → AreElements field words
-      → map (low_number field.number field.width) words ≡ map field.number words
+  pub low_elements : (words : List W) → AreElements field words → map low words ≡ map field.number words
   low_elements words fits =
-      same_numbers (low_number field.number field.width) field.number words words refl (λ k below d. mod-eq_of_lt (fits k below d))
+      same_numbers low field.number words words refl (λ k below d. is_low (get_or words k d) ∙ mod-eq_of_lt (fits k below d))
 
   -- words of which only the low bits were left
   module _ (old new : List W) (long : length new ≡ length old)
-      (low : (k : ℕ) → k < length old → (d : W) → field.number (get_or new k d) ≡ low_number field.number field.width (get_or old k d)) where
+      (left : (k : ℕ) → k < length old → (d : W) → field.number (get_or new k d) ≡ low (get_or old k d)) where
     pub now_elements : AreElements field new
     now_elements k below d =
-        subst (λ (n : ℕ). n < 2 ^ field.width) (sym (low k (omega (arith, below, long)) d))
+        subst (λ (n : ℕ). n < 2 ^ field.width) (sym (left k (omega (arith, below, long)) d ∙ is_low (get_or old k d)))
         (low_number-lt field.number field.width (get_or old k d))
 
-    pub now_numbers : map field.number new ≡ map (low_number field.number field.width) old
-    now_numbers = same_numbers field.number (low_number field.number field.width) old new long low
+    pub now_numbers : map field.number new ≡ map low old
+    now_numbers = same_numbers field.number low old new long left
 
     -- and their low bits are the ones that were left
-    pub now_low : map (low_number field.number field.width) new ≡ map (low_number field.number field.width) old
-    now_low =
-        same_numbers (low_number field.number field.width) (low_number field.number field.width) old new long
-        (λ k below d. ap (λ (n : ℕ). n % 2 ^ field.width) (low k below d)
-        ∙ mod-eq_of_lt (low_number-lt field.number field.width (get_or old k d)))
+    pub now_low : map low new ≡ map low old
+    now_low = low_elements new now_elements ∙ now_numbers
+
+  -- inverses of which only the low bits were left
+  pub held_inverses : (xs mid ys : List W) → length ys ≡ length mid → AreElements field xs
+      → AreInverses field.times (map low xs) (map low mid)
+      → ((k : ℕ) → k < length mid → (d : W) → field.number (get_or ys k d) ≡ low (get_or mid k d))
+      → HoldInverses field xs ys
+  held_inverses xs mid ys long fits inverses left k below d =
+      let count = length-map xs low in
+      let counted = sym (length-map mid low) ∙ inverses.count ∙ count in
+      let inside : k < length xs = omega (arith, below, long, counted) in
+      let there : k < length mid = omega (arith, below, long) in
+      let is = left k there d in (
+        now_elements mid ys long left k below d,
+        subst (λ (n : ℕ). IsInverseOrZero field.times (field.number (get_or xs k d)) n) (get_or-map low mid k d 0 there ∙ sym is)
+            (subst (λ (n : ℕ). IsInverseOrZero field.times n (slice_index (map low mid) k))
+            (get_or-map low xs k d 0 inside ∙ is_low (get_or xs k d) ∙ mod-eq_of_lt (fits k inside d))
+            (inverses.each k (omega (arith, inside, count)))),
+      )
 
 -- a word of which only the low bits were left has them still
 pub low_again : {W : Type 0} (number : W → ℕ) (width : ℕ) (old new : W) → number new ≡ low_number number width old
@@ -161,21 +175,3 @@ module _ {W : Type 0} (field : WordField W) (ring : IsRing field.width 1 field.t
           let right = get_or-map low ys i z 0 there ∙ mod-eq_of_lt held.0 in
           subst (λ (n : ℕ). IsInverseOrZero field.times n (slice_index (map low ys) i)) (sym left)
           (subst (λ (n : ℕ). IsInverseOrZero field.times (field.number (get_or xs i z)) n) (sym right) held.1)
-
-  -- and inverses of which only the low bits were left
-  pub held_inverses : (xs mid ys : List W) → length ys ≡ length mid → AreElements field xs
-      → AreInverses field.times (map low xs) (map low mid)
-      → ((k : ℕ) → k < length mid → (d : W) → field.number (get_or ys k d) ≡ low (get_or mid k d))
-      → HoldInverses field xs ys
-  held_inverses xs mid ys long fits inverses left k below d =
-      let count = length-map xs low in
-      let counted = sym (length-map mid low) ∙ inverses.count ∙ count in
-      let inside : k < length xs = omega (arith, below, long, counted) in
-      let there : k < length mid = omega (arith, below, long) in
-      let is = left k there d in (
-        subst (λ (n : ℕ). n < 2 ^ field.width) (sym is) (low_number-lt field.number field.width (get_or mid k d)),
-        subst (λ (n : ℕ). IsInverseOrZero field.times (field.number (get_or xs k d)) n) (get_or-map low mid k d 0 there ∙ sym is)
-            (subst (λ (n : ℕ). IsInverseOrZero field.times n (slice_index (map low mid) k))
-            (get_or-map low xs k d 0 inside ∙ mod-eq_of_lt (fits k inside d))
-            (inverses.each k (omega (arith, inside, count)))),
-      )

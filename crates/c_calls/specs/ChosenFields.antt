@@ -9,7 +9,7 @@ use Rattle.many_words.specs.Fields.{WordField, field_of}
 use Rattle.many_words.specs.Words.{AreElements, Each, IsElement}
 use Rattle.c_calls.specs.Calls.{CallOnEach, CallOnTwo}
 use Rattle.c_calls.specs.Fields.{wide_number}
-use Rattle.c_calls.specs.Matrices.{CallOnEquations}
+use Rattle.c_calls.specs.Matrices.{CallOnEquations, ReducesRows}
 use Rattle.c_calls.specs.declared.field_words.ChosenField.{ChosenField}
 use Rattle.c_calls.specs.declared.status.TheConstants.{OK, REDUCIBLE, UNSOLVABLE}
 use Rattle.c_calls.specs.declared.wide.Wide.{Wide}
@@ -32,6 +32,12 @@ pub record OverField {T : Type 0} (words : ChosenField) (call : Type 0) (old new
   pub named : NamesAField words → call
   pub reducible : ¬ NamesAField words → status ≡ REDUCIBLE
   pub kept : status ≢ OK → new ≡ old
+
+-- a call that brings a matrix over it to reduced row echelon form, and writes the columns of the leading entries and the rank
+abbrev pub ReducesRowsOver : ChosenField → ℕ → ℕ → List Wide → List ℕ → ℕ → List Wide → List ℕ → ℕ → ℕ → Type 0
+ReducesRowsOver words rows columns old old_pivots old_rank new pivots rank status =
+    OverField {T = List Wide × List ℕ × ℕ} words (ReducesRows (chosen_field words) rows columns old old_pivots old_rank new pivots rank status)
+    (old, old_pivots, old_rank) (new, pivots, rank) status
 
 -- a call that writes the words of the field modulo x^degree + tail
 pub record PreparesField (degree tail : ℕ) (old new : ChosenField) (status : ℕ) : Type 0 where

@@ -1,6 +1,5 @@
 // Operations on one element and on two of a field that a caller chooses, which calls over slices apply.
 ghost use Rattle.std.specs.Prelude.{◌≡◌, ◌≢◌, ◌<◌, ◌^◌, ℕ, bit_xor};
-ghost use Rattle.field_base.specs.Field.{IsInverseOrZero};
 ghost use Rattle.field_base.specs.Powers.{power, sum_of_squarings};
 ghost use Rattle.any_field.specs.Contexts.{field_product};
 ghost use Rattle.any_field.specs.Values.{binary_value};
@@ -133,23 +132,6 @@ impl AtOne for Rooted {
 
     fn at(&self, x: u128) -> u128 {
         self.field.square_root(x)
-    }
-}
-
-/// The inverse, and 0 for 0.
-#[derive(Drop)]
-pub(crate) struct Inverted {
-    pub(crate) field: BinaryExtension,
-}
-
-impl AtOne for Inverted {
-    ghost width = { λ operation. operation.field.degree };
-
-    ghost gives = { λ operation x y. (y < 2 ^ operation.field.degree)
-        × IsInverseOrZero (field_product operation.field.degree operation.field.tail) x y };
-
-    fn at(&self, x: u128) -> u128 {
-        self.field.invert(x)
     }
 }
 

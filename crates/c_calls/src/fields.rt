@@ -1,6 +1,6 @@
 // Calls over slices of elements of a field that the caller chooses: modulo any irreducible polynomial of degree 1 to 128.
 ghost use Rattle.std.specs.Prelude.{◌≡◌, ◌≢◌, ◌^◌, ◌<◌, ◌↔◌, ℕ, IfNone, IfSome, IsTrue, length};
-ghost use Rattle.field_base.specs.Powers.{dot_of, power, value_of};
+ghost use Rattle.field_base.specs.Powers.{dot_of, power};
 ghost use Rattle.any_field.specs.Contexts.{IsFieldModulus, field_product};
 ghost use Rattle.many_words.specs.Words.{AreElements};
 ghost use Rattle.c_calls.specs.Calls.{Adds, CallOnEach, CallOnTwo, Evaluates, Inverts, Multiplies, MultipliesBy};
@@ -10,13 +10,13 @@ ghost use Rattle.c_calls.specs.ChosenFields.{HaveLogarithms, IsLogarithm, TakesL
 ghost use Rattle.c_calls.specs.ChosenFields.{chosen_field, residue_field};
 ghost use Rattle.c_calls.specs.Fields.{wide_number};
 
+use crate::chosen_words::ChosenWords;
 use crate::field_operations::{
-    AtOne, AtTwo, Embedded, Inverted, Mapped, Multiple, Quotient, Raised, Rooted, Squared,
-    Together, Traced,
+    AtOne, AtTwo, Embedded, Mapped, Multiple, Quotient, Raised, Rooted, Squared, Together, Traced,
 };
 use crate::field_words::ChosenField;
-use crate::status;
 use crate::wide::Wide;
+use crate::{status, values};
 use any_field::{BinaryExtension, Embedding};
 use field_base::{Holds, Reads};
 
@@ -64,7 +64,7 @@ pub(crate) fn field_of_words(words: ChosenField) -> Option<BinaryExtension>
 }
 
 // Whether every word is an element: the bits of all of them are tested at once.
-fn are_elements(field: BinaryExtension, words: &[Wide]) -> bool
+pub(crate) fn are_elements(field: BinaryExtension, words: &[Wide]) -> bool
     ensures { IsTrue result ↔ AreElements (residue_field field.degree field.tail) words.now }
 {
     let mut bits: u128 = 0;
@@ -280,41 +280,8 @@ pub fn evaluate(
 {
     match field_of_words(field) {
         None => status::REDUCIBLE,
-        Some(found) => write_values(found, coefficients, points, values),
+        Some(found) => values::evaluate(ChosenWords { field: found }, coefficients, points, values),
     }
-}
-
-// Writes the value at each point.
-fn write_values(
-    field: BinaryExtension,
-    coefficients: &[Wide],
-    points: &[Wide],
-    values: &mut [Wide],
-) -> u32
-    ensures { Evaluates (residue_field field.degree field.tail) coefficients.now points.now values.old values.new result }
-{
-    if points.len() != values.len() {
-        return status::LENGTH;
-    }
-    if !are_both_elements(field, coefficients, points) {
-        return status::NOT_AN_ELEMENT;
-    }
-    for place in 0..values.len() {
-        values[place] = Wide::of_stored(value_at(field, coefficients, points[place].stored()));
-    }
-    status::OK
-}
-
-// The value at a point, by Horner's rule.
-fn value_at(field: BinaryExtension, coefficients: &[Wide], point: u128) -> u128
-    requires { AreElements (residue_field field.degree field.tail) coefficients.now }
-    ensures { result ≡ value_of 1 (field_product field.degree field.tail) wide_number coefficients.now point }
-{
-    let mut value: u128 = 0;
-    for place in (0..coefficients.len()).rev() {
-        value = field.multiply(value, point) ^ coefficients[place].stored();
-    }
-    value
 }
 
 /// Writes the square of each element.
@@ -333,7 +300,7 @@ pub fn inverse(field: ChosenField, words: &[Wide], inverses: &mut [Wide]) -> u32
 {
     match field_of_words(field) {
         None => status::REDUCIBLE,
-        Some(found) => write_at_each(found, words, inverses, &Inverted { field: found }),
+        Some(found) => values::invert(ChosenWords { field: found }, words, inverses),
     }
 }
 

@@ -1,15 +1,18 @@
-//! The calls of other languages: on slices of words over any field, over words of 128 bits in the field of GHASH, the values of transforms
-//! and linear maps, messages, shards, shares of secrets and lines of text, in the module `fields` over fields that the caller chooses, in
-//! `matrices` and `bit_matrices` on matrices of words and of packed bits, and in `codes`, `interleaved_codes`, `field_codes` and
-//! `binary_codes` on words of codes that correct errors. A call compares the lengths, refuses words that are no elements, and returns a status. On every status but `OK` what it
-//! would have written is as before; what it works in is lost. None takes memory.
+//! The calls of other languages: on slices of words over any field, over words of 128 bits in the field of GHASH, the values of
+//! transforms and linear maps, messages, shards, shares of secrets and lines of text, in the module `fields` over fields that the
+//! caller chooses, in `matrices`, `field_matrices` and `bit_matrices` on matrices of words and of packed bits, and in `codes`,
+//! `interleaved_codes`, `field_codes` and `binary_codes` on words of codes that correct errors. A call compares the lengths, refuses
+//! words that are no elements, and returns a status. On every status but `OK` what it would have written is as before; what it works in
+//! is lost. None takes memory.
 #![tactic(auto)]
 
 pub mod binary_codes;
 pub mod bit_matrices;
+mod chosen_words;
 pub mod codes;
 mod erasure;
 pub mod field_codes;
+pub mod field_matrices;
 mod field_operations;
 mod field_words;
 pub mod fields;
@@ -29,9 +32,11 @@ mod shards;
 pub mod slices;
 pub mod status;
 mod transforms;
+mod values;
 mod wide;
 mod words;
 
+pub use crate::chosen_words::ChosenWords;
 pub use crate::erasure::{erasure_encode, erasure_reconstruct, erasure_space, erasure_verify};
 pub use crate::field_words::ChosenField;
 pub use crate::linear::{map_bytes, map_wide};
@@ -43,7 +48,7 @@ pub use crate::many::{
 pub use crate::messages::{
     gcm_ghash, gcm_hash_end, hash, hash_begin, hash_end, hash_pad, hash_update, tags_are_equal,
 };
-pub use crate::scalars::{Words, truncate_all, truncated};
+pub use crate::scalars::{ScalarWords, Words};
 pub use crate::secrets::{combine_shares, correct_shares, split_secret};
 pub use crate::shards::{
     add_multiple, add_shard, encode, encode_prepared, factors_of, prepare, prepare_reconstruct,

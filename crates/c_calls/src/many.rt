@@ -1,14 +1,11 @@
 // Calls over many words of a field: each compares lengths, looks at each word and returns a status, and what computes the words stands in
 // `many_words`, once for all fields.
-ghost use Rattle.std.specs.Prelude.{◌≡◌, length};
-ghost use Rattle.field_base.specs.Powers.{value_of};
 ghost use Rattle.c_calls.specs.Calls.{AddsScaled, Evaluates, Inverts, Multiplies, MultipliesBy, TakesDotProduct};
 ghost use Rattle.many_words.specs.Fields.{field_of};
-ghost use Rattle.many_words.specs.Words.{AreElements, HoldInverses, IsElement};
 
-use crate::scalars::{Words, truncate_all, truncated};
+use crate::scalars::Words;
 use crate::slices::{are_both_elements, are_elements, write_each, write_each_of_two};
-use crate::status;
+use crate::{status, values};
 use bit_slices::Vector;
 use field_base::{Holds, Stored};
 use ghash_slices::Width;
@@ -185,28 +182,7 @@ pub fn batch_invert<R: Stored, W: Holds<R>, K: Many<R, W>, V: Width + Vector>(
     if words.len() >= K::LEAST_IN_BATCH {
         return invert::<R, W, K, V>(words, inverses);
     }
-    if words.len() != inverses.len() {
-        return status::LENGTH;
-    }
-    if !are_elements::<R, W, K>(words) {
-        return status::NOT_AN_ELEMENT;
-    }
-    write_inverses::<R, W, K, V>(words, inverses);
-    status::OK
-}
-
-// The same of words that are elements.
-#[inline]
-fn write_inverses<R: Stored, W: Holds<R>, K: Many<R, W>, V: Width + Vector>(
-    words: &[W],
-    inverses: &mut [W],
-)
-    requires long { length inverses.old ≡ length words.now }
-    requires elements { AreElements (field_of W.number K.width K.product K.generator) words.now }
-    ensures { HoldInverses (field_of W.number K.width K.product K.generator) words.now inverses.new }
-{
-    field_slices::inverses_into(Words::<R, W, K, V>::new(), words, inverses);
-    truncate_all::<R, W, K>(inverses);
+    values::invert(Words::<R, W, K, V>::new(), words, inverses)
 }
 
 /// Writes the value at each point of the polynomial with these coefficients, the constant one first. From 128 coefficients on it goes by
@@ -219,26 +195,5 @@ pub fn evaluate<R: Stored, W: Holds<R>, K: Many<R, W>, V: Width + Vector>(
 ) -> u32
     ensures { Evaluates (field_of W.number K.width K.product K.generator) coefficients.now points.now values.old values.new result }
 {
-    if points.len() != values.len() {
-        return status::LENGTH;
-    }
-    if !are_both_elements::<R, W, K>(coefficients, points) {
-        return status::NOT_AN_ELEMENT;
-    }
-    for place in 0..values.len() {
-        values[place] = value_at::<R, W, K, V>(coefficients, points[place]);
-    }
-    status::OK
-}
-
-// The value at a point of the polynomial with these coefficients.
-fn value_at<R: Stored, W: Holds<R>, K: Many<R, W>, V: Width + Vector>(
-    coefficients: &[W],
-    point: W,
-) -> W
-    requires coefficients { AreElements (field_of W.number K.width K.product K.generator) coefficients.now }
-    requires point { IsElement (field_of W.number K.width K.product K.generator) point }
-    ensures { W.number result ≡ value_of 1 K.product W.number coefficients.now (W.number point) }
-{
-    truncated::<R, W, K>(field_slices::value_at(Words::<R, W, K, V>::new(), coefficients, point))
+    values::evaluate(Words::<R, W, K, V>::new(), coefficients, points, values)
 }

@@ -1,31 +1,28 @@
 // Products, eliminations, inverses, determinants and linear equations of matrices of words, over any field, row after row in a slice.
 ghost use Rattle.std.specs.Prelude.{◌≡◌, ◌↔◌, IsTrue, length};
 ghost use Rattle.many_words.specs.Fields.{field_of};
+ghost use Rattle.many_words.specs.Words.{AreElements};
 ghost use Rattle.c_calls.specs.Matrices.{HaveEquationLengths, InvertsMatrix, MultipliesMatrices, ReducesRows, SolvesEquations};
 ghost use Rattle.c_calls.specs.Matrices.{TakesDeterminant, TakesRank};
 
 use crate::shapes::has_shape;
-use crate::slices::{are_both_elements, are_elements};
-use crate::{Words, status, truncate_all, truncated};
-use bit_slices::Vector;
-use field_base::{Holds, Stored};
+use crate::{ScalarWords, status};
 use field_slices::matrices::{
     ColumnCopy, copy_columns, invert_beside, multiply_into, solve_augmented,
 };
-use ghash_slices::Width;
-use many_words::Many;
 
 /// Writes the product of `left`, of `rows` rows of `inner` words, and `right`, of `inner` rows of `columns` words.
-pub fn multiply<R: Stored, W: Holds<R>, K: Many<R, W>, V: Width + Vector>(
-    left: &[W],
-    right: &[W],
-    product: &mut [W],
+pub fn multiply<S: ScalarWords>(
+    field: S,
+    left: &[S::Value],
+    right: &[S::Value],
+    product: &mut [S::Value],
     rows: u64,
     inner: u64,
     columns: u64,
 ) -> u32
-    ensures { MultipliesMatrices (field_of W.number K.width K.product K.generator) rows inner columns left.now right.now product.old
-        product.new result }
+    ensures { MultipliesMatrices (field_of S.whole (S.width field) (S.product field) (S.generator field)) rows inner columns left.now
+        right.now product.old product.new result }
 {
     let (rows, inner, columns) = (rows as usize, inner as usize, columns as usize);
     if !has_shape(left.len(), rows, inner)
@@ -34,64 +31,52 @@ pub fn multiply<R: Stored, W: Holds<R>, K: Many<R, W>, V: Width + Vector>(
     {
         return status::LENGTH;
     }
-    if !are_both_elements::<R, W, K>(left, right) {
+    if !are_both_elements(field, left, right) {
         return status::NOT_AN_ELEMENT;
     }
-    multiply_into(
-        Words::<R, W, K, V>::new(),
-        product,
-        left,
-        right,
-        rows,
-        inner,
-        columns,
-    );
-    truncate_all::<R, W, K>(product);
+    multiply_into(field, product, left, right, rows, inner, columns);
+    field.truncate_all(product);
     status::OK
 }
 
 /// Brings a matrix of `rows` rows of `columns` words to reduced row echelon form, and writes its rank. The first so many places of
 /// `pivots`, which has a place for each row, become the columns of the leading entries, and the others stay.
-pub fn row_reduce<R: Stored, W: Holds<R>, K: Many<R, W>, V: Width + Vector>(
-    matrix: &mut [W],
+pub fn row_reduce<S: ScalarWords>(
+    field: S,
+    matrix: &mut [S::Value],
     rows: u64,
     columns: u64,
     pivots: &mut [usize],
     rank: &mut usize,
 ) -> u32
-    ensures { ReducesRows (field_of W.number K.width K.product K.generator) rows columns matrix.old pivots.old rank.old matrix.new
-        pivots.new rank.new result }
+    ensures { ReducesRows (field_of S.whole (S.width field) (S.product field) (S.generator field)) rows columns matrix.old pivots.old
+        rank.old matrix.new pivots.new rank.new result }
 {
     let (rows, columns) = (rows as usize, columns as usize);
     if !has_shape(matrix.len(), rows, columns) || pivots.len() != rows {
         return status::LENGTH;
     }
-    if !are_elements::<R, W, K>(matrix) {
+    if !field.are_elements(matrix) {
         return status::NOT_AN_ELEMENT;
     }
-    *rank = field_slices::matrices::row_reduce(
-        Words::<R, W, K, V>::new(),
-        matrix,
-        rows,
-        columns,
-        pivots,
-    );
-    truncate_all::<R, W, K>(matrix);
+    *rank = field_slices::matrices::row_reduce(field, matrix, rows, columns, pivots);
+    field.truncate_all(matrix);
     status::OK
 }
 
 /// Writes the rank of a matrix of `rows` rows of `columns` words, in as much space, and a place for each row. Nothing is said of what is
 /// left in space and places, whatever the status.
-pub fn rank<R: Stored, W: Holds<R>, K: Many<R, W>, V: Width + Vector>(
-    matrix: &[W],
+pub fn rank<S: ScalarWords>(
+    field: S,
+    matrix: &[S::Value],
     rows: u64,
     columns: u64,
-    space: &mut [W],
+    space: &mut [S::Value],
     places: &mut [usize],
     rank: &mut usize,
 ) -> u32
-    ensures { TakesRank (field_of W.number K.width K.product K.generator) rows columns matrix.now (length space.old) (length places.old)
-        rank.old rank.new result }
+    ensures { TakesRank (field_of S.whole (S.width field) (S.product field) (S.generator field)) rows columns matrix.now (length space.old)
+        (length places.old) rank.old rank.new result }
 {
     let (rows, columns) = (rows as usize, columns as usize);
     if !has_shape(matrix.len(), rows, columns)
@@ -100,55 +85,51 @@ pub fn rank<R: Stored, W: Holds<R>, K: Many<R, W>, V: Width + Vector>(
     {
         return status::LENGTH;
     }
-    if !are_elements::<R, W, K>(matrix) {
+    if !field.are_elements(matrix) {
         return status::NOT_AN_ELEMENT;
     }
     space.copy_from_slice(matrix);
-    *rank = field_slices::matrices::row_reduce(
-        Words::<R, W, K, V>::new(),
-        space,
-        rows,
-        columns,
-        places,
-    );
+    *rank = field_slices::matrices::row_reduce(field, space, rows, columns, places);
     status::OK
 }
 
 /// Writes the determinant of a matrix of `size` rows of as many words, in as much space; of no rows it is 1. Nothing is said of what is
 /// left in space, whatever the status.
-pub fn determinant<R: Stored, W: Holds<R>, K: Many<R, W>, V: Width + Vector>(
-    matrix: &[W],
+pub fn determinant<S: ScalarWords>(
+    field: S,
+    matrix: &[S::Value],
     size: u64,
-    space: &mut [W],
-    determinant: &mut W,
+    space: &mut [S::Value],
+    determinant: &mut S::Value,
 ) -> u32
-    ensures { TakesDeterminant (field_of W.number K.width K.product K.generator) size matrix.now (length space.old) determinant.old
-        determinant.new result }
+    ensures { TakesDeterminant (field_of S.whole (S.width field) (S.product field) (S.generator field)) size matrix.now (length space.old)
+        determinant.old determinant.new result }
 {
     let size = size as usize;
     if !has_shape(matrix.len(), size, size) || space.len() != matrix.len() {
         return status::LENGTH;
     }
-    if !are_elements::<R, W, K>(matrix) {
+    if !field.are_elements(matrix) {
         return status::NOT_AN_ELEMENT;
     }
     space.copy_from_slice(matrix);
-    let value = field_slices::matrices::determinant(Words::<R, W, K, V>::new(), space, size);
-    *determinant = truncated::<R, W, K>(value);
+    let value = field_slices::matrices::determinant(field, space, size);
+    *determinant = field.truncated(value);
     status::OK
 }
 
 /// Writes the inverse of a matrix of `size` rows of as many words, in space for two matrices, and a place for each row. Where there is
 /// none, `inverse` stays. Nothing is said of what is left in space and places, whatever the status.
-pub fn inverse<R: Stored, W: Holds<R>, K: Many<R, W>, V: Width + Vector>(
-    matrix: &[W],
+pub fn inverse<S: ScalarWords>(
+    field: S,
+    matrix: &[S::Value],
     size: u64,
-    inverse: &mut [W],
-    space: &mut [W],
+    inverse: &mut [S::Value],
+    space: &mut [S::Value],
     places: &mut [usize],
 ) -> u32
-    ensures { InvertsMatrix (field_of W.number K.width K.product K.generator) size matrix.now (length space.old) (length places.old)
-        inverse.old inverse.new result }
+    ensures { InvertsMatrix (field_of S.whole (S.width field) (S.product field) (S.generator field)) size matrix.now (length space.old)
+        (length places.old) inverse.old inverse.new result }
 {
     let size = size as usize;
     if !has_shape(matrix.len(), size, size) || inverse.len() != matrix.len() {
@@ -158,7 +139,7 @@ pub fn inverse<R: Stored, W: Holds<R>, K: Many<R, W>, V: Width + Vector>(
     if !has_shape(space.len(), size, width) || places.len() != size {
         return status::LENGTH;
     }
-    if !are_elements::<R, W, K>(matrix) {
+    if !field.are_elements(matrix) {
         return status::NOT_AN_ELEMENT;
     }
     let left_half = ColumnCopy {
@@ -169,8 +150,8 @@ pub fn inverse<R: Stored, W: Holds<R>, K: Many<R, W>, V: Width + Vector>(
         to: 0,
         count: size,
     };
-    copy_columns(Words::<R, W, K, V>::new(), space, matrix, left_half);
-    if !invert_beside(Words::<R, W, K, V>::new(), space, size, places) {
+    copy_columns(field, space, matrix, left_half);
+    if !invert_beside(field, space, size, places) {
         return status::UNSOLVABLE;
     }
     let right_half = ColumnCopy {
@@ -181,25 +162,26 @@ pub fn inverse<R: Stored, W: Holds<R>, K: Many<R, W>, V: Width + Vector>(
         to: 0,
         count: size,
     };
-    copy_columns(Words::<R, W, K, V>::new(), inverse, space, right_half);
-    truncate_all::<R, W, K>(inverse);
+    copy_columns(field, inverse, space, right_half);
+    field.truncate_all(inverse);
     status::OK
 }
 
 /// Writes a solution of linear equations: `matrix`, of `rows` rows of `columns` words, has the coefficients of an equation in each row,
 /// and `right` the right sides. It works in a row of one word more for each equation, and a place for each row. Where there is no solution,
 /// `solution` stays. Nothing is said of what is left in space and places, whatever the status.
-pub fn solve<R: Stored, W: Holds<R>, K: Many<R, W>, V: Width + Vector>(
-    matrix: &[W],
+pub fn solve<S: ScalarWords>(
+    field: S,
+    matrix: &[S::Value],
     rows: u64,
     columns: u64,
-    right: &[W],
-    solution: &mut [W],
-    space: &mut [W],
+    right: &[S::Value],
+    solution: &mut [S::Value],
+    space: &mut [S::Value],
     places: &mut [usize],
 ) -> u32
-    ensures { SolvesEquations (field_of W.number K.width K.product K.generator) rows columns matrix.now right.now (length space.old)
-        (length places.old) solution.old solution.new result }
+    ensures { SolvesEquations (field_of S.whole (S.width field) (S.product field) (S.generator field)) rows columns matrix.now right.now
+        (length space.old) (length places.old) solution.old solution.new result }
 {
     let (rows, columns) = (rows as usize, columns as usize);
     if !have_lengths(
@@ -213,7 +195,7 @@ pub fn solve<R: Stored, W: Holds<R>, K: Many<R, W>, V: Width + Vector>(
     ) {
         return status::LENGTH;
     }
-    if !are_both_elements::<R, W, K>(matrix, right) {
+    if !are_both_elements(field, matrix, right) {
         return status::NOT_AN_ELEMENT;
     }
     let width = columns + 1;
@@ -233,20 +215,25 @@ pub fn solve<R: Stored, W: Holds<R>, K: Many<R, W>, V: Width + Vector>(
         to: columns,
         count: 1,
     };
-    copy_columns(Words::<R, W, K, V>::new(), space, matrix, coefficients);
-    copy_columns(Words::<R, W, K, V>::new(), space, right, right_sides);
-    if !solve_augmented(
-        Words::<R, W, K, V>::new(),
-        space,
-        rows,
-        width,
-        solution,
-        places,
-    ) {
+    copy_columns(field, space, matrix, coefficients);
+    copy_columns(field, space, right, right_sides);
+    if !solve_augmented(field, space, rows, width, solution, places) {
         return status::UNSOLVABLE;
     }
-    truncate_all::<R, W, K>(solution);
+    field.truncate_all(solution);
     status::OK
+}
+
+/// Whether every word of both slices is an element.
+pub(crate) fn are_both_elements<S: ScalarWords>(
+    field: S,
+    left: &[S::Value],
+    right: &[S::Value],
+) -> bool
+    ensures { IsTrue result ↔ (AreElements (field_of S.whole (S.width field) (S.product field) (S.generator field)) left.now
+        × AreElements (field_of S.whole (S.width field) (S.product field) (S.generator field)) right.now) }
+{
+    field.are_elements(left) && field.are_elements(right)
 }
 
 // Whether so many words and places are those of equations.

@@ -1,8 +1,12 @@
 // Words as scalars: each stands for the element that its low bits are.
-ghost use Rattle.std.specs.Prelude.{◌≡◌, ◌%◌, ◌^◌, ◌<◌, ℕ, get_or, length, ⊤};
+ghost use Rattle.std.specs.Prelude.{◌≡◌, ◌↔◌, ◌%◌, ◌^◌, ◌<◌, ℕ, IsTrue, get_or, length, ⊤};
+ghost use Rattle.std.proofs.Common.{refl};
+ghost use Rattle.many_words.specs.Fields.{field_of};
+ghost use Rattle.many_words.specs.Words.{AreElements};
 ghost use Rattle.c_calls.specs.Low.{low_number};
 ghost use Rattle.c_calls.specs.LowLemmas.{low_number-lt};
 
+use crate::slices::are_elements;
 use bit_slices::Vector;
 use field_base::{FieldKernel, Holds, Stored};
 use field_slices::Scalars;
@@ -10,6 +14,30 @@ use ghash_slices::Width;
 use many_words::{Many, fields};
 use std::alloc::AllocError;
 use std::marker::PhantomData;
+
+/// The arithmetic of words, each of which stands for the element that its low bits are. A word is an element where it has no other bits.
+pub trait ScalarWords: Scalars {
+    // The number that a word is, and that of the generator that the library names.
+    ghost whole: { Self.Value → ℕ };
+
+    ghost generator: { Self → ℕ };
+
+    /// Whether every word is an element.
+    fn are_elements(self, words: &[Self::Value]) -> bool
+        ensures { IsTrue result ↔ AreElements (field_of whole (Self.width self) (Self.product self) (generator self)) words.now };
+
+    /// The word without its bits above the field.
+    fn truncated(self, word: Self::Value) -> Self::Value
+        ensures { whole result ≡ Self.number self word };
+
+    /// Leaves each word without its bits above the field.
+    fn truncate_all(self, words: &mut [Self::Value])
+        ensures long { length words.new ≡ length words.old }
+        ensures low { (k : ℕ) → k < length words.old → (d : Self.Value)
+            → whole (get_or words.new k d) ≡ Self.number self (get_or words.old k d) };
+
+    ghost low_law: { (field : Self) (x : Self.Value) → Self.number field x ≡ whole x % 2 ^ Self.width field };
+}
 
 /// The words `W` of the field of the kernel `K`, many of which are computed in vectors `V`. Each stands for its low bits, so that every
 /// word is an element.
@@ -102,17 +130,40 @@ impl<R: Stored, W: Holds<R>, K: Many<R, W>, V: Width + Vector> Scalars for Words
     ghost range_law = { λ _. low_number-lt W.number K.width };
 }
 
-/// The word without its bits above the field.
+impl<R: Stored, W: Holds<R>, K: Many<R, W>, V: Width + Vector> ScalarWords for Words<R, W, K, V> {
+    ghost whole = { W.number };
+
+    ghost generator = { λ _. K.generator };
+
+    #[inline]
+    fn are_elements(self, words: &[W]) -> bool {
+        are_elements::<R, W, K>(words)
+    }
+
+    #[inline]
+    fn truncated(self, word: W) -> W {
+        truncated::<R, W, K>(word)
+    }
+
+    #[inline]
+    fn truncate_all(self, words: &mut [W]) {
+        truncate_all::<R, W, K>(words);
+    }
+
+    ghost low_law = { λ _ _. refl };
+}
+
+// The word without its bits above the field.
 #[inline]
-pub fn truncated<R: Stored, W: Holds<R>, K: FieldKernel<R>>(word: W) -> W
+fn truncated<R: Stored, W: Holds<R>, K: FieldKernel<R>>(word: W) -> W
     ensures { W.number result ≡ W.number word % 2 ^ K.width }
 {
     W::of_stored(K::truncate(word.stored()))
 }
 
-/// Leaves each word without its bits above the field. Where an element has as many bits as a word, nothing is left of the loop.
+// Leaves each word without its bits above the field. Where an element has as many bits as a word, nothing is left of the loop.
 #[inline]
-pub fn truncate_all<R: Stored, W: Holds<R>, K: FieldKernel<R>>(words: &mut [W])
+fn truncate_all<R: Stored, W: Holds<R>, K: FieldKernel<R>>(words: &mut [W])
     ensures long { length words.new ≡ length words.old }
     ensures low { (k : ℕ) → k < length words.old → (d : _)
         → W.number (get_or words.new k d) ≡ W.number (get_or words.old k d) % 2 ^ K.width }

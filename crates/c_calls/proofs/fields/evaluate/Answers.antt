@@ -10,5 +10,5 @@ returns-in-None c = over-none c.args.field c.in-None.ensures.none
 pub returns-in-Some : goal.returns-in-Some
 returns-in-Some c =
     over-known c.args.field
-    (λ (d t : ℕ). Evaluates (residue_field d t) c.args.coefficients.now c.args.points.now c.args.values.now c.write_values.new.values c.write_values.result)
-    c.in-Some.found.degree c.in-Some.found.tail c.in-Some.ensures.some c.write_values.ensures c.write_values.ensures.kept
+    (λ (d t : ℕ). Evaluates (residue_field d t) c.args.coefficients.now c.args.points.now c.args.values.now c.evaluate.new.values c.evaluate.result)
+    c.in-Some.found.degree c.in-Some.found.tail c.in-Some.ensures.some c.evaluate.ensures c.evaluate.ensures.kept

@@ -10,5 +10,5 @@ returns-in-None c = over-none c.args.field c.in-None.ensures.none
 pub returns-in-Some : goal.returns-in-Some
 returns-in-Some c =
     over-known c.args.field
-    (λ (d t : ℕ). Inverts (residue_field d t) c.args.words.now c.args.inverses.now c.write_at_each.new.results c.write_at_each.result)
-    c.in-Some.found.degree c.in-Some.found.tail c.in-Some.ensures.some c.write_at_each.ensures c.write_at_each.ensures.kept
+    (λ (d t : ℕ). Inverts (residue_field d t) c.args.words.now c.args.inverses.now c.invert.new.inverses c.invert.result)
+    c.in-Some.found.degree c.in-Some.found.tail c.in-Some.ensures.some c.invert.ensures c.invert.ensures.kept

@@ -1,0 +1,14 @@
+use Rattle.std.proofs.Common.{ℕ, length}
+use Rattle.c_calls.specs.ChosenFields.{residue_field}
+use Rattle.c_calls.specs.Matrices.{TakesDeterminant}
+use Rattle.c_calls.proofs.ChosenCalls.{over-known, over-none}
+use Rattle.c_calls.proofs.field_matrices.determinant.Goals as goal
+
+pub returns-in-None : goal.returns-in-None
+returns-in-None c = over-none c.args.field c.in-None.ensures.none
+
+pub returns-in-Some : goal.returns-in-Some
+returns-in-Some c =
+    over-known c.args.field
+    (λ (d t : ℕ). TakesDeterminant (residue_field d t) c.args.size c.args.matrix.now (length c.args.space.now) c.args.determinant.now c.determinant.new.determinant c.determinant.result)
+    c.in-Some.found.degree c.in-Some.found.tail c.in-Some.ensures.some c.determinant.ensures c.determinant.ensures.kept
