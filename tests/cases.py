@@ -88,21 +88,21 @@ def evaluated(field, coefficients, points):
     return case(f"{field.name}_evaluate", coefficients, points, values, each=len(points), whole=("coefficients",))
 
 
-def matrix_cases(field, draw):
+def matrix_cases(field, draw, given=()):
     """Matrices of every shape, with rows that are short and long, of every rank, with an inverse and without, and equations with a solution and
-    without."""
-    name = lambda it: f"{field.name}_matrix_{it}"
+    without. A call takes what is given first."""
+    made_case = lambda it, *values: case(f"{field.name}_matrix_{it}", *given, *values)
     for rows, inner, columns in ((2, 3, 4), (0, 0, 0), (1, 1, 1), (3, 0, 2), (0, 3, 2), (2, 3, 0), (5, 1, 2), (1, 4, 1), (3, 5, 40), (2, 33, 33)):
         left, right = drawn(field, draw, rows * inner), drawn(field, draw, inner * columns, 24)
         product = field.matrix_product(left, right, rows, inner, columns)
-        yield case(name("multiply"), left, right, product, rows, inner, columns)
+        yield made_case("multiply", left, right, product, rows, inner, columns)
     for rows, columns, most in ((3, 4, 3), (0, 0, 0), (0, 3, 0), (3, 0, 0), (1, 1, 1), (1, 1, 0), (4, 4, 2), (5, 3, 3), (3, 5, 1), (4, 40, 3), (2, 33, 2)):
         # The product of a matrix of so many columns and one of so many rows has no higher rank.
         matrix = field.matrix_product(drawn(field, draw, rows * most), drawn(field, draw, most * columns), rows, most, columns)
         form, pivots = field.echelon(matrix, rows, columns)
         rank = len(pivots)
-        yield case(name("row_reduce"), (matrix, form), rows, columns, pivots + [UNWRITTEN] * (rows - rank), [rank])
-        yield case(name("rank"), matrix, rows, columns, rows * columns, rows, [rank])
+        yield made_case("row_reduce", (matrix, form), rows, columns, pivots + [UNWRITTEN] * (rows - rank), [rank])
+        yield made_case("rank", matrix, rows, columns, rows * columns, rows, [rank])
     for size, most in ((3, 3), (0, 0), (1, 1), (1, 0), (2, 2), (2, 1), (4, 4), (4, 3), (5, 5), (17, 17)):
         matrix = field.matrix_product(drawn(field, draw, size * most), drawn(field, draw, most * size), size, most, size)
         if most == size:
@@ -110,25 +110,25 @@ def matrix_cases(field, draw):
         inverse = field.matrix_inverse(matrix, size)
         if size < 6:
             assert (inverse is None) == (field.determinant(matrix, size) == 0)
-            yield case(name("determinant"), matrix, size, size * size, [field.determinant(matrix, size)])
-        made = case(name("inverse"), matrix, size, inverse or [0] * (size * size), 2 * size * size, size)
+            yield made_case("determinant", matrix, size, size * size, [field.determinant(matrix, size)])
+        made = made_case("inverse", matrix, size, inverse or [0] * (size * size), 2 * size * size, size)
         yield refused(made, "BF_UNSOLVABLE") if inverse is None else made
     for rows, columns, most in ((3, 3, 3), (0, 0, 0), (0, 2, 0), (1, 1, 1), (2, 4, 2), (4, 2, 2), (4, 4, 2), (3, 33, 2), (2, 0, 0)):
         matrix = field.matrix_product(drawn(field, draw, rows * most), drawn(field, draw, most * columns), rows, most, columns)
         solvable = field.matrix_product(matrix, drawn(field, draw, columns), rows, columns, 1)
         for right in (solvable, [it ^ 1 for it in solvable]):
             found = field.solution(matrix, right, rows, columns)
-            made = case(name("solve"), matrix, rows, columns, right, found or [0] * columns, rows * (columns + 1), rows)
+            made = made_case("solve", matrix, rows, columns, right, found or [0] * columns, rows * (columns + 1), rows)
             yield refused(made, "BF_UNSOLVABLE") if found is None else made
 
 
     # Numbers of entries that 64 bits do not hold.
     huge, most = 1 << 32, (1 << 64) - 1
     for it in (
-        case(name("multiply"), [], [], [], huge, huge, huge), case(name("multiply"), [], [], [], most, most, most),
-        case(name("row_reduce"), ([], []), huge, huge, [], [0]), case(name("rank"), [], 0, huge, 0, 1, [0]),
-        case(name("determinant"), [], huge, 0, [0]), case(name("inverse"), [], huge, [], 0, 0), case(name("inverse"), [], 1 << 63, [], 0, 0),
-        case(name("solve"), [], 0, most, [], [], 0, 0), case(name("solve"), [], most, most, [], [], 0, 0),
+        made_case("multiply", [], [], [], huge, huge, huge), made_case("multiply", [], [], [], most, most, most),
+        made_case("row_reduce", ([], []), huge, huge, [], [0]), made_case("rank", [], 0, huge, 0, 1, [0]),
+        made_case("determinant", [], huge, 0, [0]), made_case("inverse", [], huge, [], 0, 0), made_case("inverse", [], 1 << 63, [], 0, 0),
+        made_case("solve", [], 0, most, [], [], 0, 0), made_case("solve", [], most, most, [], [], 0, 0),
     ):
         yield refused(it, "BF_LENGTH")
 
@@ -190,7 +190,9 @@ def chosen_cases(draw):
         for count in (0, 1, size):
             yield case("field_dot_product", words, left[:count], right[:count], [dot(left[:count], right[:count])])
             yield case("field_evaluate", words, left[:count], right, [value(left[:count], x) for x in right])
+        yield from matrix_cases(definitions.Modulo(degree, modulus), draw, [words])
         if degree < 128:
+            yield from matrix_refusals(words, 1 << degree, "BF_NOT_AN_ELEMENT")
             for at in (0, size - 1):
                 wrong = [1 << degree if it == at else a for it, a in enumerate(left)]
                 yield refused(case("field_multiply", words, wrong, right, [0] * size), "BF_NOT_AN_ELEMENT")
@@ -206,8 +208,19 @@ def chosen_cases(draw):
             yield refused(case("field_logarithm", words, [1, 1 << degree], 1, [0, 0]), "BF_NOT_AN_ELEMENT")
     for degree, tail in ((0, 0), (0, 1), (129, 3), ((1 << 64) - 1, 1), (4, 0b101), (8, 0x11B), (8, 1), (8, 0), (2, 0), (128, 0), (64, 1 << 64 | 0x1B)):
         yield refused(case("field_init", [0], degree, tail), "BF_REDUCIBLE")
+    yield from matrix_refusals(definitions.field_words(8, 1), 1, "BF_REDUCIBLE")
     for name, values, each, status in embeddings.rows(draw):
         yield refused(case(name, *values), status) if status else case(name, *values, each=each)
+
+
+def matrix_refusals(words, entry, status):
+    """Calls over matrices of one entry over a field that a caller chooses, which are refused."""
+    for name, *values in (
+        ("multiply", [entry], [1], [0], 1, 1, 1), ("multiply", [1], [entry], [0], 1, 1, 1), ("row_reduce", ([entry], [entry]), 1, 1, [UNWRITTEN], [0]),
+        ("rank", [entry], 1, 1, 1, 1, [0]), ("determinant", [entry], 1, 1, [0]), ("inverse", [entry], 1, [0], 2, 1),
+        ("solve", [entry], 1, 1, [1], [0], 2, 1), ("solve", [1], 1, 1, [entry], [0], 2, 1),
+    ):
+        yield refused(case(f"field_matrix_{name}", words, *values), status)
 
 
 def bit_matrix_cases(draw):
@@ -575,11 +588,11 @@ def empty_cases():
         taken = sum(kind == "count" for kind, _, _ in parameters)
         for counts in itertools.product((0, 1 << 63, most), repeat=taken) if taken else ():
             refusing = ("rs_", "erasure_", "code_", "secret_", "bch_")
-            reducible = name == "field_init" or name.startswith("field_code_")
+            reducible = name.startswith("field_")
             status = "BF_CODE" if name.startswith(refusing) else "BF_REDUCIBLE" if reducible else "BF_LENGTH"
             if name.startswith("secret_combine") and counts[0]:
                 status = "BF_TOO_FEW_SHARDS"
-            if own in EMPTY and EMPTY[own](*counts):
+            if own in EMPTY and EMPTY[own](*counts) and not reducible:
                 status = "BF_OK"
             left = iter(counts)
             given = {"in": [], "out": [], "inout": ([], []), "state": ([0], [0]), "space": 0, "scalar": 0, "number": 0x11D}

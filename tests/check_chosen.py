@@ -119,6 +119,29 @@ class Chosen(unittest.TestCase):
             self.assertEqual(sorted(poly.roots().tolist()), sorted(roots.tolist()))
             self.assertEqual(field.evaluate(poly.coeffs[::-1], roots).tolist(), [0, 0])
 
+    def test_matrices_by_definitions(self):
+        """Matrices with rows that are short and long, singular ones, and stacks of them."""
+        for field, modulus, _ in self.fields():
+            defined, flat = definitions.Modulo(field.degree, modulus), lambda it: it.ravel().tolist()
+            for rows, inner, columns in ((2, 3, 4), (1, 1, 1), (3, 2, 40), (4, 1, 4)):
+                a, b = field.random((rows, inner), seed=rows), field.random((inner, columns), seed=columns)
+                self.assertEqual(flat(a @ b), defined.matrix_product(flat(a), flat(b), rows, inner, columns))
+                form, pivots = defined.echelon(flat(a @ b), rows, columns)
+                self.assertEqual((flat((a @ b).row_reduce()), int((a @ b).rank())), (form, len(pivots)))
+            for size in (1, 2, 4, 9):
+                a, right = field.random((size, size), seed=size), field.random(size, seed=size + 10)
+                self.assertEqual(int(a.det()), defined.determinant(flat(a), size))
+                inverse = defined.matrix_inverse(flat(a), size)
+                if inverse is None:
+                    self.assertRaises(np.linalg.LinAlgError, a.inv)
+                else:
+                    self.assertEqual(flat(a.inv()), inverse)
+                    self.assertEqual(flat(np.linalg.solve(a, right)), defined.solution(flat(a), flat(right), size, size))
+                self.assertRaises(np.linalg.LinAlgError, field.zeros((size, size)).inv)
+            stack = field.random((40, 2, 2), seed=3)
+            self.assertEqual(stack.det().tolist(), [int(it.det()) for it in stack])
+            self.assertTrue(np.array_equal(stack @ stack, np.stack([it @ it for it in stack])))
+
     def test_one_class_for_the_same_arguments(self):
         field = bf.GF(2**8, irreducible_poly="x^8 + x^4 + x^3 + x^2 + 1")
         for other in (bf.GF(2, 8), bf.GF(256, irreducible_poly=0x11D), bf.GF(2, 8, irreducible_poly=bf.Poly.Int(0x11D)),

@@ -605,8 +605,10 @@ OPERATIONS = {
 }
 
 
-class Modulo:
+class Modulo(Field):
     """The polynomials modulo one."""
+
+    name = "field"
 
     def __init__(self, bits, modulus):
         self.bits, self.modulus = bits, modulus
