@@ -317,7 +317,7 @@ module _ {C S F : Type 0} (state : C → S) (observes gives : C → F → C → 
         (subst (λ (l : List F). IsRunOf observes gives repr verifier (sum_statement width times n (sum_in repr elements)) (messages_of 2 n l)
         verdict.point verdict.between) messages-read verdict.reduced.run))
 
-    draws : (true ≡ verdict.works) × (honest.places ≡ verdict.places)
+    draws : (true ≡ verdict.works) × (honest.places ≡ verdict.places) × (state honest.new ≡ state verdict.new)
     draws =
         places-same state observes gives passing checks gives_bits observes_law gives_law passing_law checks_law bits_law run.1 honest.drawn
         (subst (λ (w : ℕ). ArePlacesDrawn observes gives passing checks gives_bits m n honest.parts.rows w verdict.between verdict.works
