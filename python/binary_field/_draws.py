@@ -36,6 +36,9 @@ class Drawn(Stored):
         if (low, top) == (0, cls.order) or top <= 1 << 64 and not cls._dtype().names:
             last = min(top, 1 << 8 * words.dtype.itemsize) - 1
             words[...] = draw.integers(low, last, words.shape, words.dtype, endpoint=True)
+            if cls._dtype().names:
+                # What is left of the highest word are the bits of the field.
+                words[..., -1] >>= np.uint64(8 * cls._dtype().itemsize - cls.degree)
             return result
         for at in range(result.size):
             # More bits by 64 than the range has: no number of it is likelier than another by more than 2**-64 of its
