@@ -5,6 +5,7 @@ definition once for each element. Where a definition is dear, the elements of an
 """
 
 import dataclasses
+import functools
 import itertools
 import pathlib
 import random
@@ -190,6 +191,11 @@ def chosen_cases(draw):
         for count in (0, 1, size):
             yield case("field_dot_product", words, left[:count], right[:count], [dot(left[:count], right[:count])])
             yield case("field_evaluate", words, left[:count], right, [value(left[:count], x) for x in right])
+        # So many coefficients go by blocks of 128.
+        by_horner = lambda coefficients, x: functools.reduce(lambda sum, it: times(sum, x) ^ it, reversed(coefficients), 0)
+        for count in (128, 300):
+            coefficients = [draw.getrandbits(degree) for _ in range(count)]
+            yield case("field_evaluate", words, coefficients, few[:5], [by_horner(coefficients, x) for x in few[:5]])
         yield from matrix_cases(definitions.Modulo(degree, modulus), draw, [words])
         if degree < 128:
             yield from matrix_refusals(words, 1 << degree, "BF_NOT_AN_ELEMENT")
