@@ -24,16 +24,16 @@ use Rattle.protocols.proofs.BlockPlaces.{ascending, blocks-whole}
 use Rattle.protocols.proofs.CommitmentScheme.{value-opened}
 use Rattle.protocols.proofs.HonestColumns.{honest-opening}
 use Rattle.protocols.proofs.SchemeTurns.{places-same, runs-same}
+use Rattle.protocols.specs.ProductSums.{interleaved, product_terms, sum_statement}
+use Rattle.protocols.proofs.ProductSums.{map-interleaved, tables-shape, values-product}
 use Rattle.prove_sums.specs.Completeness.{HonestSumsAreAccepted}
 use Rattle.prove_sums.specs.ProofFiles.{IsFile}
 use Rattle.prove_sums.specs.Shapes.{columns_in, columns_size, element_count, messages_in, nodes_in, part, row_in, row_size, rows_in}
 use Rattle.prove_sums.specs.Shapes.{sum_in, witness_in}
 use Rattle.prove_sums.specs.Soundness.{HasPoints}
-use Rattle.prove_sums.specs.Verdicts.{IsHonestProof, IsProductAt, OpensTable, SentParts, VerifiesSum, interleaved, product_terms, sent_elements}
-use Rattle.prove_sums.specs.Verdicts.{sum_statement, values_at}
+use Rattle.prove_sums.specs.Verdicts.{IsHonestProof, IsProductAt, OpensTable, SentParts, VerifiesSum, sent_elements}
+use Rattle.prove_sums.specs.Verdicts.{values_at}
 use Rattle.prove_sums.proofs.Files.{AreNodes, length-joined}
-use Rattle.prove_sums.proofs.Places.{map-interleaved}
-use Rattle.prove_sums.proofs.TwoTables.{tables-shape, values-product}
 
 -- ---- parts of what is sent
 
