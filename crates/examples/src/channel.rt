@@ -24,7 +24,11 @@ fn words_of(alloc: Global, text: &[u8]) -> Result<Vec<u8>, AllocError> {
     let mut words = Vec::new(alloc);
     for data in text.chunks(223) {
         let mut word = [0; 255];
-        word[..data.len()].copy_from_slice(data);
+        for place in 0..223 {
+            if let Some(byte) = data.get(place) {
+                word[place] = *byte;
+            }
+        }
         code.encode(&mut word);
         words.extend_from_slice(&word)?;
     }
@@ -37,7 +41,9 @@ fn text_of(alloc: Global, words: &mut [u8]) -> Result<Vec<u8>, ChannelError> {
     let mut text = Vec::new(alloc);
     for word in words.chunks_exact_mut(255) {
         code.correct(word, &[])?;
-        text.extend_from_slice(&word[..223])?;
+        for byte in word.iter().take(223) {
+            text.push(*byte).map_err(AllocError::from)?;
+        }
     }
     Ok(text)
 }
@@ -58,7 +64,7 @@ fn arrives(alloc: Global, count: usize) -> Result<bool, ChannelError> {
     let mut words = words_of(alloc, &text)?;
     disturb(&mut words, count, &mut SmallRng::seed_from_u64(16));
     let received = text_of(alloc, &mut words)?;
-    Ok(&received[..1000] == &text[..])
+    Ok(received.as_slice().starts_with(&text))
 }
 
 #[test]
