@@ -1,6 +1,7 @@
 mod challengers;
 mod cheats;
 mod code_words;
+mod far_matrices;
 mod honest;
 mod joint;
 mod openings;

@@ -21,7 +21,11 @@ enum Change {
 }
 
 // Elements drawn from a seed.
-fn drawn<F: ByteLevel>(alloc: Global, seed: u64, count: usize) -> Result<Vec<F>, AllocError> {
+pub(crate) fn drawn<F: ByteLevel>(
+    alloc: Global,
+    seed: u64,
+    count: usize,
+) -> Result<Vec<F>, AllocError> {
     let mut state = seed;
     let mut elements = Vec::new(alloc);
     for _ in 0..count {
@@ -74,6 +78,7 @@ fn is_opened<F: ByteLevel>(
     let accepted = is_accepted(
         alloc,
         commitment,
+        2,
         first,
         row.as_slice(),
         &places,
@@ -83,17 +88,19 @@ fn is_opened<F: ByteLevel>(
     Ok(accepted == wanted)
 }
 
-// Whether a row is accepted, as the values at a point, by the columns at places, which nodes open.
-fn is_accepted<F: ByteLevel>(
+// Whether a row of 2^levels symbols is accepted, as the values at a point, by the columns at places, which nodes open.
+pub(crate) fn is_accepted<F: ByteLevel>(
     alloc: Global,
     commitment: Commitment,
+    levels: usize,
     point: &[F],
     row: &[F],
     places: &[usize],
     columns: &[F],
     nodes: &[[u8; 32]],
 ) -> Result<bool, AllocError> {
-    if F::bits() < 3 || commitment.depth != 3 || point.len() != 2 {
+    let depth = commitment.depth;
+    if depth > 8 || F::bits() < depth || levels > depth || point.len() > 2 {
         return Ok(false);
     }
     let claim = ClaimedRow { point, row };
@@ -102,7 +109,7 @@ fn is_accepted<F: ByteLevel>(
         columns,
         nodes,
     };
-    verify_columns(alloc, &Sha256Hasher, commitment, 2, &claim, &opening)
+    verify_columns(alloc, &Sha256Hasher, commitment, levels, &claim, &opening)
 }
 
 // Whether each column of the eight has the honest row accepted, and is refused if one of its elements is changed; and whether a row of
