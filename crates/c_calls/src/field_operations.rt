@@ -4,7 +4,7 @@ ghost use Rattle.field_base.specs.Powers.{power, sum_of_squarings};
 ghost use Rattle.any_field.specs.Contexts.{field_product};
 ghost use Rattle.any_field.specs.Values.{binary_value};
 
-use any_field::{BinaryExtension, Embedding, Multiples};
+use any_field::{BinaryExtension, Embedding, Images, Multiples};
 
 /// An operation on one element.
 pub(crate) trait AtOne {
@@ -82,6 +82,24 @@ impl AtOne for Embedded {
 
     fn at(&self, x: u128) -> u128 {
         self.map.image(x)
+    }
+}
+
+/// The image by an embedding, by tables.
+#[derive(Drop)]
+pub(crate) struct Tabled {
+    pub(crate) images: Images,
+}
+
+impl AtOne for Tabled {
+    ghost width = { λ operation. operation.images.map.source.degree };
+
+    ghost gives = { λ operation x y. y ≡ binary_value
+        (field_product operation.images.map.target.degree operation.images.map.target.tail) operation.images.map.root x };
+
+    #[inline]
+    fn at(&self, x: u128) -> u128 {
+        self.images.of(x)
     }
 }
 

@@ -1,7 +1,8 @@
 // Calls over slices of elements of a field that the caller chooses: modulo any irreducible polynomial of degree 1 to 128.
-ghost use Rattle.std.specs.Prelude.{◌≡◌, ◌≢◌, ◌^◌, ◌<◌, ◌↔◌, ℕ, IfNone, IfSome, IsTrue, length};
-ghost use Rattle.field_base.specs.Powers.{dot_of, power};
+ghost use Rattle.std.specs.Prelude.{◌≡◌, ◌≢◌, ◌^◌, ◌<◌, ◌↔◌, ℕ, IfNone, IfSome, IsTrue};
+ghost use Rattle.field_base.specs.Powers.{power};
 ghost use Rattle.any_field.specs.Contexts.{IsFieldModulus, field_product};
+ghost use Rattle.any_field.specs.Values.{binary_value};
 ghost use Rattle.many_words.specs.Words.{AreElements};
 ghost use Rattle.c_calls.specs.Calls.{Adds, CallOnEach, CallOnTwo, Evaluates, Inverts, Multiplies, MultipliesBy};
 ghost use Rattle.c_calls.specs.Calls.{RaisesTo, Squares, TakesDotProduct, TakesRoots};
@@ -12,16 +13,23 @@ ghost use Rattle.c_calls.specs.Fields.{wide_number};
 
 use crate::chosen_words::ChosenWords;
 use crate::field_operations::{
-    AtOne, AtTwo, Embedded, Mapped, Multiple, Quotient, Raised, Rooted, Squared, Together, Traced,
+    AtOne, AtTwo, Embedded, Mapped, Multiple, Quotient, Raised, Rooted, Squared, Tabled, Together,
+    Traced,
 };
 use crate::field_words::ChosenField;
 use crate::wide::Wide;
 use crate::{status, values};
-use any_field::{BinaryExtension, Embedding};
+use any_field::{BinaryExtension, Embedding, Logarithms};
 use field_base::{Holds, Reads};
 
 // From so many words on tables of the products by a scalar pay.
 const MAPPED: usize = 32;
+
+// From so many bits on, those of all words, tables of the images by an embedding pay.
+const TABLED: usize = 256;
+
+// Up to so many bits elements are looked for along the powers of a base, whose order is found in wider fields.
+const WALKED: u32 = 8;
 
 /// Writes the words of the field modulo x^degree + tail.
 pub fn init(field: &mut ChosenField, degree: u64, tail: Wide) -> u32
@@ -252,20 +260,8 @@ fn write_dot_product(field: BinaryExtension, left: &[Wide], right: &[Wide], sum:
     if !are_both_elements(field, left, right) {
         return status::NOT_AN_ELEMENT;
     }
-    *sum = Wide::of_stored(sum_of_products(field, left, right));
+    *sum = Wide::of_stored(field.dot_product_of_words(left, right));
     status::OK
-}
-
-// The sum of the products at each place.
-fn sum_of_products(field: BinaryExtension, left: &[Wide], right: &[Wide]) -> u128
-    requires { length left.now ≡ length right.now }
-    ensures { result ≡ dot_of (field_product field.degree field.tail) wide_number left.now right.now }
-{
-    let mut sum: u128 = 0;
-    for place in 0..left.len() {
-        sum ^= field.multiply(left[place].stored(), right[place].stored());
-    }
-    sum
 }
 
 /// Writes the value at each point of the polynomial with these coefficients, the constant one first.
@@ -396,25 +392,42 @@ fn write_logarithms(
     if !are_elements(field, words) {
         return status::NOT_AN_ELEMENT;
     }
-    if !have_logarithms(field, words, base_number) {
+    let to = logarithms_to(field, base_number);
+    if !have_logarithms(field, to, words, base_number) {
         return status::UNSOLVABLE;
     }
     for place in 0..logarithms.len() {
         let x = words[place].stored();
-        let exponent = known_logarithm(field, x, base_number);
+        let exponent = known_logarithm(field, to, x, base_number);
         logarithms[place] = Wide::of_stored(exponent);
     }
     status::OK
 }
 
+// The logarithms to the base, whose order is found once for all words, where that pays.
+fn logarithms_to(field: BinaryExtension, base: u128) -> Option<Logarithms>
+    ensures { IfSome result (λ to. (to.field ≡ field) × (to.base ≡ base)) }
+{
+    if field.degree() <= WALKED {
+        return None;
+    }
+    Some(field.logarithms(base))
+}
+
 // Whether every word is a power of the base.
-fn have_logarithms(field: BinaryExtension, words: &[Wide], base: u128) -> bool
-    requires { AreElements (residue_field field.degree field.tail) words.now }
+fn have_logarithms(
+    field: BinaryExtension,
+    to: Option<Logarithms>,
+    words: &[Wide],
+    base: u128,
+) -> bool
+    requires elements { AreElements (residue_field field.degree field.tail) words.now }
+    requires same { IfSome to (λ known. (known.field ≡ field) × (known.base ≡ base)) }
     ensures { IsTrue result ↔ HaveLogarithms (residue_field field.degree field.tail) base words.now }
 {
     for place in 0..words.len() {
         let x = words[place].stored();
-        match logarithm_of(field, x, base) {
+        match logarithm_of(field, to, x, base) {
             None => return false,
             Some(_) => {}
         }
@@ -423,27 +436,28 @@ fn have_logarithms(field: BinaryExtension, words: &[Wide], base: u128) -> bool
 }
 
 // The logarithm of an element that has one.
-fn known_logarithm(field: BinaryExtension, x: u128, base: u128) -> u128
+fn known_logarithm(field: BinaryExtension, to: Option<Logarithms>, x: u128, base: u128) -> u128
     requires fits { x < 2 ^ field.degree }
+    requires same { IfSome to (λ known. (known.field ≡ field) × (known.base ≡ base)) }
     requires power { (e : ℕ) × (power 1 (field_product field.degree field.tail) base e ≡ x) }
     ensures { IsLogarithm (field_product field.degree field.tail) base x result }
 {
-    match logarithm_of(field, x, base) {
+    match logarithm_of(field, to, x, base) {
         None => 0,
         Some(exponent) => exponent,
     }
 }
 
-// The logarithm of an element: along the powers where these are few.
-fn logarithm_of(field: BinaryExtension, x: u128, base: u128) -> Option<u128>
-    requires { x < 2 ^ field.degree }
+// The logarithm of an element: along the powers where the order of the base is not found.
+fn logarithm_of(field: BinaryExtension, to: Option<Logarithms>, x: u128, base: u128) -> Option<u128>
+    requires fits { x < 2 ^ field.degree }
+    requires same { IfSome to (λ known. (known.field ≡ field) × (known.base ≡ base)) }
     ensures found { IfSome result (λ e. IsLogarithm (field_product field.degree field.tail) base x e) }
     ensures none { IfNone result ((k : ℕ) → power 1 (field_product field.degree field.tail) base k ≢ x) }
 {
-    if field.degree() <= 8 {
-        field.logarithm(x, base)
-    } else {
-        field.logarithm_by_factors(x, base)
+    match to {
+        None => field.logarithm(x, base),
+        Some(known) => known.of(x),
     }
 }
 
@@ -530,7 +544,32 @@ fn write_images(
         None => status::UNSOLVABLE,
         Some(map) => {
             map.is_embedding();
-            write_at_each(source, words, images, &Embedded { map })
+            write_mapped(source, map, words, images)
         }
     }
+}
+
+// Writes the images by a map.
+fn write_mapped(source: BinaryExtension, map: Embedding, words: &[Wide], images: &mut [Wide]) -> u32
+    requires { map.source.degree ≡ source.degree }
+    ensures { CallOnEach (residue_field source.degree source.tail)
+        (λ x y. y ≡ binary_value (field_product map.target.degree map.target.tail) map.root x) words.now images.old images.new result }
+{
+    let bits = words.len().saturating_mul(source.degree() as usize);
+    if bits < TABLED {
+        return write_at_each(source, words, images, &Embedded { map });
+    }
+    write_tabled(source, map, words, images)
+}
+
+// Writes the images by tables of a map.
+fn write_tabled(source: BinaryExtension, map: Embedding, words: &[Wide], images: &mut [Wide]) -> u32
+    requires { map.source.degree ≡ source.degree }
+    ensures { CallOnEach (residue_field source.degree source.tail)
+        (λ x y. y ≡ binary_value (field_product map.target.degree map.target.tail) map.root x) words.now images.old images.new result }
+{
+    let operation = Tabled {
+        images: map.images(),
+    };
+    write_at_each(source, words, images, &operation)
 }

@@ -1,8 +1,8 @@
 use Rattle.c_calls.proofs.ChosenCalls.{embeds-by, embeds-none}
 use Rattle.c_calls.proofs.fields.write_images.Goals as goal
 
-pub write_at_each-requires : goal.write_at_each-requires
-write_at_each-requires c = c.in-Some.ensures.fields.0
+pub write_mapped-requires : goal.write_mapped-requires
+write_mapped-requires c = c.in-Some.ensures.fields.0
 
 pub returns-in-None : goal.returns-in-None
 returns-in-None c =
@@ -15,4 +15,4 @@ returns-in-Some c =
     let fields = c.in-Some.ensures.fields in
     embeds-by c.args.source.degree c.args.source.tail c.args.target.degree c.args.target.tail c.args.root c.stored.result c.stored.ensures
     map.source.degree map.source.tail map.target.degree map.target.tail map.root fields.0 fields.1 fields.2 fields.3 fields.4
-    map.is_root c.is_embedding.ensures c.write_at_each.ensures
+    map.is_root c.is_embedding.ensures c.write_mapped.ensures
