@@ -6,7 +6,7 @@ import definitions
 # where both are isomorphic, and where the degree does not divide.
 PAIRS = [
     ((1, 0), (8, 0x1D)), ((1, 1), (61, 0x27)), ((2, 3), (8, 0x1B)), ((3, 3), (3, 5)), ((8, 0x1D), (8, 0x1B)), ((3, 5), (8, 0x1D)),
-    ((16, 0x2D), (8, 0x1D)), ((61, 0x27), (128, 0x87)),
+    ((16, 0x2D), (8, 0x1D)), ((61, 0x27), (128, 0x87)), ((128, 0x87), (128, 0x87)),
 ]
 
 
@@ -22,6 +22,8 @@ def rows(draw):
         source, target = definitions.field_words(degree, tail), definitions.field_words(width, other)
         values = [0, 1, (1 << degree) - 1] + [draw.getrandbits(degree) for _ in range(6)]
         none = [0] * len(values)
+        # So many words go by tables.
+        many = [draw.getrandbits(degree) for _ in range(256 // degree + 3)]
         if width % degree:
             yield "field_embedding", (source, target, [0]), None, "BF_UNSOLVABLE"
         elif degree == 1:
@@ -30,4 +32,5 @@ def rows(draw):
             if value_at(1 << width | other, 1 << degree | tail, root):
                 yield "field_embed", (source, target, root, values, none), None, "BF_UNSOLVABLE"
             else:
-                yield "field_embed", (source, target, root, values, [value_at(1 << width | other, it, root) for it in values]), len(values), None
+                for words, each in ((values, len(values)), (many, None)):
+                    yield "field_embed", (source, target, root, words, [value_at(1 << width | other, it, root) for it in words]), each, None
