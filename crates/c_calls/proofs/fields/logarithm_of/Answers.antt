@@ -23,8 +23,8 @@ pub returns-in-Some-clause-found : goal.returns-in-Some-clause-found
 returns-in-Some-clause-found c =
     let to = c.in-Some.known in
     let same =
-        subst (λ (t : Option Logarithms). IfSome t (λ known. (known.field ≡ c.args.field) × (known.base ≡ c.args.base))) c.in-Some.is
-        c.requires.same in
+    subst (λ (t : Option Logarithms). IfSome t (λ known. (known.field ≡ c.args.field) × (known.base ≡ c.args.base))) c.in-Some.is
+    c.requires.same in
     let x = c.args.x in
     let fits : x < 2 ^ to.field.degree = subst (λ (f : BinaryExtension). x < 2 ^ f.degree) (sym same.0) c.requires.fits in
     subst (λ (b : ℕ). IfSome c.of.result (λ e. IsLogarithm (field_product c.args.field.degree c.args.field.tail) b x e)) same.1
@@ -36,8 +36,8 @@ pub returns-in-Some-clause-none : goal.returns-in-Some-clause-none
 returns-in-Some-clause-none c =
     let to = c.in-Some.known in
     let same =
-        subst (λ (t : Option Logarithms). IfSome t (λ known. (known.field ≡ c.args.field) × (known.base ≡ c.args.base))) c.in-Some.is
-        c.requires.same in
+    subst (λ (t : Option Logarithms). IfSome t (λ known. (known.field ≡ c.args.field) × (known.base ≡ c.args.base))) c.in-Some.is
+    c.requires.same in
     let x = c.args.x in
     let fits : x < 2 ^ to.field.degree = subst (λ (f : BinaryExtension). x < 2 ^ f.degree) (sym same.0) c.requires.fits in
     subst (λ (b : ℕ). IfNone c.of.result ((k : ℕ) → power 1 (field_product c.args.field.degree c.args.field.tail) b k ≢ x)) same.1
