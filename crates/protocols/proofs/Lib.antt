@@ -8,11 +8,15 @@ pub mod HonestTables
 pub mod JointTables
 pub mod OpenedColumns
 pub mod OpenedTables
+pub mod ProductSums
 pub mod ProofBytes
 mod RootColumns
 mod SchemeBits
 pub mod SchemeRuns
 pub mod SchemeTurns
+mod SmallFields
+pub mod SmallOpenings
+mod SmallParts
 pub mod SoundnessErrors
 pub mod StackedTables
 mod TableLaws

@@ -10,7 +10,7 @@ use Rattle.protocols.specs.CommitmentScheme.{ArePlacesDrawn, OpensValue, Verdict
 use Rattle.protocols.specs.JointTables.{AreTablesCombined, IsLeastCube, OpensTables, TableVerdictsAgree}
 
 -- tests that follow from each other
-same-tests : (one other : Bool) → (IsTrue one → IsTrue other) → (IsTrue other → IsTrue one) → one ≡ other
+pub same-tests : (one other : Bool) → (IsTrue one → IsTrue other) → (IsTrue other → IsTrue one) → one ≡ other
 same-tests true true first second = refl
 same-tests false false first second = refl
 same-tests true false first second = absurd (true≢false (sym (first refl)))
@@ -35,7 +35,7 @@ module _ {C S F : Type 0} (state : C → S) (observes gives : C → F → C → 
       two.4
 
   -- as many values that are given in turn are the same, and lead to the same state
-  given-same : {T : Type 0} (step : C → T → C → Type 0) → GivesByState state step → (values others : List T) (old new other_old other_new : C)
+  pub given-same : {T : Type 0} (step : C → T → C → Type 0) → GivesByState state step → (values others : List T) (old new other_old other_new : C)
       → length values ≡ length others → state old ≡ state other_old → InTurn step values old new → InTurn step others other_old other_new
       → (values ≡ others) × (state new ≡ state other_new)
   unfolding InTurn

@@ -4,6 +4,9 @@ pub mod CommitmentScheme
 pub mod Interleaved
 pub mod JointTables
 pub mod OpenedTables
+pub mod ProductSums
 pub mod RootColumns
+pub mod SmallOpenings
+pub mod SmallTables
 pub mod SoundnessErrors
 pub mod Tables

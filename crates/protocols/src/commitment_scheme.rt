@@ -205,7 +205,7 @@ pub fn commit<F: ShortElement, H: ByteHasher32, A: Allocator + Copy>(
 }
 
 // What is observed of an opening: the point, the value, and the row.
-fn sent_elements<F: Field, A: Allocator>(
+pub(crate) fn sent_elements<F: Field, A: Allocator>(
     alloc: A,
     claim: &ClaimedValue<'_, F>,
     row: &[F],

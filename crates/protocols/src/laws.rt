@@ -6,8 +6,12 @@ ghost use Rattle.protocols.specs.CodeDistances.{CodeWordsHaveDistance, FewQuarte
 ghost use Rattle.protocols.specs.JointTables.{FewTablesCheat, OpenedTablesNeedLuck, TableVerdictsAgree, TablesAreBound};
 ghost use Rattle.protocols.specs.OpenedTables.{OpenedRowsNeedLuck, OpenedValuesNeedLuck, TableIsOne};
 ghost use Rattle.protocols.specs.RootColumns.{RootsHoldColumns};
+ghost use Rattle.protocols.specs.SmallOpenings.{SmallValuesAreBound, SmallVerdictsAgree};
 ghost use Rattle.protocols.specs.SoundnessErrors.{FewRunsSave};
 
+pub use crate::small_tables::{
+    false_parts_need_root, mixed_sums_are_parts, small_values_are_weighted,
+};
 use field_bytes::ShortElement;
 use merkle_trees::openings::openings_bind;
 pub use sum_checks::laws::{
@@ -121,6 +125,35 @@ pub fn table_verdicts_agree<
     C: CanObserve<F> + CanSample<F> + GrindingChallenger<Witness = F> + CanSampleUniformBits<F>,
 >()
     ensures { TableVerdictsAgree C.state C.observes C.gives C.passing C.checks C.gives_bits F.repr F.NUM_BYTES F.width F.product
+        (λ i. F.basis (F.cantor i)) }
+{}
+
+/// States soundness of openings of tables of small elements for every prover: openings of one root that `small_tables::verify_small` accepts,
+/// any number of them, in transcripts of any challenger and for every hash function whose digests have one length, each show their value of
+/// the small elements that the one table packs to which the root's columns commit; or a coordinate of the point that mixes the parts is the
+/// root of a line that is not 0, or a challenge of the sum-check saves its claim, or the coordinates where it ends, or the places, are few
+/// that are lucky; or two openings have two inputs of the hash function that differ and have one digest.
+pub fn small_values_are_bound<
+    F: ShortElement,
+    C: CanObserve<F> + CanSample<F> + GrindingChallenger<Witness = F> + CanSampleUniformBits<F>,
+>()
+    ensures { SmallValuesAreBound C.observes C.gives C.passing C.checks C.gives_bits F.repr F.NUM_BYTES F.width F.product
+        (λ i. F.basis (F.cantor i)) }
+{
+    small_values_are_weighted();
+    mixed_sums_are_parts();
+    false_parts_need_root();
+    false_claims_need_luck();
+    values_are_bound::<F, C>();
+}
+
+/// States completeness of openings of tables of small elements with what `small_tables::open_small` says: in transcripts of the same state
+/// the verdict on one opening is the same. So a verifier accepts what a prover has opened.
+pub fn small_verdicts_agree<
+    F: ShortElement,
+    C: CanObserve<F> + CanSample<F> + GrindingChallenger<Witness = F> + CanSampleUniformBits<F>,
+>()
+    ensures { SmallVerdictsAgree C.state C.observes C.gives C.passing C.checks C.gives_bits F.repr F.NUM_BYTES F.width F.product
         (λ i. F.basis (F.cantor i)) }
 {}
 

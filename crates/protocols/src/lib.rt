@@ -7,7 +7,9 @@ pub mod extension;
 pub mod interleaved;
 pub mod joint_tables;
 pub mod laws;
+pub mod product_sums;
 pub mod proof_bytes;
+pub mod small_tables;
 pub mod tables;
 
 pub use merkle_trees::{caps, commitment, merkle_paths, merkle_tree, openings, queries};
