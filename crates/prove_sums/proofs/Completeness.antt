@@ -24,16 +24,16 @@ use Rattle.protocols.proofs.BlockPlaces.{ascending, blocks-whole}
 use Rattle.protocols.proofs.CommitmentScheme.{value-opened}
 use Rattle.protocols.proofs.HonestColumns.{honest-opening}
 use Rattle.protocols.proofs.SchemeTurns.{places-same, runs-same}
+use Rattle.protocols.specs.ProductSums.{interleaved, product_terms, sum_statement}
+use Rattle.protocols.proofs.ProductSums.{map-interleaved, tables-shape, values-product}
 use Rattle.prove_sums.specs.Completeness.{HonestSumsAreAccepted}
 use Rattle.prove_sums.specs.ProofFiles.{IsFile}
 use Rattle.prove_sums.specs.Shapes.{columns_in, columns_size, element_count, messages_in, nodes_in, part, row_in, row_size, rows_in}
 use Rattle.prove_sums.specs.Shapes.{sum_in, witness_in}
 use Rattle.prove_sums.specs.Soundness.{HasPoints}
-use Rattle.prove_sums.specs.Verdicts.{IsHonestProof, IsProductAt, OpensTable, SentParts, VerifiesSum, interleaved, product_terms, sent_elements}
-use Rattle.prove_sums.specs.Verdicts.{sum_statement, values_at}
+use Rattle.prove_sums.specs.Verdicts.{IsHonestProof, IsProductAt, OpensTable, SentParts, VerifiesSum, sent_elements}
+use Rattle.prove_sums.specs.Verdicts.{values_at}
 use Rattle.prove_sums.proofs.Files.{AreNodes, length-joined}
-use Rattle.prove_sums.proofs.Places.{map-interleaved}
-use Rattle.prove_sums.proofs.TwoTables.{tables-shape, values-product}
 
 -- ---- parts of what is sent
 
@@ -317,7 +317,7 @@ module _ {C S F : Type 0} (state : C → S) (observes gives : C → F → C → 
         (subst (λ (l : List F). IsRunOf observes gives repr verifier (sum_statement width times n (sum_in repr elements)) (messages_of 2 n l)
         verdict.point verdict.between) messages-read verdict.reduced.run))
 
-    draws : (true ≡ verdict.works) × (honest.places ≡ verdict.places)
+    draws : (true ≡ verdict.works) × (honest.places ≡ verdict.places) × (state honest.new ≡ state verdict.new)
     draws =
         places-same state observes gives passing checks gives_bits observes_law gives_law passing_law checks_law bits_law run.1 honest.drawn
         (subst (λ (w : ℕ). ArePlacesDrawn observes gives passing checks gives_bits m n honest.parts.rows w verdict.between verdict.works

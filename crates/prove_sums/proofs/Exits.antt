@@ -1,43 +1,19 @@
--- Calls that fail for memory alone, and what is printed for a file.
-use Rattle.std.proofs.Common.{◌≡◌, ℕ, ◌*◌, ◌^◌, ◌<◌, ◌≤◌, inl, inr, Err, Ok, Result, List, sym, ◌∙◌, ap, refl, subst, arith}
-use Rattle.std.specs.Prelude.{◌⊎◌, IfErr, IsErr, IsErrAnd, IsOk, None, Some}
+-- Sizes that fit a field, and what is printed for a file.
+use Rattle.std.proofs.Common.{◌≡◌, ℕ, ◌^◌, ◌<◌, ◌≤◌, Err, Ok, Result, List, sym, ◌∙◌, ap, refl, subst, arith}
+use Rattle.std.specs.Prelude.{IfErr, IsErr, IsErrAnd, IsOk, None, Some}
 use Rattle.std.proofs.Math.Pow.{pow_mono}
 use Rattle.std.proofs.lemmas.Result.{err_from_is_err_and}
 use Rattle.field_element.specs.Element.{repr_of}
-use Rattle.sum_checks.specs.Refusals.{CanBeStated, VerifierRefuses}
-use Rattle.sum_checks.specs.Terms.{Product, degree_of}
-use Rattle.sum_checks.specs.declared.error.ProtocolError.{ProtocolError}
-use Rattle.sum_checks.specs.declared.error.ProtocolError.TheVariants.{Memory}
 use Rattle.prove_sums.specs.ProofFiles.{number_in}
 use Rattle.prove_sums.specs.Reports.{HasNoAnswer, IsVerifyReport, NamesRoot, SaysAnswer, claim_text, refusal_line}
-use Rattle.prove_sums.specs.Verdicts.{IsWordAnswer, product_terms, refusal_in}
+use Rattle.prove_sums.specs.Verdicts.{IsWordAnswer, refusal_in}
 use Rattle.prove_sums.specs.declared.refusal.Refusal.{Refusal}
 use Rattle.prove_sums.specs.declared.reports.NoAnswer.{NoAnswer}
 use Rattle.prove_sums.specs.declared.reports.NoAnswer.TheVariants as no_answer
 use Rattle.prove_sums.specs.declared.tables.Table.{Table}
 use Rattle.prove_sums.specs.declared.tables.TableField.{TableField}
-use Rattle.prove_sums.proofs.SumSteps.{degree-product, product-within}
 
 -- ---- memory
-
--- the sum of two tables can be stated
-sum-stated : (width rounds : ℕ) → 3 ≤ width → rounds < 2 ^ width → CanBeStated width rounds 2 product_terms
-sum-stated width rounds wide fits =
-    let eight : 8 ≤ 2 ^ width = pow_mono {i = 3} {j = width} wide in
-    let two : 2 < 2 ^ width = omega (arith, eight) in
-    let one : 1 < 2 ^ width = omega (arith, eight) in
-    record { field = wide; within = product-within; rounds_fit = fits; count_fits = two; terms_fit = one }
-
--- so that a verifier refuses no messages of two values for each round
-pub sum-taken : (width rounds size : ℕ) (terms : List Product) (error : ProtocolError) → terms ≡ product_terms → size ≡ 2 * rounds → 3 ≤ width
-    → rounds < 2 ^ width → (error ≡ Memory) ⊎ VerifierRefuses width rounds 2 terms size error → error ≡ Memory
-sum-taken width rounds size terms error same long wide fits (inl is) = is
-sum-taken width rounds size terms error same long wide fits (inr (inl is)) =
-    let degree : degree_of terms ≡ 2 = ap degree_of same ∙ degree-product in
-    let turned : size ≡ rounds * 2 = omega (arith, long) in
-    absurd (is.1 (turned ∙ ap (λ (d : ℕ). rounds * d) (sym degree)))
-sum-taken width rounds size terms error same long wide fits (inr (inr is)) =
-    absurd (is.2 (subst (λ (ts : List Product). CanBeStated width rounds 2 ts) (sym same) (sum-stated width rounds wide fits)))
 
 -- a field with many bits has more elements than there are rounds
 pub rounds-fit : (width rounds : ℕ) → 40 ≤ width → rounds ≤ 39 → rounds < 2 ^ width

@@ -2,7 +2,6 @@ mod CommittedRoots
 mod Completeness
 mod Exits
 mod Files
-mod Places
 mod Refusals
 mod SizeBits
 mod Sizes
@@ -12,5 +11,4 @@ mod SoundnessErrors
 mod StateRuns
 mod SumSteps
 mod TableWords
-mod TwoTables
 mod WrittenProofs

@@ -1,5 +1,5 @@
 -- What accepted proofs of a sum of products of two tables show.
-use Rattle.std.proofs.Common.{◌≡◌, ◌⊎◌, inl, inr, ℕ, zero, suc, ◌+◌, ◌-◌, ◌*◌, ◌/◌, ◌^◌, ◌<◌, ◌≤◌, List, [], ◌∷◌, ◌++◌, length, map, take, drop, get_or, refl, sym, ◌∙◌, ap, ap₂, subst, arith, lit≤}
+use Rattle.std.proofs.Common.{◌≡◌, ◌⊎◌, inl, inr, ℕ, ◌+◌, ◌-◌, ◌*◌, ◌/◌, ◌^◌, ◌<◌, ◌≤◌, List, [], ◌∷◌, ◌++◌, length, map, take, drop, get_or, refl, sym, ◌∙◌, ap, ap₂, subst, arith, lit≤}
 use Rattle.std.specs.Prelude.{Bool, slice_index}
 use Rattle.std.proofs.lemmas.Bool.Decides.{eqb_tells}
 use Rattle.std.proofs.lemmas.List.{drop-map, get_or-drop, get_or-take, length-append, length-drop, length-map, length-take, length-take-le, map-append, take-append-drop, take-map}
@@ -9,7 +9,7 @@ use Rattle.field_slices.specs.Multilinear.{multilinear_value}
 use Rattle.merkle_trees.specs.Commitments.{row_at}
 use Rattle.merkle_trees.specs.MerkleTrees.{HaveDigestSize}
 use Rattle.sum_checks.specs.Sumcheck.{messages_of}
-use Rattle.sum_checks.specs.SumcheckClaims.{AreMessages, FalseClaimsNeedLuck, IsClaimShape, IsSaved, reduced_claim}
+use Rattle.sum_checks.specs.SumcheckClaims.{FalseClaimsNeedLuck, IsClaimShape, IsSaved, reduced_claim}
 use Rattle.sum_checks.specs.Terms.{cube_sum}
 use Rattle.sum_checks.proofs.Runs.{messages-length}
 use Rattle.protocols.specs.OpenedTables.{AreColumnsOf, CommitsTo, OpenedValuesNeedLuck, ShowsTable}
@@ -19,11 +19,12 @@ use Rattle.protocols.specs.Tables.{AgreesAt}
 use Rattle.protocols.proofs.OpenedColumns.{opened-accepted, opened-agrees}
 use Rattle.protocols.proofs.ProofBytes.{length-proof}
 use Rattle.protocols.specs.CommitmentScheme.{matrix_rows, row_levels, word_levels}
+use Rattle.protocols.specs.ProductSums.{interleaved, product_terms}
+use Rattle.protocols.proofs.ProductSums.{messages-are, tables-shape, values-product}
 use Rattle.prove_sums.specs.Shapes.{columns_in, columns_size, element_count, messages_in, row_in, row_size, sum_in}
 use Rattle.prove_sums.specs.ProofFiles.{file_bytes}
 use Rattle.prove_sums.specs.Soundness.{AcceptedFile, AcceptedProof, ElementsAreRun, ElementsShowSum, FilesShowSums, HasPoints, HaveColumns, RootsShowSums, ShowsSum, SumsAreProved, SumsNeedLuck, sent_columns}
-use Rattle.prove_sums.specs.Verdicts.{OpensTable, checks_number, gives_number, interleaved, observes_number, passes_number, product_terms, samples_bits, word_times, word_vector}
-use Rattle.prove_sums.proofs.TwoTables.{tables-shape, values-product}
+use Rattle.prove_sums.specs.Verdicts.{OpensTable, checks_number, gives_number, observes_number, passes_number, samples_bits, word_times, word_vector}
 
 -- ---- of columns
 
@@ -74,17 +75,6 @@ sums_need_luck false_claims opened width times vector wide field vectors fit k r
     cases (inl one) (inl other) = inl (one.0, other.0, one.1, other.1, claimed one.0 other.0 one.1 other.1 one.2 other.2)
 
 -- ---- parts of a proof
-
--- messages of two elements each
-messages-are : {F : Type 0} (repr : F → ℕ) (width n : ℕ) → ((x : F) → repr x < 2 ^ width) → (values : List F) → length values ≡ n * 2
-    → AreMessages width 2 (map (map repr) (messages_of 2 n values))
-unfolding AreMessages messages_of
-messages-are repr width zero range values long = tt
-messages-are repr width (suc n) range values long = (
-  length-map (take 2 values) repr ∙ length-take-le 2 values (omega (arith, long)),
-  numbers-lt repr width range (take 2 values),
-  let rest = length-drop 2 values in messages-are repr width n range (drop 2 values) (omega (arith, long, rest)),
-)
 
 -- a prover that sends messages whatever the challenges are sends these
 sent-always : (messages : List (List ℕ)) (point : List ℕ) → length messages ≡ length point

@@ -29,9 +29,9 @@ use Rattle.protocols.specs.SoundnessErrors.{sent_messages}
 use Rattle.protocols.specs.Tables.{AgreesAt}
 use Rattle.protocols.proofs.OpenedTables.{code-distance, code-word-of, commits, row-value, row-values, table}
 use Rattle.protocols.proofs.SoundnessErrors.{MissesFew, at-most-one, few_runs_save, seldom-or-near}
+use Rattle.protocols.specs.ProductSums.{interleaved, product_terms}
+use Rattle.protocols.proofs.ProductSums.{tables-shape, values-product}
 use Rattle.prove_sums.specs.SoundnessErrors.{Cheats, FewCheatsSucceed, Prover, accepted_runs}
-use Rattle.prove_sums.specs.Verdicts.{interleaved, product_terms}
-use Rattle.prove_sums.proofs.TwoTables.{tables-shape, values-product}
 
 -- the places of numbers below the length of a block
 pub placed : (bits q : ℕ) (numbers : List ℕ) → AreNumbersBelow q (2 ^ bits) numbers

@@ -5,8 +5,9 @@ use Rattle.merkle_trees.specs.Queries.{AreQueries}
 use Rattle.merkle_trees.specs.declared.merkle_tree.MerkleTree.{MerkleTree}
 use Rattle.sum_checks.specs.Sumcheck.{AreTurns, IsRunOf, IsTurn, Statement, messages_of}
 use Rattle.protocols.specs.CommitmentScheme.{ArePlacesDrawn, opening_work, place_bits}
+use Rattle.protocols.specs.ProductSums.{IsSummed, sum_statement}
 use Rattle.prove_sums.specs.Shapes.{messages_in, rows_in, sum_in, witness_in}
-use Rattle.prove_sums.specs.Verdicts.{IsHonestProof, IsReducedClaim, IsSummed, VerifiesSum, sum_statement}
+use Rattle.prove_sums.specs.Verdicts.{IsHonestProof, IsReducedClaim, VerifiesSum}
 
 module _ {C S : Type 0} (state : C → S) where
   -- steps in turn, as steps of the states

@@ -12,12 +12,13 @@ use Rattle.protocols.specs.CommitmentScheme.{matrix_rows, row_levels, value_colu
 use Rattle.protocols.specs.OpenedTables.{AreColumnsOf, AreLuckyPlaces, CommitsTo, HasLuckyCoordinate}
 use Rattle.protocols.specs.RootColumns.{HasSent, HaveOtherColumns, SentColumns}
 use Rattle.protocols.specs.Tables.{AgreesAt}
+use Rattle.protocols.specs.ProductSums.{interleaved, product_terms}
 use Rattle.prove_sums.specs.declared.tables.Table.{Table}
 use Rattle.prove_sums.specs.declared.tables.TableField.{TableField}
 use Rattle.prove_sums.specs.ProofFiles.{IsFileOf, file_bytes, number_in}
 use Rattle.prove_sums.specs.Shapes.{columns_in, element_count, messages_in, nodes_in, row_in, sum_in}
 use Rattle.prove_sums.specs.SoundnessErrors.{IsAcceptedRun, sends_always}
-use Rattle.prove_sums.specs.Verdicts.{IsSumVerdict, VerifiesSum, interleaved, product_terms, word_times, word_vector}
+use Rattle.prove_sums.specs.Verdicts.{IsSumVerdict, VerifiesSum, word_times, word_vector}
 
 -- ---- of columns
 

@@ -18,8 +18,9 @@ use Rattle.protocols.specs.CommitmentScheme.{block_places, matrix_rows, place_bi
 use Rattle.protocols.specs.OpenedTables.{AreColumnsOf, CommitsTo}
 use Rattle.protocols.specs.SoundnessErrors.{SendsMessages, sent_messages}
 use Rattle.protocols.specs.Tables.{AgreesAt}
+use Rattle.protocols.specs.ProductSums.{interleaved, product_terms}
 use Rattle.prove_sums.specs.Bits.{error_parts, whole_parts, wrong_columns}
-use Rattle.prove_sums.specs.Verdicts.{interleaved, product_terms, word_times, word_vector}
+use Rattle.prove_sums.specs.Verdicts.{word_times, word_vector}
 
 -- ---- runs
 

@@ -1,6 +1,6 @@
 -- What is proved of two tables, and what a verifier says of a proof, over elements and bytes alone. Elements have numbers by `repr`, the sum is
 -- `bit_xor` and the product `times`. `hash` and `digest` are hash functions.
-use Rattle.std.specs.Prelude.{◌≡◌, ◌≢◌, ◌⊎◌, ◌↔◌, ℕ, zero, suc, ◌*◌, ◌^◌, ◌<◌, ◌≤◌, Bool, true, false, List, [], ◌∷◌, ◌++◌, length, map, take, drop, Err, IsTrue, Ok, Result}
+use Rattle.std.specs.Prelude.{◌≡◌, ◌≢◌, ◌⊎◌, ◌↔◌, ℕ, zero, suc, ◌^◌, ◌<◌, Bool, true, false, List, [], ◌∷◌, ◌++◌, length, map, take, drop, Err, IsTrue, Ok, Result}
 use Rattle.std.specs.List.{range_with_len}
 use Rattle.std.specs.declared.alloc.Global.{Global}
 use Rattle.std.specs.declared.option.Option.{Option}
@@ -14,14 +14,14 @@ use Rattle.field_base.specs.Basis.{basis_image, ghash_images}
 use Rattle.field_base.specs.Remainder.{ghash_modulus, mul_mod}
 use Rattle.field_slices.specs.Multilinear.{multilinear_value}
 use Rattle.word_tables.specs.Cantor.{cantor_vector}
-use Rattle.sum_checks.specs.Sumcheck.{IsRunOf, Statement, messages_of, statement_of}
-use Rattle.sum_checks.specs.SumcheckClaims.{AreHonestMessages, reduced_claim}
+use Rattle.sum_checks.specs.Sumcheck.{IsRunOf, messages_of}
+use Rattle.sum_checks.specs.SumcheckClaims.{reduced_claim}
 use Rattle.protocols.specs.CommitmentScheme.{ArePlacesDrawn, matrix_rows, row_levels, word_levels}
 use Rattle.protocols.specs.Tables.{AreColumnsAt, AreExtendedColumns, OpensColumns, OpensPlaces}
+use Rattle.protocols.specs.ProductSums.{IsSummed, sum_statement}
 use Rattle.merkle_trees.specs.Commitments.{IsTreeOver, root_of, row_at}
 use Rattle.merkle_trees.specs.MerkleTrees.{rows_root}
 use Rattle.merkle_trees.specs.declared.merkle_tree.MerkleTree.{MerkleTree}
-use Rattle.sum_checks.specs.Terms.{Product, cube_sum}
 use Rattle.field_element.specs.Element.{repr_of}
 use Rattle.prove_sums.specs.Bits.{AreFor, NoneIsFor}
 use Rattle.prove_sums.specs.ProofFiles.{IsFileOf, IsNoFile, file_bytes, number_in}
@@ -32,32 +32,7 @@ use Rattle.prove_sums.specs.Shapes.{columns_in, messages_in, nodes_in, row_in, r
 use Rattle.prove_sums.specs.declared.refusal.Refusal.{Refusal}
 use Rattle.prove_sums.specs.declared.refusal.Refusal.TheVariants.{NotAProof, OtherVersion, OtherField, Length, OtherParameters, TooFewBits, OtherLeft, OtherRight, NotProved}
 
--- ---- the statement
-
--- what is summed: the product of the polynomials 0 and 1
-abbrev pub product_terms : List Product
-product_terms = (record { coefficient = 1; factors = 0 ∷ 1 ∷ [] }) ∷ []
-
--- that the products of two tables of 2 ^ rounds elements have this sum
-abbrev pub sum_statement : ℕ → (ℕ → ℕ → ℕ) → ℕ → ℕ → Statement
-sum_statement width times rounds sum = statement_of width times rounds 2 product_terms sum
-
--- two tables as rows of two values
-abbrev pub interleaved : {F : Type 0} → List F → List F → List F
-interleaved [] others = []
-interleaved (x ∷ xs) [] = []
-interleaved (x ∷ xs) (y ∷ ys) = x ∷ y ∷ interleaved xs ys
-
 -- ---- the sum
-
--- what an honest prover has of two tables of 2 ^ n elements: the sum of their products, its messages, and the challenges
-pub record IsSummed {C F : Type 0} (observes gives : C → F → C → Type 0) (repr : F → ℕ) (width : ℕ) (times : ℕ → ℕ → ℕ) (n : ℕ)
-    (left right : List F) (old : C) (sum : F) (messages point : List F) (new : C) : Type 0 where
-  pub run : IsRunOf observes gives repr old (sum_statement width times n (repr sum)) (messages_of 2 n messages) point new
-  pub total : repr sum ≡ cube_sum times product_terms 2 n (map repr (interleaved left right))
-  pub honest : AreHonestMessages times product_terms 2 2 (map repr (interleaved left right)) (map (map repr) (messages_of 2 n messages)) (map repr point)
-  pub message_count : length messages ≡ 2 * n
-  pub challenge_count : length point ≡ n
 
 -- what a verifier is left with of the claim that the first element is the sum: a claim at a point, by the messages
 pub record IsReducedClaim {C F : Type 0} (observes gives : C → F → C → Type 0) (repr : F → ℕ) (width : ℕ) (times : ℕ → ℕ → ℕ) (n : ℕ)

@@ -9,9 +9,9 @@ ghost use Rattle.prove_sums.specs.Shapes.{row_size};
 ghost use Rattle.prove_sums.specs.Verdicts.{HoldsTable, IsHonestProof, values_at};
 
 use crate::shapes::Shape;
-use crate::sums;
 use field_base::traits::Field;
 use protocols::commitment_scheme::grind_places;
+use protocols::product_sums::prove_sum;
 use protocols::tables::{TableColumns, column_values, open_columns};
 use protocols::{ProtocolError, commitment_scheme};
 use std::alloc::{AllocError, Global};
@@ -78,7 +78,7 @@ pub fn prove<
         right.now.held.columns.items left.now.held.tree right.now.held.tree sent.elements.items sent.nodes.items challenger.old) }
 {
     let (one, other) = (left.elements.as_slice(), right.elements.as_slice());
-    let summed = sums::prove(alloc, challenger, one, other, shape.rounds)?;
+    let summed = prove_sum(alloc, challenger, one, other, shape.rounds)?;
     let (point, _others) = summed.point.as_slice().split_at(shape.rows);
     let rows = rows_of(alloc, shape, left, right, point)?;
     let rows = rows.as_slice();

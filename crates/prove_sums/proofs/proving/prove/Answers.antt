@@ -2,7 +2,8 @@ use Rattle.std.proofs.Common.{◌≡◌, ◌++◌, ◌^◌, ℕ, true, List, tak
 use Rattle.merkle_trees.specs.Openings.{AreAscending}
 use Rattle.protocols.specs.CommitmentScheme.{ArePlacesDrawn, matrix_rows, word_levels}
 use Rattle.protocols.specs.Tables.{AreColumnsAt, OpensPlaces}
-use Rattle.prove_sums.specs.Verdicts.{IsSummed, values_at}
+use Rattle.protocols.specs.ProductSums.{IsSummed}
+use Rattle.prove_sums.specs.Verdicts.{values_at}
 use Rattle.prove_sums.proofs.SumSteps.{elements-listed, sizes-same}
 use Rattle.prove_sums.proofs.proving.prove.Goals as goal
 
@@ -30,7 +31,7 @@ returns g c =
     let says : List _ → List _ → Type 0 =
     λ (one other : List _).
     IsSummed g.C.CanObserve.observes g.C.CanSample.gives field.repr field.width field.product n one other c.args.challenger.now summed.sum
-    summed.messages.items summed.point.items c.prove.new.challenger in
+    summed.messages.items summed.point.items c.prove_sum.new.challenger in
     record {
       parts = record {
         sum = summed.sum;
@@ -42,7 +43,7 @@ returns g c =
       };
       point = summed.point.items;
       places = c.in_ok-witness.places.items;
-      between = c.prove.new.challenger;
+      between = c.prove_sum.new.challenger;
       new = c.grind_places.new.challenger;
       summed =
           subst (λ (l : List _). says l right.elements.items) c.as_slice-one.ensures.value
@@ -55,7 +56,7 @@ returns g c =
           sizes-same
           (λ (q v : ℕ) (sent : List _).
           ArePlacesDrawn g.C.CanObserve.observes g.C.CanSample.gives g.C.GrindingChallenger.passing g.C.GrindingChallenger.checks
-          g.C.CanSampleBits.gives_bits q v sent (g.C.GrindingChallenger.number c.in_ok-witness.witness) c.prove.new.challenger true
+          g.C.CanSampleBits.gives_bits q v sent (g.C.GrindingChallenger.number c.in_ok-witness.witness) c.prove_sum.new.challenger true
           c.in_ok-witness.places.items c.grind_places.new.challenger) c.sizes-sizes.ensures.queries c.sizes-sizes.ensures.variables
           c.as_slice-rows.ensures.value c.in_ok-witness.ensures.drawn;
       left_opened =
