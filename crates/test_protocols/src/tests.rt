@@ -5,5 +5,6 @@ mod honest;
 mod joint;
 mod openings;
 mod rows;
+mod small;
 mod tables;
 mod zeros;
