@@ -13,5 +13,7 @@ mod FlaggedPlaces
 mod InterleavedWords
 pub mod LowNumbers
 mod ManyWords
+mod ModulusCalls
 mod PackedRows
 mod ShareCalls
+mod SubfieldCalls

@@ -3,6 +3,7 @@ pub mod BitMatrices
 pub mod Bytes
 pub mod Calls
 pub mod ChosenCodes
+pub mod ChosenElements
 pub mod ChosenFields
 pub mod Codes
 pub mod Erasure

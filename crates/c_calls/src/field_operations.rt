@@ -1,8 +1,9 @@
 // Operations on one element and on two of a field that a caller chooses, which calls over slices apply.
-ghost use Rattle.std.specs.Prelude.{◌≡◌, ◌≢◌, ◌<◌, ◌^◌, ℕ, bit_xor};
+ghost use Rattle.std.specs.Prelude.{◌≡◌, ◌≢◌, ◌%◌, ◌<◌, ◌^◌, ℕ, bit_xor};
 ghost use Rattle.field_base.specs.Powers.{power, sum_of_squarings};
 ghost use Rattle.any_field.specs.Contexts.{field_product};
 ghost use Rattle.any_field.specs.Values.{binary_value};
+ghost use Rattle.c_calls.specs.ChosenElements.{IsNormOver, IsOrderIfAny, IsTraceOver};
 
 use any_field::{BinaryExtension, Embedding, Images, Multiples};
 
@@ -167,6 +168,69 @@ impl AtOne for Traced {
 
     fn at(&self, x: u128) -> u128 {
         self.field.trace(x)
+    }
+}
+
+/// The order, and 0 of 0.
+#[derive(Drop)]
+pub(crate) struct Ordered {
+    pub(crate) field: BinaryExtension,
+}
+
+impl AtOne for Ordered {
+    ghost width = { λ operation. operation.field.degree };
+
+    ghost gives = { λ operation x y. IsOrderIfAny (field_product operation.field.degree operation.field.tail) x y };
+
+    fn at(&self, x: u128) -> u128 {
+        match self.field.order(x) {
+            Some(order) => order,
+            None => 0,
+        }
+    }
+}
+
+/// The trace over a subfield.
+#[derive(Drop)]
+pub(crate) struct TraceOver {
+    pub(crate) field: BinaryExtension,
+    pub(crate) degree: u32,
+    ghost divides: { field.degree % degree ≡ 0 },
+}
+
+impl AtOne for TraceOver {
+    ghost width = { λ operation. operation.field.degree };
+
+    ghost gives = { λ operation x y. IsTraceOver operation.field.degree
+        (field_product operation.field.degree operation.field.tail) operation.degree x y };
+
+    fn at(&self, x: u128) -> u128 {
+        match self.field.trace_to(x, self.degree) {
+            Some(trace) => trace,
+            None => 0,
+        }
+    }
+}
+
+/// The norm over a subfield.
+#[derive(Drop)]
+pub(crate) struct NormOver {
+    pub(crate) field: BinaryExtension,
+    pub(crate) degree: u32,
+    ghost divides: { field.degree % degree ≡ 0 },
+}
+
+impl AtOne for NormOver {
+    ghost width = { λ operation. operation.field.degree };
+
+    ghost gives = { λ operation x y. IsNormOver operation.field.degree
+        (field_product operation.field.degree operation.field.tail) operation.degree x y };
+
+    fn at(&self, x: u128) -> u128 {
+        match self.field.norm_to(x, self.degree) {
+            Some(norm) => norm,
+            None => 0,
+        }
     }
 }
 

@@ -91,7 +91,7 @@ fn are_both_elements(field: BinaryExtension, left: &[Wide], right: &[Wide]) -> b
 }
 
 // Writes the result of the operation at the word at each place.
-fn write_at_each<O: AtOne>(
+pub(crate) fn write_at_each<O: AtOne>(
     field: BinaryExtension,
     words: &[Wide],
     results: &mut [Wide],

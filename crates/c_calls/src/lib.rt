@@ -1,9 +1,9 @@
 //! The calls of other languages: on slices of words over any field, over words of 128 bits in the field of GHASH, the values of
-//! transforms and linear maps, messages, shards, shares of secrets and lines of text, in the module `fields` over fields that the
-//! caller chooses, in `matrices`, `field_matrices` and `bit_matrices` on matrices of words and of packed bits, and in `codes`,
-//! `interleaved_codes`, `field_codes` and `binary_codes` on words of codes that correct errors. A call compares the lengths, refuses
-//! words that are no elements, and returns a status. On every status but `OK` what it would have written is as before; what it works in
-//! is lost. None takes memory.
+//! transforms and linear maps, messages, shards, shares of secrets and lines of text, in the modules `fields`, `field_elements` and
+//! `moduli` over fields that the caller chooses, in `matrices`, `field_matrices` and `bit_matrices` on matrices of words and of packed
+//! bits, and in `codes`, `interleaved_codes`, `field_codes` and `binary_codes` on words of codes that correct errors. A call compares
+//! the lengths, refuses words that are no elements, and returns a status. On every status but `OK` what it would have written is as
+//! before; what it works in is lost. None takes memory.
 #![tactic(auto)]
 
 pub mod binary_codes;
@@ -12,6 +12,7 @@ mod chosen_words;
 pub mod codes;
 mod erasure;
 pub mod field_codes;
+pub mod field_elements;
 pub mod field_matrices;
 mod field_operations;
 mod field_words;
@@ -23,6 +24,7 @@ mod lines;
 mod many;
 pub mod matrices;
 mod messages;
+pub mod moduli;
 mod numbers;
 pub mod operations;
 mod scalars;

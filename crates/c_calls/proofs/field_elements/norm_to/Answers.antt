@@ -1,0 +1,14 @@
+use Rattle.std.proofs.Common.{ℕ}
+use Rattle.c_calls.specs.ChosenElements.{TakesNormsOver}
+use Rattle.c_calls.specs.ChosenFields.{residue_field}
+use Rattle.c_calls.proofs.ChosenCalls.{over-known, over-none}
+use Rattle.c_calls.proofs.field_elements.norm_to.Goals as goal
+
+pub returns-in-None : goal.returns-in-None
+returns-in-None c = over-none c.args.field c.in-None.ensures.none
+
+pub returns-in-Some : goal.returns-in-Some
+returns-in-Some c =
+    over-known c.args.field
+    (λ (d t : ℕ). TakesNormsOver (residue_field d t) c.args.degree c.args.words.now c.args.norms.now c.write_norms.new.norms c.write_norms.result)
+    c.in-Some.found.degree c.in-Some.found.tail c.in-Some.ensures.some c.write_norms.ensures c.write_norms.ensures.kept
