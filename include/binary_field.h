@@ -1752,6 +1752,41 @@ uint32_t bf_field_primitive_element(const bf_field *field, bf_u128 *element) BF_
 uint32_t bf_field_logarithm(const bf_field *field, const bf_u128 *values, size_t values_length, const bf_u128 *base,
     bf_u128 *logarithms, size_t logarithms_length) BF_CHECKED BF_NONNULL(1) BF_NONNULL(4);
 
+/* orders: the order of each element, the least exponent above 0 to which its power is 1, and 0 for 0, which has
+ * none. BF_LENGTH unless values and orders have one length. BF_NOT_AN_ELEMENT unless each word that is read is below
+ * 2^degree. */
+uint32_t bf_field_order(const bf_field *field, const bf_u128 *values, size_t values_length,
+    bf_u128 *orders, size_t orders_length) BF_CHECKED BF_NONNULL(1);
+
+/* traces: the trace of each element over the subfield of 2^subfield_degree elements: the sum of its conjugates, an
+ * element of the subfield as it lies in the field. BF_UNSOLVABLE unless subfield_degree divides the degree of the
+ * field. BF_LENGTH unless values and traces have one length. BF_NOT_AN_ELEMENT unless each word that is read is
+ * below 2^degree. */
+uint32_t bf_field_trace_to(const bf_field *field, const bf_u128 *values, size_t values_length, size_t subfield_degree,
+    bf_u128 *traces, size_t traces_length) BF_CHECKED BF_NONNULL(1);
+
+/* norms: the norm of each element over the subfield of 2^subfield_degree elements: the product of its conjugates, an
+ * element of the subfield as it lies in the field. BF_UNSOLVABLE unless subfield_degree divides the degree of the
+ * field. BF_LENGTH unless values and norms have one length. BF_NOT_AN_ELEMENT unless each word that is read is below
+ * 2^degree. */
+uint32_t bf_field_norm_to(const bf_field *field, const bf_u128 *values, size_t values_length, size_t subfield_degree,
+    bf_u128 *norms, size_t norms_length) BF_CHECKED BF_NONNULL(1);
+
+/* The minimal polynomial of the element over GF(2), which is x^degree + tail: the irreducible polynomial of which
+ * the element is a root. BF_NOT_AN_ELEMENT unless element is one of the field. */
+uint32_t bf_field_minimal_polynomial(const bf_field *field, const bf_u128 *element, size_t *degree,
+    bf_u128 *tail) BF_CHECKED BF_NONNULL(1) BF_NONNULL(2) BF_NONNULL(3) BF_NONNULL(4);
+
+/* next: the least tail from tail on, as a number, with which x^degree + next is irreducible, for bf_field_init; from
+ * tail + 1 on it is the next after one. BF_UNSOLVABLE unless there is one, of a degree from 1 to 128. */
+uint32_t bf_field_next_irreducible(size_t degree, const bf_u128 *tail,
+    bf_u128 *next) BF_CHECKED BF_NONNULL(2) BF_NONNULL(3);
+
+/* next: the least tail from tail on, as a number, with which x^degree + next is primitive: it is irreducible, and x
+ * has the order 2^degree - 1 modulo it. BF_UNSOLVABLE unless there is one, of a degree from 1 to 128. */
+uint32_t bf_field_next_primitive(size_t degree, const bf_u128 *tail,
+    bf_u128 *next) BF_CHECKED BF_NONNULL(2) BF_NONNULL(3);
+
 /* root: an element of target that is a root of the modulus of source, by which bf_field_embed takes elements of
  * source to target. BF_UNSOLVABLE unless the degree of source divides that of target. */
 uint32_t bf_field_embedding(const bf_field *source, const bf_field *target,

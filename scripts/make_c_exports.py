@@ -91,6 +91,16 @@ field_primitive_element  chosen  fields::primitive_element  OverField field.now 
 result) element.old element.new result
 field_logarithm  chosen  fields::logarithm  OverField field.now (TakesLogarithms (chosen_field field.now) base.now values.now logarithms.old \
 logarithms.new result) logarithms.old logarithms.new result
+field_order  chosen  field_elements::order  OverField field.now (TakesOrders (chosen_field field.now) values.now orders.old orders.new result) \
+orders.old orders.new result
+field_trace_to  chosen  field_elements::trace_to  OverField field.now (TakesTracesOver (chosen_field field.now) subfield_degree values.now traces.old \
+traces.new result) traces.old traces.new result
+field_norm_to  chosen  field_elements::norm_to  OverField field.now (TakesNormsOver (chosen_field field.now) subfield_degree values.now norms.old norms.new \
+result) norms.old norms.new result
+field_minimal_polynomial  chosen  field_elements::minimal_polynomial  TakesMinimalPolynomialOver field.now element.now degree.old tail.old \
+degree.new tail.new result
+field_next_irreducible  chosen  moduli::irreducible  FindsIrreducible degree (wide_number tail.now) next.old next.new result
+field_next_primitive  chosen  moduli::primitive  FindsPrimitive degree (wide_number tail.now) next.old next.new result
 field_embedding  chosen  fields::embedding  FindsARootOver source.now target.now root.old root.new result
 field_embed  chosen  fields::embed  EmbedsOver source.now target.now root.now values.now images.old images.new result
 field_dot_product  chosen  fields::dot_product  OverField field.now (TakesDotProduct (chosen_field field.now) left.now right.now sum.old sum.new \
@@ -251,6 +261,9 @@ HOMES = {
         "VerifiesPrepared",
     ],
     "c_calls.specs.ChosenCodes": ["CorrectsWordsOver", "EncodesWordsOver", "TellsCodeWordsOver", "WritesSyndromesOver"],
+    "c_calls.specs.ChosenElements": [
+        "FindsIrreducible", "FindsPrimitive", "TakesMinimalPolynomialOver", "TakesNormsOver", "TakesOrders", "TakesTracesOver",
+    ],
     "c_calls.specs.Codes": ["CorrectsWords", "EncodesWords", "TellsCodeWords", "WritesSyndromes"],
     "c_calls.specs.InterleavedCodes": ["CorrectsInterleaved", "EncodesInterleaved", "WritesInterleavedSyndromes"],
     "c_calls.specs.ChosenFields": [

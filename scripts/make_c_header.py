@@ -113,6 +113,9 @@ def statuses_of(name, parameters, bits):
     if name == "field_init":
         yield "BF_REDUCIBLE", "that polynomial is irreducible, of a degree from 1 to 128, and tail has lower terms alone"
         return
+    if name in ("field_next_irreducible", "field_next_primitive"):
+        yield "BF_UNSOLVABLE", "there is one, of a degree from 1 to 128"
+        return
     if name.startswith("field_code_"):
         yield from field_code_statuses(name, parameters)
         return
@@ -185,6 +188,10 @@ def field_statuses(name, parameters):
         yield "BF_UNSOLVABLE", "there is one below 65536, as in every field that has been looked at"
     if name == "field_logarithm":
         yield "BF_UNSOLVABLE", "each element is a power of the base"
+    if name in ("field_trace_to", "field_norm_to"):
+        yield "BF_UNSOLVABLE", "subfield_degree divides the degree of the field"
+    if name == "field_minimal_polynomial":
+        yield "BF_NOT_AN_ELEMENT", "element is one of the field"
     if name == "field_embedding":
         yield "BF_UNSOLVABLE", "the degree of source divides that of target"
     if name == "field_embed":

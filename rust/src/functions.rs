@@ -2979,6 +2979,62 @@ unsafe extern "C" {
         logarithms: *mut [u64; 2],
         logarithms_length: usize,
     ) -> u32;
+    /// orders: the order of each element, the least exponent above 0 to which its power is 1, and 0 for 0, which has
+    /// none. BF_LENGTH unless values and orders have one length. BF_NOT_AN_ELEMENT unless each word that is read is
+    /// below 2^degree.
+    pub fn bf_field_order(
+        field: *const [u64; 5],
+        values: *const [u64; 2],
+        values_length: usize,
+        orders: *mut [u64; 2],
+        orders_length: usize,
+    ) -> u32;
+    /// traces: the trace of each element over the subfield of 2^subfield_degree elements: the sum of its conjugates,
+    /// an element of the subfield as it lies in the field. BF_UNSOLVABLE unless subfield_degree divides the degree of
+    /// the field. BF_LENGTH unless values and traces have one length. BF_NOT_AN_ELEMENT unless each word that is read
+    /// is below 2^degree.
+    pub fn bf_field_trace_to(
+        field: *const [u64; 5],
+        values: *const [u64; 2],
+        values_length: usize,
+        subfield_degree: usize,
+        traces: *mut [u64; 2],
+        traces_length: usize,
+    ) -> u32;
+    /// norms: the norm of each element over the subfield of 2^subfield_degree elements: the product of its
+    /// conjugates, an element of the subfield as it lies in the field. BF_UNSOLVABLE unless subfield_degree divides
+    /// the degree of the field. BF_LENGTH unless values and norms have one length. BF_NOT_AN_ELEMENT unless each word
+    /// that is read is below 2^degree.
+    pub fn bf_field_norm_to(
+        field: *const [u64; 5],
+        values: *const [u64; 2],
+        values_length: usize,
+        subfield_degree: usize,
+        norms: *mut [u64; 2],
+        norms_length: usize,
+    ) -> u32;
+    /// The minimal polynomial of the element over GF(2), which is x^degree + tail: the irreducible polynomial of
+    /// which the element is a root. BF_NOT_AN_ELEMENT unless element is one of the field.
+    pub fn bf_field_minimal_polynomial(
+        field: *const [u64; 5],
+        element: *const [u64; 2],
+        degree: *mut usize,
+        tail: *mut [u64; 2],
+    ) -> u32;
+    /// next: the least tail from tail on, as a number, with which x^degree + next is irreducible, for bf_field_init;
+    /// from tail + 1 on it is the next after one. BF_UNSOLVABLE unless there is one, of a degree from 1 to 128.
+    pub fn bf_field_next_irreducible(
+        degree: usize,
+        tail: *const [u64; 2],
+        next: *mut [u64; 2],
+    ) -> u32;
+    /// next: the least tail from tail on, as a number, with which x^degree + next is primitive: it is irreducible,
+    /// and x has the order 2^degree - 1 modulo it. BF_UNSOLVABLE unless there is one, of a degree from 1 to 128.
+    pub fn bf_field_next_primitive(
+        degree: usize,
+        tail: *const [u64; 2],
+        next: *mut [u64; 2],
+    ) -> u32;
     /// root: an element of target that is a root of the modulus of source, by which bf_field_embed takes elements of
     /// source to target. BF_UNSOLVABLE unless the degree of source divides that of target.
     pub fn bf_field_embedding(

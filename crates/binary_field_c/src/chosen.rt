@@ -1,5 +1,7 @@
 // Calls over slices of elements of a field that the caller chooses.
 // Written by scripts/make_c_exports.py; do not edit.
+ghost use Rattle.c_calls.specs.ChosenElements.{FindsIrreducible, FindsPrimitive, TakesMinimalPolynomialOver, TakesNormsOver};
+ghost use Rattle.c_calls.specs.ChosenElements.{TakesOrders, TakesTracesOver};
 ghost use Rattle.c_calls.specs.ChosenFields.{EmbedsOver, FindsARootOver, OverField, PreparesField, TakesLogarithms, TakesPrimitive};
 ghost use Rattle.c_calls.specs.ChosenFields.{TakesQuotients, TakesTraces, chosen_field};
 ghost use Rattle.c_calls.specs.Calls.{Adds, Evaluates, Inverts, Multiplies, MultipliesBy, RaisesTo, Squares, TakesDotProduct};
@@ -177,6 +179,76 @@ pub extern "C" fn bf_field_logarithm(
         logarithms.old logarithms.new result) logarithms.old logarithms.new result }
 {
     c_calls::fields::logarithm(*field, values, *base, logarithms)
+}
+
+/// The order of each element, the least exponent above 0 to which its power is 1, and 0 for 0, which has none.
+#[unsafe(no_mangle)]
+pub extern "C" fn bf_field_order(field: &ChosenField, values: &[Wide], orders: &mut [Wide]) -> u32
+    ensures { OverField field.now (TakesOrders (chosen_field field.now) values.now orders.old
+        orders.new result) orders.old orders.new result }
+{
+    c_calls::field_elements::order(*field, values, orders)
+}
+
+/// The trace of each element over the subfield of 2^subfield_degree elements: the sum of its conjugates, an element of the subfield as it
+/// lies in the field.
+#[unsafe(no_mangle)]
+pub extern "C" fn bf_field_trace_to(
+    field: &ChosenField,
+    values: &[Wide],
+    subfield_degree: u64,
+    traces: &mut [Wide],
+) -> u32
+    ensures { OverField field.now (TakesTracesOver (chosen_field field.now) subfield_degree
+        values.now traces.old traces.new result) traces.old traces.new result }
+{
+    c_calls::field_elements::trace_to(*field, values, subfield_degree, traces)
+}
+
+/// The norm of each element over the subfield of 2^subfield_degree elements: the product of its conjugates, an element of the subfield as
+/// it lies in the field.
+#[unsafe(no_mangle)]
+pub extern "C" fn bf_field_norm_to(
+    field: &ChosenField,
+    values: &[Wide],
+    subfield_degree: u64,
+    norms: &mut [Wide],
+) -> u32
+    ensures { OverField field.now (TakesNormsOver (chosen_field field.now) subfield_degree
+        values.now norms.old norms.new result) norms.old norms.new result }
+{
+    c_calls::field_elements::norm_to(*field, values, subfield_degree, norms)
+}
+
+/// The minimal polynomial of the element over GF(2), which is x^degree + tail: the irreducible polynomial of which the element is a root.
+#[unsafe(no_mangle)]
+pub extern "C" fn bf_field_minimal_polynomial(
+    field: &ChosenField,
+    element: &Wide,
+    degree: &mut usize,
+    tail: &mut Wide,
+) -> u32
+    ensures { TakesMinimalPolynomialOver field.now element.now degree.old tail.old degree.new tail.new result }
+{
+    c_calls::field_elements::minimal_polynomial(*field, *element, degree, tail)
+}
+
+/// The least tail from tail on, as a number, with which x^degree + next is irreducible, for field_init; from tail + 1 on it is the next
+/// after one.
+#[unsafe(no_mangle)]
+pub extern "C" fn bf_field_next_irreducible(degree: u64, tail: &Wide, next: &mut Wide) -> u32
+    ensures { FindsIrreducible degree (wide_number tail.now) next.old next.new result }
+{
+    c_calls::moduli::irreducible(degree, *tail, next)
+}
+
+/// The least tail from tail on, as a number, with which x^degree + next is primitive: it is irreducible, and x has the order 2^degree - 1
+/// modulo it.
+#[unsafe(no_mangle)]
+pub extern "C" fn bf_field_next_primitive(degree: u64, tail: &Wide, next: &mut Wide) -> u32
+    ensures { FindsPrimitive degree (wide_number tail.now) next.old next.new result }
+{
+    c_calls::moduli::primitive(degree, *tail, next)
 }
 
 /// An element of target that is a root of the modulus of source, by which field_embed takes elements of source to target.
