@@ -85,6 +85,11 @@ class ChosenField(FieldArray, metaclass=_Chosen):
         call("field_logarithm", self._field, _wide(self._words), _wide(base._words), logarithms)
         return np.asarray(logarithms["words"][..., 0].astype(object))
 
+    def _orders(self) -> Words:
+        orders = np.empty(self.shape, _WIDE)
+        call("field_order", self._field, _wide(self._words), orders)
+        return _numbers(orders)
+
     def _over(self, subfield: Any) -> tuple[Any, int]:
         subfield = Gf2 if subfield is None else subfield
         if self.degree % subfield.degree:
@@ -105,11 +110,37 @@ class ChosenField(FieldArray, metaclass=_Chosen):
         >>> bf.GF(2**4)([2]).field_trace(bf.GF(2**2)), bf.GF(2**4)([2]).field_norm(bf.GF(2**2)) ** 3
         (GF_2_7([0x1]), GF_2_7([0x1]))
         """
-        if subfield is not None and subfield._name != "gf2":
-            return super().field_trace(subfield)
-        result = self.zeros(self.shape)
-        call(f"{self._name}_trace", self._words, result._words)
-        return result._narrowed(Gf2)
+        return self._over_subfield("trace_to", subfield)
+
+    def field_norm(self, subfield: Any = None) -> Any:
+        """The norm of each element over a field whose degree divides that of this one, by default GF(2): the product of its conjugates, as
+        the element of that field whose image it is, as `embedded` has it.
+
+        >>> bf.GF(2**3)([0, 2]).field_norm()
+        Gf2([0x0, 0x1])
+        """
+        return self._over_subfield("norm_to", subfield)
+
+    def _over_subfield(self, name: str, subfield: Any) -> Any:
+        """What a function of the library gives of each element over a field whose degree divides that of this one, in that field."""
+        subfield, _ = self._over(subfield)
+        made, result = np.empty(self.shape, _WIDE), self.zeros(self.shape)
+        call(f"field_{name}", self._field, _wide(self._words), subfield.degree, made)
+        result._words[...] = _narrow(made, result._words.dtype)
+        return result._restricted(subfield)
+
+    def minimal_poly(self, subfield: Any = None) -> Poly:
+        """The monic polynomial of least degree over a field whose degree divides that of this one, by default GF(2), with this single element
+        as a root; and over this field with a square matrix as one.
+
+        >>> bf.GF(2**3)(2).minimal_poly()
+        Poly(x^3 + x + 1, Gf2)
+        """
+        if self.ndim or subfield is not None and subfield._name != "gf2":
+            return super().minimal_poly(subfield)
+        degree, tail = np.zeros((), WORDS["usize"]), np.zeros((), _WIDE)
+        call("field_minimal_polynomial", self._field, _wide(self._words), degree, tail)
+        return Poly.Int(1 << int(degree) | int(_numbers(tail)[()]))
 
 
 def _wide(words: Any) -> Words:
@@ -125,6 +156,12 @@ def _wide(words: Any) -> Words:
 def _narrow(words: Words, dtype: np.dtype[Any]) -> Words:
     """What words of 128 bits have in as many as a word of such a type."""
     return words if dtype == _WIDE else words["words"][..., 0]
+
+
+def _numbers(words: Words) -> Words:
+    """Words of 128 bits as Python's integers."""
+    halves = words["words"].astype(object)
+    return np.asarray(halves[..., 0] | halves[..., 1] << 64, dtype=object)
 
 
 class _Functions:

@@ -12,6 +12,8 @@ from typing import TYPE_CHECKING, Any, Iterator
 
 import numpy as np
 
+from . import _primitive
+
 if TYPE_CHECKING:
     from ._poly import Poly
 
@@ -149,6 +151,8 @@ def first_irreducible(degree: int, field: Any) -> Poly:
 
     if operator.index(degree) < 1:
         raise ValueError("a degree from 1 on is wanted")
+    if field.degree == 1 and degree <= _primitive._MOST_BITS:
+        return Poly.Int(_primitive.least("irreducible", degree))
     number = field.order**degree
     while not is_irreducible(Poly.Int(number, field)):
         number += 1

@@ -75,6 +75,11 @@ class Facts(Drawn):
         elements: Any = self
         if not elements.all():
             raise ArithmeticError(f"0 of {type(self).__name__} has no multiplicative order")
+        return self._integers(self._orders())
+
+    def _orders(self) -> Words:
+        """The orders of elements, of which none is 0."""
+        elements: Any = self
         group, orders = type(self).order - 1, np.full(self.shape, 1, dtype=object)
         for prime in self._group_primes():
             rest = group
@@ -84,7 +89,7 @@ class Facts(Drawn):
             while rest < group:
                 orders = np.where(power == 1, orders, orders * prime)
                 power, rest = power**prime, rest * prime
-        return self._integers(np.asarray(orders, dtype=object))
+        return np.asarray(orders, dtype=object)
 
     def additive_order(self) -> Any:
         """The least number above 0 of times that each element adds up to 0: 1 of 0, and else 2.

@@ -11,6 +11,10 @@ import math
 import operator
 from typing import TYPE_CHECKING, Any
 
+import numpy as np
+
+from ._library import WORDS, call
+
 if TYPE_CHECKING:
     from ._poly import Poly
 
@@ -124,12 +128,21 @@ def is_primitive(poly: Poly) -> bool:
     return pow(x, group, poly) == one and all(pow(x, group // it, poly) != one for it in primes_of_group(bits))
 
 
+def least(kind: str, degree: int) -> int:
+    """The least integer of an irreducible or a primitive polynomial over GF(2) of a degree up to 128, which the library finds."""
+    zero, found = np.zeros((), WORDS["u128"]), np.zeros((), WORDS["u128"])
+    call(f"field_next_{kind}", degree, zero, found)
+    return 1 << degree | int.from_bytes(found.tobytes(), "little")
+
+
 def first_primitive(degree: int, field: Any) -> Poly:
     """The monic primitive polynomial of a degree with the least integer, as `Poly.Int` takes it."""
     from ._poly import Poly
 
     if operator.index(degree) < 1:
         raise ValueError("a degree from 1 on is wanted")
+    if field.degree == 1 and degree <= _MOST_BITS:
+        return Poly.Int(least("primitive", degree))
     number = field.order**degree + 1
     while not is_primitive(Poly.Int(number, field)):
         number += 1

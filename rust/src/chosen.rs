@@ -55,6 +55,37 @@ impl ChosenField {
         Ok(ChosenField { words })
     }
 
+    /// The least tail from `tail` on, as a number, with which x^degree and its terms are irreducible, as `new` takes them; from `tail + 1` on
+    /// it is the next after one. `Error::Unsolvable` exactly where there is none, of a degree from 1 to 128.
+    ///
+    /// ```
+    /// use binary_field::chosen::ChosenField;
+    ///
+    /// assert_eq!(ChosenField::next_irreducible(8, 0), Ok(0x1b));
+    /// assert_eq!(ChosenField::next_irreducible(8, 0x1c), Ok(0x1d));
+    /// # Ok::<(), binary_field::Error>(())
+    /// ```
+    pub fn next_irreducible(degree: usize, tail: u128) -> Result<u128, Error> {
+        let (tail, mut next) = (halves(tail), [0; 2]);
+        Error::of(call!(bf_field_next_irreducible: degree, &raw const tail, &raw mut next))?;
+        Ok(whole(next))
+    }
+
+    /// The least tail from `tail` on, as a number, with which x^degree and its terms are primitive: irreducible, and x has the order
+    /// 2^degree - 1 modulo them. `Error::Unsolvable` exactly where there is none, of a degree from 1 to 128.
+    ///
+    /// ```
+    /// use binary_field::chosen::ChosenField;
+    ///
+    /// assert_eq!(ChosenField::next_primitive(8, 0), Ok(0x1d));
+    /// # Ok::<(), binary_field::Error>(())
+    /// ```
+    pub fn next_primitive(degree: usize, tail: u128) -> Result<u128, Error> {
+        let (tail, mut next) = (halves(tail), [0; 2]);
+        Error::of(call!(bf_field_next_primitive: degree, &raw const tail, &raw mut next))?;
+        Ok(whole(next))
+    }
+
     /// The degree of the modulus.
     pub fn degree(&self) -> usize {
         self.words[0] as usize
@@ -254,6 +285,91 @@ impl ChosenField {
             logarithms,
             |made| call!(bf_field_logarithm: &raw const self.words, [values], &raw const base, [mut made]),
         )
+    }
+
+    /// Writes the order of each element, the least exponent above 0 to which its power is 1, and 0 for 0, which has none.
+    ///
+    /// ```
+    /// use binary_field::chosen::ChosenField;
+    ///
+    /// let mut orders = [0; 4];
+    /// ChosenField::new(8, 0x1b)?.order(&[0, 1, 2, 3], &mut orders)?;
+    /// assert_eq!(orders, [0, 1, 51, 255]);
+    /// # Ok::<(), binary_field::Error>(())
+    /// ```
+    pub fn order(&self, values: &[u128], orders: &mut [u128]) -> Result<(), Error> {
+        let values = words_of(values);
+        self.written(
+            orders,
+            |made| call!(bf_field_order: &raw const self.words, [values], [mut made]),
+        )
+    }
+
+    /// Writes the trace of each element over the subfield of 2^degree elements, the sum of its conjugates, an element of the subfield as it
+    /// lies in this field: `Error::Unsolvable` exactly where `degree` does not divide that of this field.
+    ///
+    /// ```
+    /// use binary_field::{Error, chosen::ChosenField};
+    ///
+    /// let field = ChosenField::new(8, 0x1b)?;
+    /// let (mut traces, mut powers) = ([0; 1], [0; 1]);
+    /// field.trace_to(&[0x53], 4, &mut traces)?;
+    /// field.power(&traces, 16, &mut powers)?;
+    /// assert_eq!(powers, traces);
+    /// assert_eq!(field.trace_to(&[0x53], 3, &mut traces), Err(Error::Unsolvable));
+    /// # Ok::<(), Error>(())
+    /// ```
+    pub fn trace_to(
+        &self,
+        values: &[u128],
+        degree: usize,
+        traces: &mut [u128],
+    ) -> Result<(), Error> {
+        let values = words_of(values);
+        self.written(
+            traces,
+            |made| call!(bf_field_trace_to: &raw const self.words, [values], degree, [mut made]),
+        )
+    }
+
+    /// Writes the norm of each element over the subfield of 2^degree elements, the product of its conjugates, an element of the subfield as
+    /// it lies in this field: `Error::Unsolvable` exactly where `degree` does not divide that of this field.
+    ///
+    /// ```
+    /// use binary_field::chosen::ChosenField;
+    ///
+    /// let field = ChosenField::new(8, 0x1b)?;
+    /// let (mut norms, mut powers) = ([0; 1], [0; 1]);
+    /// field.norm_to(&[0x53], 4, &mut norms)?;
+    /// field.power(&[0x53], 17, &mut powers)?;
+    /// assert_eq!(norms, powers);
+    /// # Ok::<(), binary_field::Error>(())
+    /// ```
+    pub fn norm_to(&self, values: &[u128], degree: usize, norms: &mut [u128]) -> Result<(), Error> {
+        let values = words_of(values);
+        self.written(
+            norms,
+            |made| call!(bf_field_norm_to: &raw const self.words, [values], degree, [mut made]),
+        )
+    }
+
+    /// The minimal polynomial of an element over GF(2), as its degree and its other terms: the irreducible polynomial of which the element is
+    /// a root, as `new` takes it.
+    ///
+    /// ```
+    /// use binary_field::chosen::ChosenField;
+    ///
+    /// let field = ChosenField::new(8, 0x1b)?;
+    /// assert_eq!(field.minimal_polynomial(2), Ok((8, 0x1b)));
+    /// assert_eq!(field.minimal_polynomial(1), Ok((1, 1)));
+    /// # Ok::<(), binary_field::Error>(())
+    /// ```
+    pub fn minimal_polynomial(&self, element: u128) -> Result<(usize, u128), Error> {
+        let (element, mut degree, mut tail) = (halves(element), 0, [0; 2]);
+        Error::of(call!(
+            bf_field_minimal_polynomial: &raw const self.words, &raw const element, &raw mut degree, &raw mut tail
+        ))?;
+        Ok((degree, whole(tail)))
     }
 
     /// An element of `target` that is a root of the modulus of this field, by which `embed` takes elements there: `Error::Unsolvable` exactly
