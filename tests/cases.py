@@ -186,6 +186,7 @@ def chosen_cases(draw):
         yield case("field_logarithm", words, [power(generator, it) for it in exponents], generator, exponents, each=len(exponents))
         yield case("field_logarithm", words, [0, 1], 0, [1, 0], each=2)
         yield refused(case("field_logarithm", words, [1, 0], generator, [0, 0]), "BF_UNSOLVABLE")
+        yield from chosen_element_cases(words, modulus, left)
         dot = lambda a, b: definitions.total(times(x, y) for x, y in zip(a, b))
         value = lambda coefficients, x: definitions.total(times(c, power(x, i)) for i, c in enumerate(coefficients))
         for count in (0, 1, size):
@@ -215,8 +216,66 @@ def chosen_cases(draw):
     for degree, tail in ((0, 0), (0, 1), (129, 3), ((1 << 64) - 1, 1), (4, 0b101), (8, 0x11B), (8, 1), (8, 0), (2, 0), (128, 0), (64, 1 << 64 | 0x1B)):
         yield refused(case("field_init", [0], degree, tail), "BF_REDUCIBLE")
     yield from matrix_refusals(definitions.field_words(8, 1), 1, "BF_REDUCIBLE")
+    reducible = definitions.field_words(8, 1)
+    yield refused(case("field_order", reducible, [1], [0]), "BF_REDUCIBLE")
+    yield refused(case("field_trace_to", reducible, [1], 3, [0]), "BF_REDUCIBLE")
+    yield refused(case("field_norm_to", reducible, [1], 3, [0]), "BF_REDUCIBLE")
+    yield refused(case("field_minimal_polynomial", reducible, 1, [0], [0]), "BF_REDUCIBLE")
+    yield from modulus_cases()
     for name, values, each, status in embeddings.rows(draw):
         yield refused(case(name, *values), status) if status else case(name, *values, each=each)
+
+
+def chosen_element_cases(words, modulus, values):
+    """Orders, traces and norms over subfields and minimal polynomials of elements of a field that the caller chooses."""
+    degree, size = modulus.bit_length() - 1, len(values)
+    times = lambda a, b: definitions.chosen_product(modulus, a, b)
+    power = lambda a, exponent: definitions.chosen_power(modulus, a, exponent)
+    yield case("field_order", words, values, [order_of(a, power, degree) for a in values], each=size)
+    squared = lambda a: itertools.accumulate(range(degree - 1), lambda it, _: times(it, it), initial=a)
+    all_conjugates = [list(squared(a)) for a in values]
+    for over in (it for it in range(1, degree + 1) if degree % it == 0):
+        conjugates = [it[::over] for it in all_conjugates]
+        yield case("field_trace_to", words, values, over, [definitions.total(it) for it in conjugates], each=size)
+        yield case("field_norm_to", words, values, over, [functools.reduce(times, it, 1) for it in conjugates], each=size)
+        # The last is an element of the subfield.
+        for element in {*values[: 4 if over == 1 else 0], definitions.total(conjugates[-1])}:
+            found = definitions.minimal_polynomial(modulus, element)
+            least = found.bit_length() - 1
+            yield case("field_minimal_polynomial", words, element, [least], [found ^ 1 << least])
+    if degree < 128:
+        wrong = [1 << degree if it == size - 1 else a for it, a in enumerate(values)]
+        yield refused(case("field_order", words, wrong, [0] * size), "BF_NOT_AN_ELEMENT")
+        yield refused(case("field_trace_to", words, wrong, 1, [0] * size), "BF_NOT_AN_ELEMENT")
+        yield refused(case("field_norm_to", words, wrong, 1, [0] * size), "BF_NOT_AN_ELEMENT")
+        yield refused(case("field_minimal_polynomial", words, 1 << degree, [0], [0]), "BF_NOT_AN_ELEMENT")
+    for over in (0, 7 if degree % 7 else 5, degree + 1, 2 * degree, (1 << 32) + degree, 1 << 32):
+        for name in ("field_trace_to", "field_norm_to"):
+            yield refused(case(name, words, values, over, [0] * size), "BF_UNSOLVABLE")
+
+
+def order_of(a, power, degree):
+    """The order of an element, by the primes of that of the group, and 0 of 0."""
+    if not a:
+        return 0
+    order = (1 << degree) - 1
+    for prime in definitions.group_primes(degree):
+        while order % prime == 0 and power(a, order // prime) == 1:
+            order //= prime
+    return order
+
+
+def modulus_cases():
+    """Which irreducible and primitive polynomials come next."""
+    for degree, tail, irreducible, primitive in (
+        (1, 0, 0, 1), (1, 1, 1, 1), (2, 0, 3, 3), (8, 0, 0x1B, 0x1D), (8, 0x1C, 0x1D, 0x1D), (8, 0x1E, 0x2B, 0x2B), (64, 0, 0x1B, 0x1B),
+        (128, 0, 0x87, 0x87),
+    ):
+        yield case("field_next_irreducible", degree, tail, [irreducible])
+        yield case("field_next_primitive", degree, tail, [primitive])
+    for degree, tail in ((0, 0), (0, 1), (129, 3), ((1 << 32) + 8, 0x1B), ((1 << 64) - 1, 0), (8, 0x100), (1, 2), (2, 4)):
+        yield refused(case("field_next_irreducible", degree, tail, [0]), "BF_UNSOLVABLE")
+        yield refused(case("field_next_primitive", degree, tail, [0]), "BF_UNSOLVABLE")
 
 
 def matrix_refusals(words, entry, status):

@@ -201,6 +201,18 @@ def chosen_power(modulus, a, exponent):
     return result
 
 
+def minimal_polynomial(modulus, element):
+    """The polynomial of the least degree over GF(2) with an element as a root: the product of x and each conjugate of it, whose coefficients
+    are 0 and 1."""
+    coefficients, conjugate = [1], element
+    while True:
+        higher = [0, *coefficients]
+        coefficients = [a ^ b for a, b in zip(higher, [chosen_product(modulus, it, conjugate) for it in coefficients] + [0])]
+        conjugate = chosen_product(modulus, conjugate, conjugate)
+        if conjugate == element:
+            return sum(it << at for at, it in enumerate(coefficients))
+
+
 def field_words(degree, tail):
     """The words of a field that a caller chooses, as one number, the lowest first: the degree, the terms of the modulus below that, and two
     that are kept for later versions."""
