@@ -23,8 +23,8 @@ from ._storage import _Constants
 
 _MOST_BITS = 128
 _WIDE = WORDS["u128"]
-# Up to so many steps logarithms are those of the library, which takes about so many more for each element to find the order of the base.
-_MOST_STEPS, _STEPS_OF_ORDER = 1 << 18, 256
+# Up to so many steps logarithms are those of the library, which takes about so many more for the powers of each element.
+_MOST_STEPS, _STEPS_OF_POWERS = 1 << 18, 256
 # A polynomial over GF(2) as a caller gives it: an integer, a text, its coefficients from the highest on, or one of `Poly`.
 Polynomial = Union[int, str, Poly, Iterable[int]]
 # The fixed fields that are polynomials modulo one.
@@ -78,7 +78,7 @@ class ChosenField(FieldArray, metaclass=_Chosen):
         """Those to the primitive element: by one call of the library where that takes few steps, as it goes along the powers in a group of
         each prime order."""
         group = type(self).order - 1
-        steps = max((it for it in self._group_primes() if group % it == 0), default=1) + _STEPS_OF_ORDER
+        steps = max((it for it in self._group_primes() if group % it == 0), default=1) + _STEPS_OF_POWERS
         if self.size * steps > _MOST_STEPS:
             return super()._logarithms()
         base, logarithms = type(self).primitive_element, np.empty(self.shape, _WIDE)
