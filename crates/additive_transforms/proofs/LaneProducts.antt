@@ -163,8 +163,8 @@ all_vectors k s t a x product sum result times added is =
 -- ---- the butterflies of a stage
 
 -- what is woven are the results in each lane
-unwoven-same : (n : ℕ) (first second evens odds evens' odds' : ℕ → ℕ) → ((l : ℕ) → l < n → evens' l ≡ evens l) → ((l : ℕ) → l < n → odds' l ≡ odds l)
-    → n % 2 ≡ 0 → AreUnwoven n first second evens odds → AreUnwoven n first second evens' odds'
+unwoven-same : (n : ℕ) (first second evens odds evens' odds' : ℕ → ℕ) → ((l : ℕ) → l < n → evens' l ≡ evens l)
+    → ((l : ℕ) → l < n → odds' l ≡ odds l) → n % 2 ≡ 0 → AreUnwoven n first second evens odds → AreUnwoven n first second evens' odds'
 unwoven-same n first second evens odds evens' odds' even odd whole are =
     record {
       first_evens = λ l before. even l (omega (arith, before)) ∙ are.first_evens l before;
@@ -188,7 +188,8 @@ module _ (n : ℕ) (times : ℕ → ℕ → ℕ) (t low high lower upper first s
       → AreUnwoven n first second (lower_lane times t low high) (upper_lane times t low high)
   unwoven_before even are uppers lowers =
       unwoven-same n first second lower upper (lower_lane times t low high) (upper_lane times t low high) back
-      (λ l below. ap (bit_xor (high l)) (back l below) ∙ ap (λ (h : ℕ). bit_xor h (lower l)) (uppers l below) ∙ xor_twice (upper l) (lower l))
+      (λ l below. ap (bit_xor (high l)) (back l below) ∙ ap (λ (h : ℕ). bit_xor h (lower l)) (uppers l below)
+      ∙ xor_twice (upper l) (lower l))
       even are
     where
       xor_twice : (a b : ℕ) → bit_xor (bit_xor a b) b ≡ a

@@ -53,7 +53,8 @@ vectors_of_lane width k i q wide below few =
     ∙ zero-mul (slice_index (twiddle_basis width cantor_vector) t))
     ∙ sum_below-same (λ t. bit_at q t * slice_index (twiddle_basis width cantor_vector) t)
     (λ b. bit_at (i * 2 ^ k + q) b * cantor_vector (suc b)) k
-    (λ t within. ap₂ (λ (d v : ℕ). d * v) (sym (low_bit k i q t below within)) (basis_at width cantor_vector t (omega (arith, within, few))))
+    (λ t within. ap₂ (λ (d v : ℕ). d * v) (sym (low_bit k i q t below within))
+    (basis_at width cantor_vector t (omega (arith, within, few))))
 
 -- half as many coefficients, with s_n(x) times the upper ones added to the lower ones, have the same value
 folded : {width : ℕ} (times : ℕ → ℕ → ℕ) → 0 < width → IsRing width 1 times → (n : ℕ) (c : ℕ → ℕ) (x : ℕ)
@@ -108,7 +109,8 @@ module _ {width : ℕ} {times : ℕ → ℕ → ℕ} (wide : 0 < width) (ring : 
       reach : p < 2 ^ suc (length (twiddle_basis width cantor_vector))
       reach =
           let long = basis_length width cantor_vector wide in
-          let most : 2 ^ (k + suc n) ≤ 2 ^ suc (length (twiddle_basis width cantor_vector)) = pow-le-pow_right (lit< tt) (omega (arith, long, few)) in
+          let most : 2 ^ (k + suc n) ≤ 2 ^ suc (length (twiddle_basis width cantor_vector)) =
+          pow-le-pow_right (lit< tt) (omega (arith, long, few)) in
           omega (arith, most, inside)
 
   module _ (n k s : ℕ) (few : k + suc n ≤ width) (is : s ≡ subspace_value times n z) (low high first second : ℕ → ℕ)
@@ -164,7 +166,8 @@ module _ {width : ℕ} {times : ℕ → ℕ → ℕ} (wide : 0 < width) (ring : 
             ∙ ap₂ (λ (a b : ℕ). bit_xor a (times (bit_xor (bit_xor s (lane_twiddle k l)) (bit_at p n)) b))
             (sym (joint-first (2 ^ (k + n)) low high l lane))
             (sym (joint-second (2 ^ (k + n)) low high ((2 ^ n + i) * 2 ^ k + p / 2 ^ suc n) past ∙ ap high back))
-            ∙ ap (λ (t : ℕ). bit_xor (joint (2 ^ (k + n)) low high l) (times t (joint (2 ^ (k + n)) low high ((2 ^ n + i) * 2 ^ k + p / 2 ^ suc n))))
+            ∙ ap (λ (t : ℕ).
+            bit_xor (joint (2 ^ (k + n)) low high l) (times t (joint (2 ^ (k + n)) low high ((2 ^ n + i) * 2 ^ k + p / 2 ^ suc n))))
             (value_in_lane n k i p s few is inside)
 
     -- one stage fewer is left
@@ -218,7 +221,8 @@ module _ {width : ℕ} {times : ℕ → ℕ → ℕ} (wide : 0 < width) (ring : 
         → IsLaneStage times (slice_index shifts 3) 2 n c c' d d' → IsLaneStage times (slice_index shifts 2) 3 n d d' e e'
         → IsLaneStage times (slice_index shifts 1) 4 n e e' f f' → IsLaneStage times (slice_index shifts 0) 5 n f f' g g'
         → HoldInRows width times z (joint 32 a a') (joint 32 g g')
-    six_stages a b c d e f g a' b' c' d' e' f' g' a_fits b_fits c_fits d_fits e_fits f_fits g_fits first second third fourth fifth sixth p inside =
+    six_stages a b c d e f g a' b' c' d' e' f' g' a_fits b_fits c_fits d_fits e_fits f_fits g_fits
+        first second third fourth fifth sixth p inside =
         sym (left p inside ∙ one_value 6 (joint 32 g g') p (g_fits p))
       where
         target : ℕ → ℕ

@@ -117,7 +117,8 @@ fn transform_lanes_16<R: Unsigned, L: Level<R>, W: WordBytes<R>>(
     requires size { W.size ≡ 1 }
     ensures length { length words.new ≡ length words.old }
     ensures values { let element = level_element W.Holds.number L.LEVEL in
-        TakesTransform inverse (2 ^ L.LEVEL) (tower_mul L.LEVEL) cantor_vector (R.number z) (map element words.old) (map element words.new) }
+        TakesTransform inverse (2 ^ L.LEVEL) (tower_mul L.LEVEL) cantor_vector (R.number z) (map element words.old)
+        (map element words.new) }
 {
     let shifts = lane_shifts::<R, L>(z);
     transform_in_lanes::<R, W, _, Pair<u8x32>>(words, &shifts, 16, inverse);
@@ -134,7 +135,8 @@ fn transform_lanes_32<R: Unsigned, L: Level<R>, W: WordBytes<R>>(
     requires size { W.size ≡ 2 }
     ensures length { length words.new ≡ length words.old }
     ensures values { let element = level_element W.Holds.number L.LEVEL in
-        TakesTransform inverse (2 ^ L.LEVEL) (tower_mul L.LEVEL) cantor_vector (R.number z) (map element words.old) (map element words.new) }
+        TakesTransform inverse (2 ^ L.LEVEL) (tower_mul L.LEVEL) cantor_vector (R.number z) (map element words.old)
+        (map element words.new) }
 {
     let shifts = lane_shifts::<R, L>(z);
     transform_in_lanes::<R, W, _, Pair<Pair<u8x32>>>(words, &shifts, 32, inverse);

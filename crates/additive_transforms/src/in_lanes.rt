@@ -112,8 +112,8 @@ fn stage_before<R: Stored, W: WordBytes<R>, M: Copy, P: LanePlanes<M> + WordPlan
     requires few { bits ≤ 128 }
     requires fits { shift < 2 ^ bits }
     requires vectors { vectors ≤ 5 }
-    ensures { IsLaneStage (tower_mul (level_of P.Planes.depth)) shift vectors P.Planes.lanes (P.Planes.lane result.0) (P.Planes.lane result.1)
-        (P.Planes.lane first) (P.Planes.lane second) }
+    ensures { IsLaneStage (tower_mul (level_of P.Planes.depth)) shift vectors P.Planes.lanes (P.Planes.lane result.0)
+        (P.Planes.lane result.1) (P.Planes.lane first) (P.Planes.lane second) }
 {
     let multiples = P::multiples(shift, bits);
     let (lower, odds) = P::unwoven(first, second);

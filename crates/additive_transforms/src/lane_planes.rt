@@ -85,8 +85,8 @@ impl<M, P: LanePlanes<M>> LanePlanes<HalfMultiples<M>> for Pair<P> {
     ghost lanes_law = { P.lanes_law };
 }
 
-/// The sums, and the product of each lane of the factor by the Cantor vectors that belong to the set ones of the lowest bits of its number, so many:
-/// vector 1 to bit 0, and so on.
+/// The sums, and the product of each lane of the factor by the Cantor vectors that belong to the set ones of the lowest bits of its
+/// number, so many: vector 1 to bit 0, and so on.
 #[inline(always)]
 pub(crate) fn add_lane_products<M, P: LanePlanes<M>>(sums: P, factor: &P, bits: usize) -> P
     requires { bits ≤ 5 }

@@ -24,8 +24,8 @@ returns-then-inverse g c z are =
     c.args.shifts.now are (lane a.result.0) (lane j.result.0) (lane i.result.0) (lane h.result.0) (lane e.result.0) (lane f.result.0)
     (lane c.args.first) (lane a.result.1) (lane j.result.1) (lane i.result.1) (lane h.result.1) (lane e.result.1) (lane f.result.1)
     (lane c.args.second) (fits a.result.1) (fits j.result.1) (fits i.result.1) (fits h.result.1) (fits e.result.1) (fits f.result.1)
-    (joint-lt 32 (lane c.args.first) (lane c.args.second) (2 ^ 2 ^ k) (fits c.args.first) (fits c.args.second)) a.ensures j.ensures i.ensures
-    h.ensures e.ensures f.ensures)
+    (joint-lt 32 (lane c.args.first) (lane c.args.second) (2 ^ 2 ^ k) (fits c.args.first) (fits c.args.second)) a.ensures
+    j.ensures i.ensures h.ensures e.ensures f.ensures)
 
 pub returns-else-inverse : goal.returns-else-inverse
 returns-else-inverse g c z are =
@@ -44,5 +44,5 @@ returns-else-inverse g c z are =
     c.args.shifts.now are (lane c.args.first) (lane b.result.0) (lane e.result.0) (lane h.result.0) (lane i.result.0) (lane j.result.0)
     (lane f.result.0) (lane c.args.second) (lane b.result.1) (lane e.result.1) (lane h.result.1) (lane i.result.1) (lane j.result.1)
     (lane f.result.1) (fits c.args.second) (fits b.result.1) (fits e.result.1) (fits h.result.1) (fits i.result.1) (fits j.result.1)
-    (joint-lt 32 (lane f.result.0) (lane f.result.1) (2 ^ 2 ^ k) (fits f.result.0) (fits f.result.1)) b.ensures e.ensures h.ensures i.ensures
-    j.ensures f.ensures)
+    (joint-lt 32 (lane f.result.0) (lane f.result.1) (2 ^ 2 ^ k) (fits f.result.0) (fits f.result.1)) b.ensures
+    e.ensures h.ensures i.ensures j.ensures f.ensures)

@@ -13,8 +13,8 @@ run_halves-returns-then-inverse-clause-values g t c =
     held_back by.width by.product by.vector (by.number c.args.z) (map by.value c.args.values.now) (map by.value stage.new.values)
     c.args.inverse c.if-inverse.true
     (halves_joined laws.wide_law laws.ring_law laws.vector_law by.value laws.range_law (by.number c.args.z) c.requires.few
-    (length halves.new.values) (c.is_at_once.ensures c.if-is_at_once.false) stage.new.values halves.new.values c.args.values.now (stage.ensures.length ∙ middle_length)
-    middle_length middle_length stage.ensures.stage halves.ensures.lower halves.ensures.upper)
+    (length halves.new.values) (c.is_at_once.ensures c.if-is_at_once.false) stage.new.values halves.new.values c.args.values.now
+    (stage.ensures.length ∙ middle_length) middle_length middle_length stage.ensures.stage halves.ensures.lower halves.ensures.upper)
 
 pub run_halves-returns-clause-values : goal.run_halves-returns-clause-values
 run_halves-returns-clause-values g t c =

@@ -14,6 +14,7 @@ returns g c v byte are l below =
     let fits = g.met.P.Planes.fits_law in
     let x = c.args.self.now in
     let y = c.args.factor.now in
-    ap₂ (pair (2 ^ level_of g.P.Planes.depth)) (c.add_product_where.ensures v byte are l below) (c.add_product_where-2.ensures v byte are l below)
+    ap₂ (pair (2 ^ level_of g.P.Planes.depth)) (c.add_product_where.ensures v byte are l below)
+    (c.add_product_where-2.ensures v byte are l below)
     ∙ pair_added g.P.Planes.depth v (bit_at l c.args.bit) (lane x.low l) (lane x.high l) (lane y.low l) (lane y.high l) byte
     (bit_at-lt l c.args.bit) (fits x.low l) (fits y.low l) (fits y.high l)
