@@ -27,14 +27,14 @@ transform_lanes_16-requires-clause-size g c =
 
 pub transform_lanes_32-requires-clause-size : goal.transform_lanes_32-requires-clause-size
 transform_lanes_32-requires-clause-size g c =
-    let four : c.in_sixteen-2.result ≡ 4 = omega arith in
-    four_bytes g.W.WordBytes.size c.in_sixteen-2.result c.in_sixteen-2.ensures.bytes four
+    let four : c.in_sixteen-then-LEVEL-eq5.result ≡ 4 = omega arith in
+    four_bytes g.W.WordBytes.size c.in_sixteen-then-LEVEL-eq5.result c.in_sixteen-then-LEVEL-eq5.ensures.bytes four
 
 pub returns-clause-values : goal.returns-clause-values
 returns-clause-values g c =
     let z = g.R.Stored.number c.args.z in
     let k = g.L.Level.LEVEL in
     all_from cantor_vector (tower_ring k) (level_element g.W.Reads.number k) (λ x. mod-lt (g.W.Reads.number x) (pow_pos (2 ^ k))) z
-    c.requires.few (pow_pos k) (level_vectors k g.met.L.Level.few) c.args.values.now c.stages_from.new.values
+    c.requires.few (pow_pos k) (level_vectors k g.L.Level.few) c.args.values.now c.stages_from.new.values
     c.requires.stages.1 (c.stages_from.ensures.length ∙ c.requires.stages.1) c.args.inverse
     (c.stages_from.ensures.stages z (first_subspace_value (tower_mul k) z))
