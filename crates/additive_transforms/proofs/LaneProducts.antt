@@ -5,7 +5,7 @@ use Rattle.std.specs.Int.{bit_at}
 use Rattle.std.specs.Simd.Lanes.{chunk, zip2}
 use Rattle.std.proofs.lemmas.Nat.Bits.{bit_at-lt}
 use Rattle.std.proofs.lemmas.Simd.{get_or-chunk, get_or-zip2, length-chunk}
-use native.Mathlib.Nat.{mod-lt, one-mul, zero-mul}
+use native.Mathlib.Nat.{one-mul, zero-mul}
 use lib.Bits.{and_mask, and_zero_r, xor_assoc, xor_comm, xor_zero_r}
 use Rattle.field_base.specs.Basis.{sum_below}
 use Rattle.field_base.specs.BitRingLemmas.{two_cases}

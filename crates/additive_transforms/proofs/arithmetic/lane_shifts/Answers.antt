@@ -1,4 +1,4 @@
-use Rattle.std.proofs.Common.{◌≡◌, ◌⊎◌, inl, inr, ℕ, zero, suc, List, ◌+◌, ◌-◌, ◌<◌, ◌≤◌, ◌≢◌, length, get_or, get_or-set_other, get_or-set_same, below_more, refl, sym, ◌∙◌, ap, subst, arith, rules}
+use Rattle.std.proofs.Common.{◌≡◌, ◌⊎◌, inl, inr, ℕ, zero, suc, ◌+◌, ◌-◌, ◌<◌, ◌≤◌, ◌≢◌, length, get_or, get_or-set_other, get_or-set_same, below_more, refl, ◌∙◌, ap, subst, arith, rules}
 use Rattle.std.specs.Prelude.{replicate}
 use Rattle.std.proofs.lemmas.Bool.{cases_lt}
 use Rattle.field_base.specs.Tower.{tower_mul}
@@ -6,10 +6,12 @@ use Rattle.ghash_slices.specs.Cantor.{subspace_value}
 use Rattle.additive_transforms.proofs.SubspaceSteps.{first_subspace_value, next_subspace_value}
 use Rattle.additive_transforms.proofs.arithmetic.lane_shifts.Goals as goal
 
+-- the shift of the lowest stage is the number itself
 first : (times : ℕ → ℕ → ℕ) (v z i : ℕ) → v ≡ z → i < 1 → get_or (replicate 6 v) i 0 ≡ subspace_value times i z
 first times v z zero is below = is ∙ first_subspace_value times z
 first times v z (suc i) is below = absurd (omega arith)
 
+-- what stands alike in six places fits in each, and beyond them 0 does
 all_fit : (v most i : ℕ) → v < most → get_or (replicate 6 v) i 0 < most
 all_fit v most zero fits = fits
 all_fit v most (suc zero) fits = fits

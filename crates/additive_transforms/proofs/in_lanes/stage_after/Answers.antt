@@ -1,4 +1,4 @@
-use Rattle.std.proofs.Common.{ℕ, arith}
+use Rattle.std.proofs.Common.{arith}
 use Rattle.std.specs.Prelude.{bit_xor}
 use Rattle.field_base.specs.Tower.{tower_mul}
 use Rattle.additive_transforms.specs.Lanes.{lane_twiddle}
