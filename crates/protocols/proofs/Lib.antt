@@ -13,6 +13,7 @@ mod PointSums
 pub mod ProductSums
 pub mod ProofBytes
 mod RootColumns
+mod ScaledTables
 mod SchemeBits
 pub mod SchemeRuns
 pub mod SchemeTurns
