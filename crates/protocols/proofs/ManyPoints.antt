@@ -142,7 +142,7 @@ module _ (width : ℕ) (times : ℕ → ℕ → ℕ) (field : IsField width time
           ⊎ ((j : ℕ) × (j < p) × Root j)
           → True ⊎ Lucky
       within (inl each) = inl (λ i j inside below. each j below i inside)
-      within (inr lucky) = inr (inl lucky)
+      within (inr lucky) = inr (inl (lucky.0, lucky.1, lucky.2.0, lucky.2.1))
 
   sum-told : sum ≡ multilinear_value times (true_values times n count p tables points mix) weights → True ⊎ Lucky
   sum-told same =
@@ -391,13 +391,13 @@ module _ {C F : Type 0} (observes gives : C → F → C → Type 0) (passing : C
     at-long : length at ≡ n
     at-long = length-map a.verdict.at repr ∙ a.verdict.reduced.challenge_count
 
-    abbrev messages : List (List ℕ)
-    messages = map (map repr) (messages_of 2 n a.sent.messages)
+    abbrev sent_messages : List (List ℕ)
+    sent_messages = map (map repr) (messages_of 2 n a.sent.messages)
 
     abbrev Holds : (ℕ → ℕ → List ℕ) → List ℕ → Type 0
     Holds column tables =
         HoldAtPoints width times vector (row_levels m n) 2 e (2 ^ length first) n (length roots) a.p column (map repr a.sent.values)
-        (map repr a.points) (map repr a.verdict.mix) (map repr a.verdict.weights) at messages (map repr a.verdict.opened.challenges)
+        (map repr a.points) (map repr a.verdict.mix) (map repr a.verdict.weights) at sent_messages (map repr a.verdict.opened.challenges)
         (map repr a.sent.tables.values) tables
 
     holds : (column : ℕ → ℕ → List ℕ) (tables : List ℕ) → ((i : ℕ) → slice_index tables i < 2 ^ width)
@@ -411,7 +411,7 @@ module _ {C F : Type 0} (observes gives : C → F → C → Type 0) (passing : C
       evaluates = told held.evaluates;
     }
       where
-        abbrev Value : ℕ → ℕ → Type 0
+        Value : ℕ → ℕ → Type 0
         Value l i = slice_index (map repr a.sent.tables.values) i ≡ multilinear_value times (table_at l tables i) at
 
         told : ((i : ℕ) → i < length roots → Value (length at) i)
@@ -421,14 +421,14 @@ module _ {C F : Type 0} (observes gives : C → F → C → Type 0) (passing : C
             → slice_index (row_at (length roots) (map repr a.sent.values) j) i
             ≡ multilinear_value times (table_at n tables i) (row_at n (map repr a.points) j))
             ⊎ HasLuckyMix width times n (length roots) a.p (map repr a.sent.values) (map repr a.points) (map repr a.verdict.mix)
-            (map repr a.verdict.weights) at messages tables
+            (map repr a.verdict.weights) at sent_messages tables
             ⊎ ((l : ℕ) × IsRootAt times (value_differences times (length (map repr a.verdict.opened.challenges)) (map repr a.sent.tables.values) tables
             at) (map repr a.verdict.opened.challenges) l)
         told (inr lucky) = inr (inr lucky)
         told (inl equal) =
             joined
             (points-show width times field wide root saved n (length roots) a.p tables (map repr a.sent.values) (map repr a.points)
-            (map repr a.verdict.mix) (map repr a.verdict.weights) at (map repr a.sent.tables.values) messages fits
+            (map repr a.verdict.mix) (map repr a.verdict.weights) at (map repr a.sent.tables.values) sent_messages fits
             (λ j i.
             subst (λ (l : List ℕ). slice_index l i < 2 ^ width) (sym (row-map repr (length roots) a.sent.values j))
             (numbers-lt repr width range (row_at (length roots) a.sent.values j) i))

@@ -1,5 +1,5 @@
 -- Tables that challenges combine, and weights that combine eq of points: their values at a point, and the sum of their products.
-use Rattle.std.proofs.Common.{◌≡◌, ◌⊎◌, inl, inr, ℕ, zero, suc, ◌+◌, ◌*◌, ◌^◌, ◌<◌, ◌≤◌, List, [], ◌∷◌, length, map, sym, ◌∙◌, ap, ap₂, subst, arith}
+use Rattle.std.proofs.Common.{◌≡◌, ◌⊎◌, inl, inr, ℕ, zero, suc, ◌+◌, ◌*◌, ◌^◌, ◌<◌, ◌≤◌, List, [], ◌∷◌, length, map, refl, sym, ◌∙◌, ap, ap₂, subst, arith}
 use Rattle.std.specs.Prelude.{◌≢◌, bit_xor, slice_index}
 use Rattle.std.specs.List.{range_with_len}
 use Rattle.std.proofs.lemmas.Bool.{cases_lt}
@@ -81,7 +81,7 @@ module _ (width : ℕ) (times : ℕ → ℕ → ℕ) (ring : IsRing width 1 time
           ∙ eq_corner-upper width times ring x xs i (subst (λ (n : ℕ). i < 2 ^ n) (sym fewer) below))
           ∙ scaled-sum x (eq_corner times xs) (eq_corner times ys) (2 ^ length ys)
 
-  eq-fits : 0 < width → (xs : List ℕ) (i : ℕ) → eq_corner times xs i < 2 ^ width
+  pub eq-fits : 0 < width → (xs : List ℕ) (i : ℕ) → eq_corner times xs i < 2 ^ width
   unfolding eq_corner
   eq-fits wide [] i = pow_below 0 width wide
   eq-fits wide (x ∷ xs) i = ring.below _ (eq_corner times xs i)
@@ -119,7 +119,7 @@ module _ (width : ℕ) (times : ℕ → ℕ → ℕ) (ring : IsRing width 1 time
             ∙ sym (listed-past (λ j. value_of times (t j) at) count i past)
 
   -- .. and of weights it is that of eq of the points and this one
-  pub weights-value : 0 < width → (n p : ℕ) (z : ℕ → List ℕ) → ((j : ℕ) → j < p → length (z j) ≡ n) → (weights at : List ℕ) → length at ≡ n
+  pub weights-value : (wide : 0 < width) (n p : ℕ) (z : ℕ → List ℕ) → ((j : ℕ) → j < p → length (z j) ≡ n) → (weights at : List ℕ) → length at ≡ n
       → multilinear_value times (map (combined_at (λ j. eq_corner times (z j)) (λ j. eq-fits wide (z j)) p weights) (range_with_len 0 (2 ^ n))) at
       ≡ multilinear_value times (map (λ j. eq_point times (z j) at) (range_with_len 0 p)) weights
   weights-value wide n p z long weights at same =
