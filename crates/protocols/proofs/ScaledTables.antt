@@ -3,8 +3,9 @@ use Rattle.std.proofs.Common.{◌≡◌, ℕ, zero, suc, ◌+◌, ◌*◌, ◌^�
 use Rattle.std.specs.Prelude.{bit_xor, slice_index}
 use Rattle.std.specs.List.{range_with_len}
 use Rattle.std.specs.Simd.Lanes.{zip2}
+use Rattle.std.proofs.Math.Nat.{mul-le-mul_right}
 use Rattle.std.proofs.lemmas.Grind.{same_number_lists}
-use Rattle.std.proofs.lemmas.List.{length-map, length-replicate}
+use Rattle.std.proofs.lemmas.List.{length-map}
 use Rattle.std.proofs.lemmas.List.FromFn.{length-map-range_with_len}
 use Rattle.std.proofs.lemmas.Simd.{get_or-zip2, length-zip2}
 use Rattle.field_base.specs.Basis.{sum_below}
@@ -20,22 +21,31 @@ pub factor-some : (a b x : ℕ) → x < a * b → 0 < b
 factor-some a zero x below = absurd (omega (arith, below))
 factor-some a (suc b) x below = omega arith
 
+-- a row of rows of one length is one of them
+pub row-inside : {X : Type 0} (rows : List X) (count size i : ℕ) → length rows ≡ count * size → i < count → (i + 1) * size ≤ length rows
+row-inside rows count size i long below =
+    let more : i + 1 ≤ count = omega (arith, below) in
+    let room = mul-le-mul_right size more in
+    omega (arith, room, long)
+
+-- zeros are 0 at each place
+pub zeros-at : {F : Type 0} (repr : F → ℕ) (nothing : F) → repr nothing ≡ 0 → (size : ℕ) (list : List F) → list ≡ replicate size nothing → (x : ℕ)
+    → slice_index (map repr list) x ≡ 0
+zeros-at repr nothing is size list same x = ap (λ (l : List _). slice_index (map repr l) x) same ∙ padded-same repr [] nothing is size x
+
 module _ {F : Type 0} (repr : F → ℕ) (times : ℕ → ℕ → ℕ) (scalars : List ℕ) (t : ℕ → ℕ → ℕ) (size : ℕ) where
   -- element x of the sum of the first n tables times their scalars
   abbrev pub scaled_at : ℕ → ℕ → ℕ
   scaled_at n x = sum_below (λ i. times (slice_index scalars i) (t i x)) n
 
   -- no tables
-  pub scaled-none : (nothing : F) → repr nothing ≡ 0 → map repr (replicate size nothing) ≡ map (scaled_at 0) (range_with_len 0 size)
-  scaled-none nothing is =
-      same_number_lists (map repr (replicate size nothing)) (map (scaled_at 0) (range_with_len 0 size)) (long ∙ sym (length-map-range_with_len (scaled_at 0) 0 size))
+  pub scaled-none : (old : List F) → length old ≡ size → ((x : ℕ) → slice_index (map repr old) x ≡ 0)
+      → map repr old ≡ map (scaled_at 0) (range_with_len 0 size)
+  scaled-none old long zeros =
+      same_number_lists (map repr old) (map (scaled_at 0) (range_with_len 0 size)) (length-map old repr ∙ long ∙ sym (length-map-range_with_len (scaled_at 0) 0 size))
       (λ x within.
-      padded-same repr [] nothing is size x
-      ∙ sym (sum_below-none (λ i. times (slice_index scalars i) (t i x)))
-      ∙ sym (listed-at (scaled_at 0) size x (subst (λ (l : ℕ). x < l) long within)))
-    where
-      long : length (map repr (replicate size nothing)) ≡ size
-      long = length-map (replicate size nothing) repr ∙ length-replicate size nothing
+      zeros x ∙ sym (sum_below-none (λ i. times (slice_index scalars i) (t i x)))
+      ∙ sym (listed-at (scaled_at 0) size x (subst (λ (l : ℕ). x < l) (length-map old repr ∙ long) within)))
 
   -- one table more
   pub scaled-more : (old new : List F) (n scalar : ℕ) (table : List ℕ) → map repr old ≡ map (scaled_at n) (range_with_len 0 size)

@@ -85,6 +85,20 @@ fn sample_weights<F: Field, C: CanSample<F>, A: Allocator>(
     Ok(weights)
 }
 
+// Adds to zeros the elements at each place of tables of as many, each times the table's scalar.
+fn add_tables<F: Field>(sums: &mut [F], scalars: &[F], tables: &[&[F]])
+    requires scalars { length tables.now ≤ length scalars.now }
+    requires tables { All (λ table. length table.now ≡ length sums.old) tables.now }
+    requires zeros { (x : ℕ) → slice_index (map F.repr sums.old) x ≡ 0 }
+    ensures { map F.repr sums.new ≡ map (λ x. sum_below (λ i. F.product (slice_index (map F.repr scalars.now) i)
+        (slice_index (map F.repr (get_or (map (λ table. table.now) tables.now) i [])) x)) (length tables.now))
+        (range_with_len 0 (length sums.old)) }
+{
+    'tables: for index in 0..tables.len() {
+        add_scaled_slice(sums, scalars[index], tables[index]);
+    }
+}
+
 // The combination by challenges of tables of 2^variables elements each: at each place the value at the challenges of the tables' elements
 // there.
 fn combine_tables<F: Field, A: Allocator + Copy>(
@@ -102,12 +116,35 @@ fn combine_tables<F: Field, A: Allocator + Copy>(
         (range_with_len 0 (2 ^ variables))) }
 {
     let scalars = eq_poly(alloc, challenges)?;
-    let scalars = scalars.as_slice();
-    let mut sums = F::zero_vec(alloc, power_of_two(variables))?;
-    'tables: for index in 0..tables.len() {
-        add_scaled_slice(sums.as_mut_slice(), scalars[index], tables[index]);
-    }
+    let size = power_of_two(variables);
+    let mut sums = F::zero_vec(alloc, size)?;
+    add_tables(sums.as_mut_slice(), scalars.as_slice(), tables);
     Ok(sums)
+}
+
+// Adds to zeros eq of each point and the corners, times the point's scalar.
+fn add_corners<F: Field, A: Allocator + Copy>(
+    alloc: A,
+    sums: &mut [F],
+    scalars: &[F],
+    points: &[F],
+    count: usize,
+    variables: usize,
+) -> Result<(), AllocError>
+    requires few { variables ≤ 39 }
+    requires scalars { count ≤ length scalars.now }
+    requires points { length points.now ≡ count * variables }
+    requires corners { length sums.old ≡ 2 ^ variables }
+    requires zeros { (x : ℕ) → slice_index (map F.repr sums.old) x ≡ 0 }
+    ensures { IfOk result (λ done. map F.repr sums.new ≡ map (λ x. sum_below (λ j. F.product (slice_index (map F.repr scalars.now) j)
+        (eq_corner F.product (row_at variables (map F.repr points.now) j) x)) count) (range_with_len 0 (2 ^ variables))) }
+{
+    'points: for place in 0..count {
+        let point = row_of(points, variables, place);
+        let corners = eq_poly(alloc, point)?;
+        add_scaled_slice(sums, scalars[place], corners.as_slice());
+    }
+    Ok(())
 }
 
 // The weights of points at the corners: at each the combination by challenges of eq(point, corner).
@@ -126,12 +163,10 @@ fn weigh_corners<F: Field, A: Allocator + Copy>(
         ≡ corner_weights F.product variables count (map F.repr points.now) (map F.repr challenges.now)) }
 {
     let scalars = eq_poly(alloc, challenges)?;
-    let scalars = scalars.as_slice();
-    let mut sums = F::zero_vec(alloc, power_of_two(variables))?;
-    'points: for place in 0..count {
-        let corners = eq_poly(alloc, row_of(points, variables, place))?;
-        add_scaled_slice(sums.as_mut_slice(), scalars[place], corners.as_slice());
-    }
+    let size = power_of_two(variables);
+    let mut sums = F::zero_vec(alloc, size)?;
+    let corners = sums.as_mut_slice();
+    add_corners(alloc, corners, scalars.as_slice(), points, count, variables)?;
     Ok(sums)
 }
 
@@ -184,11 +219,11 @@ pub fn open_points<
     let (left, right) = (table.as_slice(), corners.as_slice());
     let summed = prove_sum(alloc, challenger, left, right, variables)?;
     let at = summed.point.as_slice();
-    let tables = open_tables(alloc, challenger, parameters, held, at)?;
+    let opened = open_tables(alloc, challenger, parameters, held, at)?;
     Ok(OpenedPoints {
         values,
         messages: summed.messages,
-        tables,
+        tables: opened,
     })
 }
 
