@@ -216,7 +216,8 @@ pub fn open_points<
     let weights = sample_weights(alloc, challenger, count)?;
     let table = combine_tables(alloc, tables, mix.as_slice(), variables)?;
     let corners = weigh_corners(alloc, points, count, weights.as_slice(), variables)?;
-    let (left, right) = (table.as_slice(), corners.as_slice());
+    let left = table.as_slice();
+    let right = corners.as_slice();
     let summed = prove_sum(alloc, challenger, left, right, variables)?;
     let at = summed.point.as_slice();
     let opened = open_tables(alloc, challenger, parameters, held, at)?;
@@ -340,21 +341,25 @@ pub fn verify_points<
     ensures memory { C.has_failed challenger.old ≡ false → length opened.now.values.items ≡ count * length roots.now
         → length opened.now.messages.items ≡ 2 * parameters.now.variables → IfErr result (λ error. error ≡ Memory) }
 {
-    let (tables, values) = (roots.len(), opened.values.as_slice());
-    if values.len() != count * tables {
+    let tables = roots.len();
+    let values = opened.values.as_slice();
+    let wanted = count * tables;
+    if values.len() != wanted {
         return Err(ProtocolError::Length);
     }
     let mix = sample_challenges(alloc, challenger, tables, points, values)?;
     let weights = sample_weights(alloc, challenger, count)?;
-    let (mix, weights) = (mix.as_slice(), weights.as_slice());
-    let sum = combine_values(alloc, values, tables, count, mix, weights)?;
+    let combining = mix.as_slice();
+    let weighing = weights.as_slice();
+    let sum = combine_values(alloc, values, tables, count, combining, weighing)?;
     let messages = opened.messages.as_slice();
     let reduced = reduce_sum(alloc, challenger, parameters.variables, sum, messages)?;
-    let (at, proof) = (reduced.point.as_slice(), &opened.tables);
+    let proof = &opened.tables;
+    let at = reduced.point.as_slice();
     let opens = verify_tables(alloc, hasher, challenger, parameters, roots, at, proof)?;
     let left = proof.values.as_slice();
     let holds = claim_holds(
-        alloc, tables, points, count, mix, weights, &reduced, left,
+        alloc, tables, points, count, combining, weighing, &reduced, left,
     )?;
     Ok(both(opens, holds))
 }

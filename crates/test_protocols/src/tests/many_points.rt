@@ -102,7 +102,16 @@ fn is_accepted<A: Allocator + Copy>(
         return Ok(false);
     }
     let roots = &sent.roots;
-    verify_points(alloc, &Sha256Hasher, verifier, &sizes, roots, points, count, &sent.opened)
+    verify_points(
+        alloc,
+        &Sha256Hasher,
+        verifier,
+        &sizes,
+        roots,
+        points,
+        count,
+        &sent.opened,
+    )
 }
 
 // Adds 1 to the element at a place, if there is one.

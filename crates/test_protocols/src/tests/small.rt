@@ -134,7 +134,16 @@ fn is_accepted<A: Allocator + Copy>(alloc: A, opening: &Opening) -> Result<bool,
         },
     };
     let (hasher, root) = (&Sha256Hasher, opening.root);
-    verify_small(alloc, hasher, &mut verifier, &sizes, &small, root, &claim, &proof)
+    verify_small(
+        alloc,
+        hasher,
+        &mut verifier,
+        &sizes,
+        &small,
+        root,
+        &claim,
+        &proof,
+    )
 }
 
 // Adds 1 to the element at a place, if there is one.

@@ -72,7 +72,7 @@ returns g c =
     λ (c' x : ℕ). multilinear_value times (map repr (get_or tables (x % c') [])) (map repr (row_at n points (x / c'))) in
     honest-points observes gives passing checks gives_bits repr bytes field.width times vector honest_reduces g.met.F.Field.field_law field.range_law
     (omega (arith, c.requires.points)) m n tables held p points
-    (record { values = values; messages = summed.messages.items; tables = left; })
+    (record { values = values; messages = summed.messages.items; tables = left })
     summed.sum mix weights combined weighing summed.point.items c.args.challenger.now mixed weighed between c.open_tables.new.challenger
     (many ∙ c.requires.count ∙ sym (length-map c.args.held.now (λ h. (h.now.columns.items, h.now.tree))))
     c.requires.coordinates
