@@ -1,5 +1,5 @@
-// Several committed tables of one shape, opened at several points by one proof: a sum-check brings the points to one, at which the tables are
-// opened by `joint_tables`. The sizes are those of `commitment_scheme`.
+// Several committed tables of one shape, opened at several points by one proof: a sum-check brings the points to one, at which the tables
+// are opened by `joint_tables`. The sizes are those of `commitment_scheme`.
 ghost use Rattle.std.specs.Prelude.{◌≡◌, ◌↔◌, ◌+◌, ◌*◌, ◌/◌, ◌%◌, ◌^◌, ◌<◌, ◌≤◌, ◌++◌, [], ℕ, false, get_or, length, map, drop};
 ghost use Rattle.std.specs.Prelude.{All, IfErr, IfOk, IsTrue, OnOk, bit_xor, slice_index};
 ghost use Rattle.std.specs.List.{range_with_len};
@@ -112,8 +112,8 @@ fn combine_tables<F: Field, A: Allocator + Copy>(
     requires room { length tables.now ≤ 2 ^ length challenges.now }
     requires tables { All (λ table. length table.now ≡ 2 ^ variables) tables.now }
     ensures { IfOk result (λ sums. map F.repr sums.items ≡ map (λ x. multilinear_value F.product (map (λ i. slice_index
-        (map F.repr (get_or (map (λ table. table.now) tables.now) i [])) x) (range_with_len 0 (length tables.now))) (map F.repr challenges.now))
-        (range_with_len 0 (2 ^ variables))) }
+        (map F.repr (get_or (map (λ table. table.now) tables.now) i [])) x) (range_with_len 0 (length tables.now)))
+        (map F.repr challenges.now)) (range_with_len 0 (2 ^ variables))) }
 {
     let scalars = eq_poly(alloc, challenges)?;
     let size = power_of_two(variables);
@@ -172,11 +172,11 @@ fn weigh_corners<F: Field, A: Allocator + Copy>(
 
 /// Opens the values of up to 256 tables that `commitment_scheme::commit` has committed to with these sizes at up to 256 points of
 /// `variables` coordinates each, one after the other, over a field of at least 2^26 elements, in a transcript that may grind 16 bits. The
-/// points and the values are observed, challenges are sampled, one for each bit of a table's number and one for each bit of a point's
-/// number, a sum-check of the combined table times the combination of eq(point, corner) leads to one point, and the tables are opened there.
-/// The caller's transcript begins with its statement, the sizes and the roots, and the points are behind them: drawn or not, each is one at
-/// which the values are shown. A verifier in a transcript of the same state accepts what is sent, and is then in the same state
-/// (`laws::point_verdicts_agree`). It fails as `joint_tables::open_tables` does.
+/// points and the values are observed, and challenges are sampled, one for each bit of a table's number and one for each bit of a point's;
+/// a sum-check of the combined table times the combination of eq(point, corner) leads to one point, and the tables are opened there. The
+/// caller's transcript begins with its statement, the sizes and the roots. The points need not be drawn. A verifier in a transcript of the
+/// same state accepts what is sent, and is then in the same state (`laws::point_verdicts_agree`). It fails as `joint_tables::open_tables`
+/// does.
 pub fn open_points<
     F: ShortElement,
     C: CanObserve<F> + CanSample<F> + GrindingChallenger<Witness = F> + CanSampleUniformBits<F>,
@@ -200,8 +200,8 @@ pub fn open_points<
     requires depth { All (λ held. held.now.tree.depth ≡ word_levels parameters.now.queries parameters.now.variables) held.now }
     requires columns { All (λ held. length held.now.columns.items ≡ 2 ^ 2 * 2 ^ row_levels parameters.now.queries parameters.now.variables
         * 2 ^ matrix_rows parameters.now.queries parameters.now.variables) held.now }
-    ensures { IfOk result (λ opened. IsHonestAtPoints C.observes C.gives C.passing C.checks C.gives_bits F.repr F.NUM_BYTES F.width F.product
-        (λ i. F.basis (F.cantor i)) parameters.now.queries parameters.now.variables (map (λ table. table.now) tables.now)
+    ensures { IfOk result (λ opened. IsHonestAtPoints C.observes C.gives C.passing C.checks C.gives_bits F.repr F.NUM_BYTES F.width
+        F.product (λ i. F.basis (F.cantor i)) parameters.now.queries parameters.now.variables (map (λ table. table.now) tables.now)
         (map (λ held. (held.now.columns.items, held.now.tree)) held.now) count points.now (record {
           values = opened.values.items;
           messages = opened.messages.items;

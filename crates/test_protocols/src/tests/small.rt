@@ -1,6 +1,7 @@
 // Openings of tables of bits, and of 8 and 16 bits an element, that are packed into elements of 32 bits, over SHA-256: what is opened is the
 // value of the table of as many large elements, and is accepted; it is refused where one element of it was changed. Tables and points are drawn
 // from the seeds 20261129 and 20261130. A verifier is refused memory in turn.
+use additive_transforms::element_point;
 use field_base::traits::{PrimeCharacteristicRing, TowerLevel};
 use field_element::{BinaryField8, BinaryField16, BinaryField32};
 use field_slices::evaluate_multilinear;
@@ -53,7 +54,7 @@ fn drawn(alloc: Global, seed: u64, count: usize) -> Result<Vec<Wide>, AllocError
     let mut state = seed;
     let mut elements = Vec::new(alloc);
     for _ in 0..count {
-        elements.push(Wide::from_repr(next_word(&mut state) as u32))?;
+        elements.push(element_point(Wide::ONE, next_word(&mut state) as u128))?;
     }
     Ok(elements)
 }
