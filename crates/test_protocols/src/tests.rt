@@ -7,6 +7,5 @@ mod joint;
 mod many_points;
 mod openings;
 mod rows;
-mod small;
 mod tables;
 mod zeros;
