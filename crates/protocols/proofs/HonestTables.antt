@@ -95,10 +95,10 @@ mapped-at f xs i x d within is = get_or-map f xs i x d within ∙ ap f (sym is)
 
 -- a function's values for the first places, and 0
 module _ (f : ℕ → ℕ) (count : ℕ) where
-  listed-at : (i : ℕ) → i < count → slice_index (map f (range_with_len 0 count)) i ≡ f i
+  pub listed-at : (i : ℕ) → i < count → slice_index (map f (range_with_len 0 count)) i ≡ f i
   listed-at i below = get_or-map-range_with_len f 0 count i i 0 below (omega arith)
 
-  listed-past : (i : ℕ) → count ≤ i → slice_index (map f (range_with_len 0 count)) i ≡ 0
+  pub listed-past : (i : ℕ) → count ≤ i → slice_index (map f (range_with_len 0 count)) i ≡ 0
   listed-past i past =
       let long = length-map-range_with_len f 0 count in get_or_past (map f (range_with_len 0 count)) i 0 (omega (arith, long, past))
 

@@ -6,11 +6,14 @@ pub mod HonestColumns
 pub mod HonestOpenings
 pub mod HonestTables
 pub mod JointTables
+pub mod ManyPoints
 pub mod OpenedColumns
 pub mod OpenedTables
+mod PointSums
 pub mod ProductSums
 pub mod ProofBytes
 mod RootColumns
+mod ScaledTables
 mod SchemeBits
 pub mod SchemeRuns
 pub mod SchemeTurns

@@ -93,7 +93,7 @@ module _ {C S F : Type 0} (state : C → S) (observes gives : C → F → C → 
       )
 
   -- the least cube has one number of coordinates
-  cube-same : (count levels other : ℕ) → IsLeastCube count levels → IsLeastCube count other → levels ≡ other
+  pub cube-same : (count levels other : ℕ) → IsLeastCube count levels → IsLeastCube count other → levels ≡ other
   cube-same count levels other one two = pick (cases_lt levels other) (cases_lt other levels)
     where
       pick : (levels < other) ⊎ (other ≤ levels) → (other < levels) ⊎ (levels ≤ other) → levels ≡ other
@@ -102,7 +102,7 @@ module _ {C S F : Type 0} (state : C → S) (observes gives : C → F → C → 
       pick (inr upper) (inr lower) = omega (arith, upper, lower)
 
   -- challenges that combine as many tables are the same
-  combined-same : {count : ℕ} {sent challenges others : List F} {old new other_old other_new : C} → state old ≡ state other_old
+  pub combined-same : {count : ℕ} {sent challenges others : List F} {old new other_old other_new : C} → state old ≡ state other_old
       → AreTablesCombined observes gives count sent old challenges new → AreTablesCombined observes gives count sent other_old others other_new
       → (challenges ≡ others) × (state new ≡ state other_new)
   combined-same {count} {sent} {challenges} {others} {old} {new} {other_old} {other_new} same first second =

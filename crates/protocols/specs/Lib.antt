@@ -3,6 +3,7 @@ pub mod CodeWords
 pub mod CommitmentScheme
 pub mod Interleaved
 pub mod JointTables
+pub mod ManyPoints
 pub mod OpenedTables
 pub mod ProductSums
 pub mod RootColumns

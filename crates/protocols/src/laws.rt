@@ -4,6 +4,7 @@ ghost use Rattle.std.specs.Prelude.{◌*◌, ◌^◌, ◌<◌};
 ghost use Rattle.protocols.specs.CommitmentScheme.{FewOpeningsCheat, ValuesAreBound, VerdictsAgree};
 ghost use Rattle.protocols.specs.CodeDistances.{CodeWordsHaveDistance, FewQuarterRateCheats, QuarterRateGap};
 ghost use Rattle.protocols.specs.JointTables.{FewTablesCheat, OpenedTablesNeedLuck, TableVerdictsAgree, TablesAreBound};
+ghost use Rattle.protocols.specs.ManyPoints.{PointVerdictsAgree, PointsAreBound};
 ghost use Rattle.protocols.specs.OpenedTables.{OpenedRowsNeedLuck, OpenedValuesNeedLuck, TableIsOne};
 ghost use Rattle.protocols.specs.RootColumns.{RootsHoldColumns};
 ghost use Rattle.protocols.specs.SmallOpenings.{SmallValuesAreBound, SmallVerdictsAgree};
@@ -125,6 +126,34 @@ pub fn table_verdicts_agree<
     C: CanObserve<F> + CanSample<F> + GrindingChallenger<Witness = F> + CanSampleUniformBits<F>,
 >()
     ensures { TableVerdictsAgree C.state C.observes C.gives C.passing C.checks C.gives_bits F.repr F.NUM_BYTES F.width F.product
+        (λ i. F.basis (F.cantor i)) }
+{}
+
+/// States soundness of openings of several tables at several points for every prover: openings of the same roots that
+/// `many_points::verify_points` accepts, any number of them, in transcripts of any challenger and for every hash function whose digests have
+/// one length, each show their values at all their points of the one table to which the columns of each root commit; or a challenge that
+/// combines tables or points is the root of a line that is not 0, or a challenge of the sum-check saves its claim, or a challenge or a
+/// coordinate where it ends, or the places, are few that are lucky; or two openings have two inputs of the hash function that differ and have
+/// one digest, under one of the roots.
+pub fn points_are_bound<
+    F: ShortElement,
+    C: CanObserve<F> + CanSample<F> + GrindingChallenger<Witness = F> + CanSampleUniformBits<F>,
+>()
+    ensures { PointsAreBound C.observes C.gives C.passing C.checks C.gives_bits F.repr F.NUM_BYTES F.width F.product
+        (λ i. F.basis (F.cantor i)) }
+{
+    zero_needs_root();
+    false_claims_need_luck();
+    tables_are_bound::<F, C>();
+}
+
+/// States completeness of openings at several points with what `many_points::open_points` says: in transcripts of the same state the verdict
+/// on one opening is the same, and leads to the same state. So a verifier accepts what a prover has opened, and may go on.
+pub fn point_verdicts_agree<
+    F: ShortElement,
+    C: CanObserve<F> + CanSample<F> + GrindingChallenger<Witness = F> + CanSampleUniformBits<F>,
+>()
+    ensures { PointVerdictsAgree C.state C.observes C.gives C.passing C.checks C.gives_bits F.repr F.NUM_BYTES F.width F.product
         (λ i. F.basis (F.cantor i)) }
 {}
 

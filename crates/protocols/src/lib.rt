@@ -7,6 +7,7 @@ pub mod extension;
 pub mod interleaved;
 pub mod joint_tables;
 pub mod laws;
+pub mod many_points;
 pub mod product_sums;
 pub mod proof_bytes;
 pub mod small_tables;
