@@ -39,7 +39,8 @@ pub fn sums_are_proved<
 {
     field_has_points::<F>();
     roots_hold_columns();
-    sums_need_luck();
+    opened_tables_need_luck();
+    false_claims_need_luck();
 }
 
 /// States the same of files that the program accepts for the same roots, as `answer_to` does, by hashers whose digests have 32 bytes.
@@ -48,7 +49,8 @@ pub fn files_show_sums<H: ByteHasher32>()
 {
     field_has_points::<Ghash128>();
     roots_hold_columns();
-    sums_need_luck();
+    opened_tables_need_luck();
+    false_claims_need_luck();
 }
 
 /// States completeness with what `proving::prove` says: on what it makes of two tables that are committed to, in transcripts of any
