@@ -312,7 +312,7 @@ WIDE = [
     "g128_multiply", "g128_multiply_in_place", "g128_multiply_by", "g128_multiply_by_in_place", "g128_add_scaled", "g128_dot_product",
     "g128_butterfly_forward", "g128_butterfly_inverse", "g128_low_stages", "g128_transform", "g128_inverse_transform",
     *[f"{field}_{name}" for field in ("t16", "t32", "t64", "t128", "p64")
-      for name in ("multiply", "multiply_in_place", "inverse", "inverse_in_place", "batch_inverse")],
+      for name in ("multiply", "multiply_in_place", "inverse", "inverse_in_place", "batch_inverse", "power", "power_in_place")],
     "t8_multiply", "t8_multiply_in_place",
     *[f"g128_{name}" for name in ("inverse", "inverse_in_place", "batch_inverse")],
     *[f"g128_{name}" for name, _, _ in MATRIX_FUNCTIONS],

@@ -30,7 +30,7 @@ square         slices::write_each         Squares       Square
 inverse        invert                     Inverts
 batch_inverse  batch_invert               Inverts
 square_root    slices::write_each         TakesRoots    SquareRoot
-power          slices::write_each         RaisesTo      Power
+power          raise                      RaisesTo
 product        slices::product            TakesProduct
 dot_product    dot_product                TakesDotProduct
 evaluate       evaluate                   Evaluates
@@ -40,7 +40,7 @@ multiply_by_in_place  multiply_by_in_place      MultipliesBy
 square_in_place       in_place::change_each     Squares       Square
 inverse_in_place      invert_in_place           Inverts
 square_root_in_place  in_place::change_each     TakesRoots    SquareRoot
-power_in_place        in_place::change_each     RaisesTo      Power
+power_in_place        raise_in_place            RaisesTo
 generator      slices::generator          NamesGenerator
 """.splitlines()]
 CALLS = {row[0]: row[1:3] for row in CALL_ROWS}

@@ -14,7 +14,7 @@ use Rattle.ghash_slices.specs.Cantor.{point}
 use Rattle.ghash_slices.proofs.StageSums.{sum_below-xor}
 
 -- a low bit of a number is that of its remainder
-low_bit : (k q p b : ℕ) → p < 2 ^ k → b < k → bit_at (q * 2 ^ k + p) b ≡ bit_at p b
+pub low_bit : (k q p b : ℕ) → p < 2 ^ k → b < k → bit_at (q * 2 ^ k + p) b ≡ bit_at p b
 low_bit k q p b below lower =
     sym (bit_at-mod (q * 2 ^ k + p) k b lower) ∙ ap (λ (x : ℕ). bit_at x b) (mod-mul-add q (2 ^ k) p below)
 

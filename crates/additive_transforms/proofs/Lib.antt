@@ -15,7 +15,10 @@ pub mod HalfValues
 mod ImageBlocks
 pub mod ImageValues
 mod LaneFacts
+pub mod LaneProducts
+pub mod LaneStages
 mod LaneWeaving
+pub mod LaneWords
 mod LevelProducts
 pub mod LowStageRuns
 pub mod NumberValues

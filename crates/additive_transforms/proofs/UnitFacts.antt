@@ -7,18 +7,11 @@ use Rattle.std.proofs.lemmas.Nat.{div-mul-add, mod-mul-add, mod-pow-add, pow-add
 use native.Mathlib.Nat.{mod-eq_of_lt}
 use Rattle.field_base.specs.Quadratic.{pair}
 use Rattle.additive_transforms.specs.Rows.{level_of}
-use Rattle.additive_transforms.specs.Units.{ArePut, AreUnits, AreUnwoven, byte_of, unit_of}
+pub use Rattle.additive_transforms.specs.Units.{joint}
+use Rattle.additive_transforms.specs.Units.{ArePut, AreUnits, AreUnwoven, byte_of, joint_at, unit_of}
 use Rattle.field_base.proofs.ChunkLists.{pow-256}
 
 -- ---- two rows, one behind the other
-
--- n of one sequence, and then those of another
-abbrev joint_at : (n : ℕ) (x y : ℕ → ℕ) (p : ℕ) → (p < n) ⊎ (n ≤ p) → ℕ
-joint_at n x y p (inl before) = x p
-joint_at n x y p (inr past) = y (p - n)
-
-abbrev pub joint : ℕ → (ℕ → ℕ) → (ℕ → ℕ) → ℕ → ℕ
-joint n x y p = joint_at n x y p (cases_lt p n)
 
 pub joint-first : (n : ℕ) (x y : ℕ → ℕ) (p : ℕ) → p < n → joint n x y p ≡ x p
 joint-first n x y p below = pick (cases_lt p n)

@@ -161,7 +161,7 @@ taken_both inverse size s x x₂ y y₂ z z₂ w w₂ few x_long y_long z_long w
 -- ---- pairs of places
 
 -- the elements of words are those of their numbers
-element-at : {A : Type 0} (number : A → ℕ) (k : ℕ) (words : List A) (p : ℕ)
+pub element-at : {A : Type 0} (number : A → ℕ) (k : ℕ) (words : List A) (p : ℕ)
     → slice_index (map (level_element number k) words) p ≡ slice_index (map number words) p % 2 ^ 2 ^ k
 element-at number k words p =
     ap (λ (l : List ℕ). slice_index l p) (sym (map-map (λ (x : ℕ). x % 2 ^ 2 ^ k) number words))

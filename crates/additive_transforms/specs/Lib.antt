@@ -7,6 +7,7 @@ pub mod Halves
 pub mod ImageLemmas
 pub mod Images
 pub mod LaneLemmas
+pub mod Lanes
 pub mod LevelVectorLemmas
 pub mod PairLemmas
 pub mod Pairs

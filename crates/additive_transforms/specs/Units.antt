@@ -1,6 +1,8 @@
 -- Numbers of 2 ^ size bytes each, one after another, as one row of bytes, the lowest byte of each first, and what is read from that row
 -- and put into it: units of 2 ^ d bytes, from the number at `start` on.
 use Rattle.std.specs.Prelude.{◌≡◌, ◌⊎◌, ℕ, zero, suc, ◌+◌, ◌-◌, ◌*◌, ◌/◌, ◌%◌, ◌^◌, ◌<◌, ◌≤◌, List, slice_index}
+use Rattle.std.proofs.Common.{inl, inr}
+use Rattle.std.proofs.lemmas.Bool.{cases_lt}
 use Rattle.field_base.specs.Quadratic.{pair}
 use Rattle.additive_transforms.specs.Chunks.{chunk_of}
 use Rattle.additive_transforms.specs.Rows.{level_of}
@@ -24,6 +26,14 @@ pub record ArePut (d size start n : ℕ) (units : ℕ → ℕ) (old new : List �
   pub put : AreUnits d size start n units new
   pub fit : (k : ℕ) → start ≤ k → k * 2 ^ size < start * 2 ^ size + n * 2 ^ d → slice_index new k < 256 ^ 2 ^ size
   pub kept : (k : ℕ) → (k < start) ⊎ (start * 2 ^ size + n * 2 ^ d ≤ k * 2 ^ size) → slice_index new k ≡ slice_index old k
+
+-- n of one sequence, and then those of another
+abbrev pub joint_at : (n : ℕ) (x y : ℕ → ℕ) (p : ℕ) → (p < n) ⊎ (n ≤ p) → ℕ
+joint_at n x y p (inl before) = x p
+joint_at n x y p (inr past) = y (p - n)
+
+abbrev pub joint : ℕ → (ℕ → ℕ) → (ℕ → ℕ) → ℕ → ℕ
+joint n x y p = joint_at n x y p (cases_lt p n)
 
 -- the even and the odd ones of two sequences of n units, one behind the other
 pub record AreUnwoven (n : ℕ) (first second evens odds : ℕ → ℕ) : Type 0 where

@@ -13,7 +13,8 @@
 //! next 16, and so on (D. G. Cantor, On arithmetical algorithms over finite fields, Journal of Combinatorial Theory A 50, 1989). Such a
 //! scalar multiplies an element chunk by chunk, so a row of wide elements is a row of chunks. The product of a byte by a byte takes two
 //! look-ups in registers, that of a wider chunk three products of its halves (A. Karatsuba and Y. Ofman, Multiplication of multidigit
-//! numbers on automata, Soviet Physics Doklady 7, 1963), and no address depends on an element.
+//! numbers on automata, Soviet Physics Doklady 7, 1963), and no address depends on an element. Words of 16 and of 32 bits take the six
+//! lowest stages sixty-four at once, in vectors that have one byte of each of thirty-two words, and are read and written once.
 //!
 //! Slices of words of 8 to 128 bits are multiplied by one scalar of as many bits in vectors of the bytes of sixteen words or thirty-two.
 #![tactic(auto)]
@@ -24,7 +25,9 @@ mod columns;
 mod elements;
 mod ghash;
 mod images;
+mod in_lanes;
 mod kernel;
+mod lane_planes;
 mod laws;
 mod level_pairs;
 mod level_transforms;

@@ -6,7 +6,7 @@ ghost use Rattle.c_calls.specs.Calls.{Squares, TakesDotProduct, TakesProduct, Ta
 ghost use Rattle.c_calls.specs.Fields.{cubic_field};
 ghost use Rattle.c_calls.specs.Matrices.{InvertsMatrix, MultipliesMatrices, ReducesRows, SolvesEquations, TakesDeterminant, TakesRank};
 
-use c_calls::operations::{Power, Square, SquareRoot, Sum};
+use c_calls::operations::{Square, SquareRoot, Sum};
 use c_calls::{Cubic, CubicKernel, Triple, Words, in_place, slices};
 use std::simd::prelude::*;
 
@@ -83,7 +83,7 @@ pub extern "C" fn bf_p192_square_root(values: &[Cubic], roots: &mut [Cubic]) -> 
 pub extern "C" fn bf_p192_power(values: &[Cubic], exponent: u64, powers: &mut [Cubic]) -> u32
     ensures { RaisesTo cubic_field exponent values.now powers.old powers.new result }
 {
-    slices::write_each::<Triple, Cubic, CubicKernel, _>(values, powers, &Power { exponent }, false)
+    c_calls::raise::<Triple, Cubic, CubicKernel, u64x2>(values, exponent, powers)
 }
 
 /// The product of all elements, 1 of none.
@@ -167,7 +167,7 @@ pub extern "C" fn bf_p192_square_root_in_place(values: &mut [Cubic]) -> u32
 pub extern "C" fn bf_p192_power_in_place(values: &mut [Cubic], exponent: u64) -> u32
     ensures { RaisesTo cubic_field exponent values.old values.old values.new result }
 {
-    in_place::change_each::<Triple, Cubic, CubicKernel, _>(values, &Power { exponent })
+    c_calls::raise_in_place::<Triple, Cubic, CubicKernel, u64x2>(values, exponent)
 }
 
 /// The generator of the field's multiplicative group that the library names.

@@ -6,7 +6,7 @@ ghost use Rattle.c_calls.specs.Calls.{Squares, TakesDotProduct, TakesProduct, Ta
 ghost use Rattle.c_calls.specs.Fields.{wide_level_field};
 ghost use Rattle.c_calls.specs.Matrices.{InvertsMatrix, MultipliesMatrices, ReducesRows, SolvesEquations, TakesDeterminant, TakesRank};
 
-use c_calls::operations::{Power, Square, SquareRoot, Sum};
+use c_calls::operations::{Square, SquareRoot, Sum};
 use c_calls::{Bits128, Tower, Wide, Words, in_place, slices};
 use std::simd::prelude::*;
 
@@ -79,7 +79,7 @@ pub extern "C" fn bf_t128_square_root(values: &[Wide], roots: &mut [Wide]) -> u3
 pub extern "C" fn bf_t128_power(values: &[Wide], exponent: u64, powers: &mut [Wide]) -> u32
     ensures { RaisesTo wide_level_field exponent values.now powers.old powers.new result }
 {
-    slices::write_each::<u128, Wide, Tower<Bits128>, _>(values, powers, &Power { exponent }, false)
+    c_calls::raise::<u128, Wide, Tower<Bits128>, u64x2>(values, exponent, powers)
 }
 
 /// The product of all elements, 1 of none.
@@ -163,7 +163,7 @@ pub extern "C" fn bf_t128_square_root_in_place(values: &mut [Wide]) -> u32
 pub extern "C" fn bf_t128_power_in_place(values: &mut [Wide], exponent: u64) -> u32
     ensures { RaisesTo wide_level_field exponent values.old values.old values.new result }
 {
-    in_place::change_each::<u128, Wide, Tower<Bits128>, _>(values, &Power { exponent })
+    c_calls::raise_in_place::<u128, Wide, Tower<Bits128>, u64x2>(values, exponent)
 }
 
 /// The generator of the field's multiplicative group that the library names.

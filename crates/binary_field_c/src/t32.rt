@@ -6,7 +6,7 @@ ghost use Rattle.c_calls.specs.Calls.{Squares, TakesDotProduct, TakesProduct, Ta
 ghost use Rattle.c_calls.specs.Fields.{level_field};
 ghost use Rattle.c_calls.specs.Matrices.{InvertsMatrix, MultipliesMatrices, ReducesRows, SolvesEquations, TakesDeterminant, TakesRank};
 
-use c_calls::operations::{Power, Square, SquareRoot, Sum};
+use c_calls::operations::{Square, SquareRoot, Sum};
 use c_calls::{Bits32, Tower, Words, in_place, slices};
 use std::simd::prelude::*;
 
@@ -79,7 +79,7 @@ pub extern "C" fn bf_t32_square_root(values: &[u32], roots: &mut [u32]) -> u32
 pub extern "C" fn bf_t32_power(values: &[u32], exponent: u64, powers: &mut [u32]) -> u32
     ensures { RaisesTo (level_field 5) exponent values.now powers.old powers.new result }
 {
-    slices::write_each::<u32, u32, Tower<Bits32>, _>(values, powers, &Power { exponent }, false)
+    c_calls::raise::<u32, u32, Tower<Bits32>, u64x2>(values, exponent, powers)
 }
 
 /// The product of all elements, 1 of none.
@@ -159,7 +159,7 @@ pub extern "C" fn bf_t32_square_root_in_place(values: &mut [u32]) -> u32
 pub extern "C" fn bf_t32_power_in_place(values: &mut [u32], exponent: u64) -> u32
     ensures { RaisesTo (level_field 5) exponent values.old values.old values.new result }
 {
-    in_place::change_each::<u32, u32, Tower<Bits32>, _>(values, &Power { exponent })
+    c_calls::raise_in_place::<u32, u32, Tower<Bits32>, u64x2>(values, exponent)
 }
 
 /// The generator of the field's multiplicative group that the library names.

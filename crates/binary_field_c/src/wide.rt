@@ -7,7 +7,7 @@ ghost use Rattle.tags.specs.Gcm.{ghash};
 ghost use Rattle.tags.specs.Polyval.{polyval};
 ghost use Rattle.c_calls.specs.Bytes.{ChangesMessage, Hashes};
 ghost use Rattle.c_calls.specs.Transforms.{ButterfliesForward, ButterfliesInverse, InvertsTransform, RunsLowStages, Transforms};
-ghost use Rattle.c_calls.specs.Calls.{AddsScaled, Inverts, Multiplies, MultipliesBy, TakesDotProduct};
+ghost use Rattle.c_calls.specs.Calls.{AddsScaled, Inverts, Multiplies, MultipliesBy, RaisesTo, TakesDotProduct};
 ghost use Rattle.c_calls.specs.Fields.{ghash_field, level_field, poly64_field, wide_level_field, wide_number};
 ghost use Rattle.c_calls.specs.Matrices.{InvertsMatrix, MultipliesMatrices, ReducesRows, SolvesEquations, TakesDeterminant, TakesRank};
 
@@ -162,6 +162,22 @@ pub extern "C" fn bf_t16_batch_inverse_wide(values: &[u16], inverses: &mut [u16]
     c_calls::batch_invert::<u16, u16, Tower<Bits16>, u64x4>(values, inverses)
 }
 
+/// The same as `bf_t16_power`.
+#[unsafe(no_mangle)]
+pub extern "C" fn bf_t16_power_wide(values: &[u16], exponent: u64, powers: &mut [u16]) -> u32
+    ensures { RaisesTo (level_field 4) exponent values.now powers.old powers.new result }
+{
+    c_calls::raise::<u16, u16, Tower<Bits16>, u64x4>(values, exponent, powers)
+}
+
+/// The same as `bf_t16_power_in_place`.
+#[unsafe(no_mangle)]
+pub extern "C" fn bf_t16_power_in_place_wide(values: &mut [u16], exponent: u64) -> u32
+    ensures { RaisesTo (level_field 4) exponent values.old values.old values.new result }
+{
+    c_calls::raise_in_place::<u16, u16, Tower<Bits16>, u64x4>(values, exponent)
+}
+
 /// The same as `bf_t32_multiply`.
 #[unsafe(no_mangle)]
 pub extern "C" fn bf_t32_multiply_wide(left: &[u32], right: &[u32], products: &mut [u32]) -> u32
@@ -200,6 +216,22 @@ pub extern "C" fn bf_t32_batch_inverse_wide(values: &[u32], inverses: &mut [u32]
     ensures { Inverts (level_field 5) values.now inverses.old inverses.new result }
 {
     c_calls::batch_invert::<u32, u32, Tower<Bits32>, u64x4>(values, inverses)
+}
+
+/// The same as `bf_t32_power`.
+#[unsafe(no_mangle)]
+pub extern "C" fn bf_t32_power_wide(values: &[u32], exponent: u64, powers: &mut [u32]) -> u32
+    ensures { RaisesTo (level_field 5) exponent values.now powers.old powers.new result }
+{
+    c_calls::raise::<u32, u32, Tower<Bits32>, u64x4>(values, exponent, powers)
+}
+
+/// The same as `bf_t32_power_in_place`.
+#[unsafe(no_mangle)]
+pub extern "C" fn bf_t32_power_in_place_wide(values: &mut [u32], exponent: u64) -> u32
+    ensures { RaisesTo (level_field 5) exponent values.old values.old values.new result }
+{
+    c_calls::raise_in_place::<u32, u32, Tower<Bits32>, u64x4>(values, exponent)
 }
 
 /// The same as `bf_t64_multiply`.
@@ -242,6 +274,22 @@ pub extern "C" fn bf_t64_batch_inverse_wide(values: &[u64], inverses: &mut [u64]
     c_calls::batch_invert::<u64, u64, Tower<Bits64>, u64x4>(values, inverses)
 }
 
+/// The same as `bf_t64_power`.
+#[unsafe(no_mangle)]
+pub extern "C" fn bf_t64_power_wide(values: &[u64], exponent: u64, powers: &mut [u64]) -> u32
+    ensures { RaisesTo (level_field 6) exponent values.now powers.old powers.new result }
+{
+    c_calls::raise::<u64, u64, Tower<Bits64>, u64x4>(values, exponent, powers)
+}
+
+/// The same as `bf_t64_power_in_place`.
+#[unsafe(no_mangle)]
+pub extern "C" fn bf_t64_power_in_place_wide(values: &mut [u64], exponent: u64) -> u32
+    ensures { RaisesTo (level_field 6) exponent values.old values.old values.new result }
+{
+    c_calls::raise_in_place::<u64, u64, Tower<Bits64>, u64x4>(values, exponent)
+}
+
 /// The same as `bf_t128_multiply`.
 #[unsafe(no_mangle)]
 pub extern "C" fn bf_t128_multiply_wide(left: &[Wide], right: &[Wide], products: &mut [Wide]) -> u32
@@ -282,6 +330,22 @@ pub extern "C" fn bf_t128_batch_inverse_wide(values: &[Wide], inverses: &mut [Wi
     c_calls::batch_invert::<u128, Wide, Tower<Bits128>, u64x4>(values, inverses)
 }
 
+/// The same as `bf_t128_power`.
+#[unsafe(no_mangle)]
+pub extern "C" fn bf_t128_power_wide(values: &[Wide], exponent: u64, powers: &mut [Wide]) -> u32
+    ensures { RaisesTo wide_level_field exponent values.now powers.old powers.new result }
+{
+    c_calls::raise::<u128, Wide, Tower<Bits128>, u64x4>(values, exponent, powers)
+}
+
+/// The same as `bf_t128_power_in_place`.
+#[unsafe(no_mangle)]
+pub extern "C" fn bf_t128_power_in_place_wide(values: &mut [Wide], exponent: u64) -> u32
+    ensures { RaisesTo wide_level_field exponent values.old values.old values.new result }
+{
+    c_calls::raise_in_place::<u128, Wide, Tower<Bits128>, u64x4>(values, exponent)
+}
+
 /// The same as `bf_p64_multiply`.
 #[unsafe(no_mangle)]
 pub extern "C" fn bf_p64_multiply_wide(left: &[u64], right: &[u64], products: &mut [u64]) -> u32
@@ -320,6 +384,22 @@ pub extern "C" fn bf_p64_batch_inverse_wide(values: &[u64], inverses: &mut [u64]
     ensures { Inverts poly64_field values.now inverses.old inverses.new result }
 {
     c_calls::batch_invert::<u64, u64, Poly64Kernel, u64x4>(values, inverses)
+}
+
+/// The same as `bf_p64_power`.
+#[unsafe(no_mangle)]
+pub extern "C" fn bf_p64_power_wide(values: &[u64], exponent: u64, powers: &mut [u64]) -> u32
+    ensures { RaisesTo poly64_field exponent values.now powers.old powers.new result }
+{
+    c_calls::raise::<u64, u64, Poly64Kernel, u64x4>(values, exponent, powers)
+}
+
+/// The same as `bf_p64_power_in_place`.
+#[unsafe(no_mangle)]
+pub extern "C" fn bf_p64_power_in_place_wide(values: &mut [u64], exponent: u64) -> u32
+    ensures { RaisesTo poly64_field exponent values.old values.old values.new result }
+{
+    c_calls::raise_in_place::<u64, u64, Poly64Kernel, u64x4>(values, exponent)
 }
 
 /// The same as `bf_t8_multiply`.

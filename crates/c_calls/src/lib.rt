@@ -45,7 +45,7 @@ pub use crate::linear::{map_bytes, map_wide};
 pub use crate::lines::answer_line;
 pub use crate::many::{
     add_scaled, batch_invert, dot_product, evaluate, invert, invert_in_place, multiply,
-    multiply_by, multiply_by_in_place, multiply_in_place,
+    multiply_by, multiply_by_in_place, multiply_in_place, raise, raise_in_place,
 };
 pub use crate::messages::{
     gcm_ghash, gcm_hash_end, hash, hash_begin, hash_end, hash_pad, hash_update, tags_are_equal,

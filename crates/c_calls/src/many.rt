@@ -1,6 +1,6 @@
 // Calls over many words of a field: each compares lengths, looks at each word and returns a status, and what computes the words stands in
 // `many_words`, once for all fields.
-ghost use Rattle.c_calls.specs.Calls.{AddsScaled, Evaluates, Inverts, Multiplies, MultipliesBy, TakesDotProduct};
+ghost use Rattle.c_calls.specs.Calls.{AddsScaled, Evaluates, Inverts, Multiplies, MultipliesBy, RaisesTo, TakesDotProduct};
 ghost use Rattle.many_words.specs.Fields.{field_of};
 
 use crate::scalars::Words;
@@ -9,7 +9,7 @@ use crate::{status, values};
 use bit_slices::Vector;
 use field_base::{Holds, Stored};
 use ghash_slices::Width;
-use many_words::operations::{Inverse, Product, Scaled};
+use many_words::operations::{Inverse, Power, Product, Scaled};
 use many_words::{Many, fields};
 use std::simd::prelude::*;
 
@@ -133,6 +133,44 @@ pub fn dot_product<R: Stored, W: Holds<R>, K: Many<R, W>, V: Width + Vector>(
         return status::NOT_AN_ELEMENT;
     }
     *sum = W::of_stored(K::dot_product::<V, W>(left, right));
+    status::OK
+}
+
+/// Writes each word to the power of the exponent; to the power of 0 it is 1.
+#[inline]
+pub fn raise<R: Stored, W: Holds<R>, K: Many<R, W>, V: Width + Vector>(
+    words: &[W],
+    exponent: u64,
+    powers: &mut [W],
+) -> u32
+    ensures { RaisesTo (field_of W.number K.width K.product K.generator) exponent words.now powers.old powers.new result }
+{
+    if words.len() < K::sizes::<V>().multiplied {
+        return write_each::<R, W, K, Power>(words, powers, &Power { exponent }, false);
+    }
+    if words.len() != powers.len() {
+        return status::LENGTH;
+    }
+    if !are_elements::<R, W, K>(words) {
+        return status::NOT_AN_ELEMENT;
+    }
+    powers.copy_from_slice(words);
+    many_words::raise::<R, W, K, V>(powers, exponent);
+    status::OK
+}
+
+/// Raises each word to the power of the exponent; to the power of 0 it is 1.
+#[inline]
+pub fn raise_in_place<R: Stored, W: Holds<R>, K: Many<R, W>, V: Width + Vector>(
+    words: &mut [W],
+    exponent: u64,
+) -> u32
+    ensures { RaisesTo (field_of W.number K.width K.product K.generator) exponent words.old words.old words.new result }
+{
+    if !are_elements::<R, W, K>(words) {
+        return status::NOT_AN_ELEMENT;
+    }
+    many_words::raise::<R, W, K, V>(words, exponent);
     status::OK
 }
 

@@ -1,23 +1,10 @@
 // Operations on one element of a field and on two that calls over slices alone apply.
 ghost use Rattle.std.specs.Prelude.{◌≡◌, ◌<◌, ◌^◌, bit_xor};
-ghost use Rattle.field_base.specs.Powers.{power};
 
-use crate::slices::power_of;
 use field_base::{FieldKernel, Holds, Stored};
 use many_words::fields;
+pub use many_words::operations::Square;
 use many_words::operations::{OnOne, OnTwo};
-
-/// The square.
-pub struct Square;
-
-impl<R: Stored, W: Holds<R>, K: FieldKernel<R>> OnOne<R, W, K> for Square {
-    ghost gives = { λ operation x y. y ≡ K.product x x };
-
-    #[inline(always)]
-    fn result_at(&self, word: W) -> W {
-        fields::square::<R, W, K>(word)
-    }
-}
 
 /// The square root.
 pub struct SquareRoot;
@@ -28,22 +15,6 @@ impl<R: Stored, W: Holds<R>, K: FieldKernel<R>> OnOne<R, W, K> for SquareRoot {
     #[inline(always)]
     fn result_at(&self, word: W) -> W {
         fields::sqrt::<R, W, K>(word)
-    }
-}
-
-/// The power of an exponent; to the power of 0 it is 1.
-#[derive(Drop)]
-pub struct Power {
-    /// The exponent.
-    pub exponent: u64,
-}
-
-impl<R: Stored, W: Holds<R>, K: FieldKernel<R>> OnOne<R, W, K> for Power {
-    ghost gives = { λ operation x y. y ≡ power 1 K.product x operation.exponent };
-
-    #[inline(always)]
-    fn result_at(&self, word: W) -> W {
-        power_of::<R, W, K>(word, self.exponent)
     }
 }
 

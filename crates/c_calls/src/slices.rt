@@ -1,7 +1,6 @@
 // Arithmetic on slices of words, place by place, over any field whose elements are words. Each function returns a status: the
 // lengths are compared first, then it is seen that all words are elements, and nothing is written before.
 ghost use Rattle.std.specs.Prelude.{◌≡◌, ◌↔◌, ◌*◌, ◌≤◌, IsTrue};
-ghost use Rattle.field_base.specs.Powers.{power};
 ghost use Rattle.c_calls.specs.Calls.{CallOnEach, CallOnTwo, ChangesBasis};
 ghost use Rattle.c_calls.specs.Calls.{NamesGenerator, TakesProduct};
 ghost use Rattle.many_words.specs.Fields.{field_of};
@@ -112,24 +111,6 @@ pub fn change_basis<R: Stored, W: Holds<R>, C: ChangeOfBasis<R>>(
         images[place] = W::of_stored(C::change(words[place].stored()));
     }
     status::OK
-}
-
-// A word to the power of the exponent, by squaring and multiplying from the exponent's lowest bit.
-#[inline]
-pub(crate) fn power_of<R: Stored, W: Holds<R>, K: FieldKernel<R>>(word: W, exponent: u64) -> W
-    ensures { W.number result ≡ power 1 K.product (W.number word) exponent }
-{
-    let mut base = word;
-    let mut rest = exponent;
-    let mut value = fields::one::<R, W>();
-    while rest != 0 {
-        if rest % 2 == 1 {
-            value = fields::multiply::<R, W, K>(value, base);
-        }
-        base = fields::square::<R, W, K>(base);
-        rest /= 2;
-    }
-    value
 }
 
 /// Whether every word is an element. All words are looked at, so that the loop becomes one over vectors; where an element has as many bits as

@@ -8,6 +8,7 @@ mod MapSteps
 mod MappedWords
 mod NumberParts
 mod PlacesPut
+mod PowerPlaces
 mod ScalarImages
 mod ScaledBytes
 mod TableLanes

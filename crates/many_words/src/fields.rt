@@ -1,7 +1,7 @@
 // The arithmetic of a field on words that hold its stored words `R`, by the kernel `K`.
 ghost use Rattle.std.specs.Prelude.{◌≡◌, ◌<◌, ◌^◌, ◌↔◌, IsTrue, bit_xor, length, map};
 ghost use Rattle.field_base.specs.Field.{IsInverseOrZero};
-ghost use Rattle.field_base.specs.Powers.{dot_of};
+ghost use Rattle.field_base.specs.Powers.{dot_of, power};
 
 use field_base::{FieldKernel, Holds, Reads, Stored};
 
@@ -88,6 +88,24 @@ pub fn sqrt<R: Stored, W: Holds<R>, K: FieldKernel<R>>(x: W) -> W
     ensures root { K.product (W.number result) (W.number result) ≡ W.number x }
 {
     W::of_stored(K::sqrt(x.stored()))
+}
+
+/// The power of the exponent, by squaring and multiplying from its lowest bit; to the power of 0 it is 1.
+#[inline]
+pub fn raise<R: Stored, W: Holds<R>, K: FieldKernel<R>>(x: W, exponent: u64) -> W
+    ensures { W.number result ≡ power 1 K.product (W.number x) exponent }
+{
+    let mut base = x;
+    let mut rest = exponent;
+    let mut value = one::<R, W>();
+    while rest != 0 {
+        if rest % 2 == 1 {
+            value = multiply::<R, W, K>(value, base);
+        }
+        base = square::<R, W, K>(base);
+        rest /= 2;
+    }
+    value
 }
 
 /// The sum of the products at each place of two slices of one length. Two products are added at once, and where the count is odd the last

@@ -1,6 +1,6 @@
 //! The slice layer: what is computed on slices of a field's words, many at once. A slice holds the field's own stored words, those in which
 //! other languages hold them, or, where it is only read, elements. `Many` names for each field its best bodies, products, multiples by one
-//! scalar, inverses and dot products, and from how many words on they pay; `multiply`, `multiply_by`, `add_scaled` and `invert` go by it.
+//! scalar, inverses and dot products, and from how many words on they pay; `multiply`, `multiply_by`, `add_scaled`, `invert` and `raise` go by it.
 //! None takes memory, and none looks whether words are elements.
 //!
 //! Below it lie the ways to compute many words: slices of bits (`in_slices`, for levels of 8 bits and more), planes of bytes by one scalar
@@ -20,6 +20,7 @@ mod many;
 mod mapped_words;
 mod one_by_one;
 pub mod operations;
+mod powers;
 mod products;
 mod scalars;
 mod scaled_bytes;
@@ -28,3 +29,4 @@ mod word_maps;
 pub use crate::bases::{ChangeOfBasis, FromTower, ToTower};
 pub use crate::many::{Many, Sizes, add_scaled, invert, multiply, multiply_by};
 pub use crate::one_by_one::{change_all, change_all_by};
+pub use crate::powers::raise;

@@ -1,6 +1,7 @@
 // Operations on one element of a field and on two, which are applied at each word of a slice.
 ghost use Rattle.std.specs.Prelude.{◌≡◌, ◌<◌, ◌^◌, ℕ, bit_xor};
 ghost use Rattle.field_base.specs.Field.{IsInverseOrZero};
+ghost use Rattle.field_base.specs.Powers.{power};
 
 use crate::fields;
 use field_base::{FieldKernel, Holds, Stored};
@@ -35,6 +36,34 @@ impl<R: Stored, W: Holds<R>, K: FieldKernel<R>> OnOne<R, W, K> for Inverse {
     #[inline(always)]
     fn result_at(&self, word: W) -> W {
         fields::invert::<R, W, K>(word)
+    }
+}
+
+/// The square.
+pub struct Square;
+
+impl<R: Stored, W: Holds<R>, K: FieldKernel<R>> OnOne<R, W, K> for Square {
+    ghost gives = { λ operation x y. y ≡ K.product x x };
+
+    #[inline(always)]
+    fn result_at(&self, word: W) -> W {
+        fields::square::<R, W, K>(word)
+    }
+}
+
+/// The power of an exponent; to the power of 0 it is 1.
+#[derive(Drop)]
+pub struct Power {
+    /// The exponent.
+    pub exponent: u64,
+}
+
+impl<R: Stored, W: Holds<R>, K: FieldKernel<R>> OnOne<R, W, K> for Power {
+    ghost gives = { λ operation x y. y ≡ power 1 K.product x operation.exponent };
+
+    #[inline(always)]
+    fn result_at(&self, word: W) -> W {
+        fields::raise::<R, W, K>(word, self.exponent)
     }
 }
 

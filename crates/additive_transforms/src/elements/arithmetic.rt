@@ -1,14 +1,20 @@
 // What the stages of a transform compute with.
-ghost use Rattle.std.specs.Prelude.{◌≡◌, ◌++◌, ◌^◌, ◌<◌, Bool, ℕ, bit_xor, length, map, slice_index};
+ghost use Rattle.std.specs.Prelude.{◌≡◌, ◌++◌, ◌^◌, ◌<◌, ◌≤◌, Bool, ℕ, bit_xor, false, length, map, slice_index};
 ghost use Rattle.field_base.specs.Orders.{AreCantorVectors};
 ghost use Rattle.field_base.specs.Ring.{IsRing};
 ghost use Rattle.ghash_slices.specs.Cantor.{subspace_value};
 ghost use Rattle.additive_transforms.specs.Counting.{AddsUp, AlwaysHasRoom, nothing_counted};
 ghost use Rattle.additive_transforms.specs.Stages.{TakesBlock};
+ghost use Rattle.additive_transforms.specs.Transform.{HasStages, TakesTransform};
 
 use crate::elements::pairs::run_pairs;
+use crate::stages::stages_from;
 use field_base::traits::TowerLevel;
 use std::marker::PhantomData;
+
+/// The stages of a slice that fits the first cache, which is 32 KB or more: so many stages have 2^10 values, which are 16 KB where a value
+/// has 16 bytes.
+pub(crate) const CACHED_STAGES: usize = 10;
 
 /// What the stages of a transform compute with: what the places hold, the twiddles, and the butterflies. All of these stand for
 /// elements of one field that has Cantor vectors.
@@ -93,6 +99,30 @@ pub(crate) trait StageArithmetic {
 
 /// An arithmetic that counts nothing, and so always has room.
 pub(crate) trait Uncounted: StageArithmetic {
+    /// Whether a slice of 2 to the power of so many values is transformed at once, and not its halves one after the other.
+    fn is_at_once(stages: usize) -> bool
+        ensures { result ≡ false → 0 < stages }
+    {
+        stages <= CACHED_STAGES
+    }
+
+    /// The transform of 2 to the power of `stages` values, or, where `inverse` is true, the inverse one, at once: stage by stage.
+    fn transform_at_once(
+        counter: &mut Self::Counter,
+        values: &mut [Self::Value],
+        stages: usize,
+        z: Self::Twiddle,
+        inverse: bool,
+    )
+        requires stages { HasStages stages (length values.old) }
+        requires few { stages ≤ Self.StageArithmetic.width }
+        ensures length { length values.new ≡ length values.old }
+        ensures values { TakesTransform inverse Self.StageArithmetic.width Self.StageArithmetic.product Self.StageArithmetic.vector
+            (Self.StageArithmetic.number z) (map Self.StageArithmetic.value values.old) (map Self.StageArithmetic.value values.new) }
+    {
+        stages_from::<Self>(counter, values, 0, stages, z, inverse);
+    }
+
     ghost room_law: { AlwaysHasRoom Self.StageArithmetic.has_room };
 }
 

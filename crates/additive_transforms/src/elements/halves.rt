@@ -6,14 +6,10 @@ ghost use Rattle.additive_transforms.specs.Stages.{TakesStage};
 ghost use Rattle.additive_transforms.specs.Transform.{HasStages, TakesTransform};
 
 use crate::elements::arithmetic::Uncounted;
-use crate::stages::{half_of, run_stage, stages_from};
+use crate::stages::{half_of, run_stage};
 
-// The stages of a slice that fits the first cache, which is 32 KB or more: so many stages have 2^10 values, which are 16 KB where a value
-// has 16 bytes.
-const CACHED_STAGES: usize = 10;
-
-/// The transform of 2 to the power of `stages` values, or, where `inverse` is true, the inverse one: stage by stage, or, where that is
-/// more than fits the first cache, the highest stage on the whole slice and the others on each half.
+/// The transform of 2 to the power of `stages` values, or, where `inverse` is true, the inverse one: at once, or, where the arithmetic does
+/// not do that, the highest stage on the whole slice and the others on each half.
 #[cycle(halves)]
 pub(crate) fn run_halves<K: Uncounted>(
     counter: &mut K::Counter,
@@ -27,8 +23,8 @@ pub(crate) fn run_halves<K: Uncounted>(
     ensures length { length values.new ≡ length values.old }
     ensures values { TakesTransform inverse K.width K.product K.vector (K.number z) (map K.value values.old) (map K.value values.new) }
 {
-    if stages <= CACHED_STAGES {
-        stages_from::<K>(counter, values, 0, stages, z, inverse);
+    if K::is_at_once(stages) {
+        K::transform_at_once(counter, values, stages, z, inverse);
         return;
     }
     let highest = stages - 1;

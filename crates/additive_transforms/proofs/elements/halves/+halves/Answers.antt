@@ -1,21 +1,7 @@
-use Rattle.std.proofs.Common.{length, map, ◌∙◌, arith}
+use Rattle.std.proofs.Common.{length, map, ◌∙◌}
 use Rattle.additive_transforms.proofs.DepthFirst.{halves_joined}
 use Rattle.additive_transforms.proofs.HalfValues.{held_back, held_on}
-use Rattle.additive_transforms.proofs.StagesFrom.{all_from}
-use Rattle.additive_transforms.proofs.SubspaceSteps.{first_subspace_value}
 use Rattle.additive_transforms.proofs.elements.halves.+halves.Goals as goal
-
-pub run_halves-stages_from-requires-clause-room : goal.run_halves-stages_from-requires-clause-room
-run_halves-stages_from-requires-clause-room g t c = g.met.K.Uncounted.room_law _ _
-
-pub run_halves-returns-then-stages-le-CACHED_STAGES-clause-values : goal.run_halves-returns-then-stages-le-CACHED_STAGES-clause-values
-run_halves-returns-then-stages-le-CACHED_STAGES-clause-values g t c =
-    let by = g.K.StageArithmetic in
-    let laws = g.met.K.StageArithmetic in
-    let z = by.number c.args.z in
-    all_from by.vector laws.ring_law by.value laws.range_law z c.requires.few laws.wide_law laws.vector_law c.args.values.now c.stages_from.new.values
-    c.requires.stages.1 (c.stages_from.ensures.length ∙ c.requires.stages.1) c.args.inverse
-    (c.stages_from.ensures.stages z (first_subspace_value by.product z))
 
 pub run_halves-returns-then-inverse-clause-values : goal.run_halves-returns-then-inverse-clause-values
 run_halves-returns-then-inverse-clause-values g t c =
@@ -27,8 +13,8 @@ run_halves-returns-then-inverse-clause-values g t c =
     held_back by.width by.product by.vector (by.number c.args.z) (map by.value c.args.values.now) (map by.value stage.new.values)
     c.args.inverse c.if-inverse.true
     (halves_joined laws.wide_law laws.ring_law laws.vector_law by.value laws.range_law (by.number c.args.z) c.requires.few
-    (length halves.new.values) (omega arith) stage.new.values halves.new.values c.args.values.now (stage.ensures.length ∙ middle_length)
-    middle_length middle_length stage.ensures.stage halves.ensures.lower halves.ensures.upper)
+    (length halves.new.values) (c.is_at_once.ensures c.if-is_at_once.false) stage.new.values halves.new.values c.args.values.now
+    (stage.ensures.length ∙ middle_length) middle_length middle_length stage.ensures.stage halves.ensures.lower halves.ensures.upper)
 
 pub run_halves-returns-clause-values : goal.run_halves-returns-clause-values
 run_halves-returns-clause-values g t c =
@@ -40,5 +26,5 @@ run_halves-returns-clause-values g t c =
     held_on by.width by.product by.vector (by.number c.args.z) (map by.value c.args.values.now) (map by.value halves.new.values)
     c.args.inverse c.if-inverse.false
     (halves_joined laws.wide_law laws.ring_law laws.vector_law by.value laws.range_law (by.number c.args.z) c.requires.few
-    (length c.args.values.now) (omega arith) c.args.values.now stage.new.values halves.new.values old_length
+    (length c.args.values.now) (c.is_at_once.ensures c.if-is_at_once.false) c.args.values.now stage.new.values halves.new.values old_length
     (stage.ensures.length ∙ old_length) old_length stage.ensures.stage halves.ensures.lower halves.ensures.upper)

@@ -2,15 +2,15 @@ use Rattle.std.proofs.Common.{◌≡◌, ℕ, ◌<◌, ◌^◌, ◌%◌, sym, �
 use Rattle.std.proofs.lemmas.Nat.{pow_below}
 use Rattle.field_base.proofs.PowerLemmas.{power_start, power_step, power_skip, power_end}
 use Rattle.many_words.specs.Fields.{field_of}
-use Rattle.c_calls.proofs.slices.power_of.Goals as goal
-use Rattle.c_calls.proofs.slices.power_of.Goals.{then-rest-eq1, else-rest-eq1}
+use Rattle.many_words.proofs.fields.raise.Goals as goal
+use Rattle.many_words.proofs.fields.raise.Goals.{then-rest-eq1, else-rest-eq1}
 
 pub loop-rest-init : goal.loop-rest-init
 loop-rest-init g c =
     let field = field_of g.W.Reads.number g.K.FieldKernel.width g.K.FieldKernel.product g.K.FieldKernel.generator in
     let one_fits : 1 < 2 ^ field.width = pow_below 0 field.width g.K.FieldKernel.wide_law in (
       power_start field.width 1 field.times g.K.FieldKernel.field_law.ring one_fits
-          (field.number c.one-value.result) (field.number c.args.word) c.args.exponent c.one-value.ensures,
+          (field.number c.one-value.result) (field.number c.args.x) c.args.exponent c.one-value.ensures,
       omega (arith, one_fits, c.one-value.ensures),
     )
 
