@@ -14,6 +14,7 @@ use Rattle.proximity.specs.Marks.{marked_below}
 use Rattle.proximity.specs.Openings.{sum_lists}
 use Rattle.proximity.proofs.Blocks.{few_blocks_miss}
 use Rattle.proximity.proofs.Lines.{lines_are_near}
+use Rattle.sum_checks.specs.ZeroCheck.{LinesHaveOneRoot}
 use Rattle.protocols.specs.CodeDistances.{point_generator}
 use Rattle.protocols.proofs.CodeDistances.{quarter_rate_gap}
 use Rattle.protocols.proofs.OpenedTables.{code-distance}
@@ -102,7 +103,7 @@ seldom-none v marked some =
 
 -- ---- the error
 
-module _ (field : IsField 128 word_times) (vectors : AreCantorVectors 128 word_times word_vector)
+module _ (lines : LinesHaveOneRoot) (field : IsField 128 word_times) (vectors : AreCantorVectors 128 word_times word_vector)
     (fit : (b : ℕ) → b < 128 → word_vector b < 2 ^ 128) (m n : ℕ) (some : 7 ≤ m) (most : m ≤ 8) (few : n ≤ 39) where
   abbrev Seldom : Type 0
   Seldom =
@@ -131,7 +132,7 @@ module _ (field : IsField 128 word_times) (vectors : AreCantorVectors 128 word_t
       gathered (2 ^ 128) (256 ^ 2 ^ m) (accepted_runs 128 m n accepted) (max (suc (2 * n)) (suc (matrix_rows m n) * lucky))
       (lucky_challenges m n) ((2 ^ 128) ^ suc n)
       ((2 ^ place_bits m n) ^ place_count m n) (lucky_places m n)
-      (few-accepted 128 word_times word_vector (lit≤ tt) field vectors fit m n
+      (few-accepted lines 128 word_times word_vector (lit≤ tt) field vectors fit m n
       (wrong_columns m n) lucky deep radius gap left right sum prover accepted cheats
       (256 ^ 2 ^ m) (256 ^ 2 ^ m * (2 ^ place_bits m n) ^ place_count m n)
       (lucky_places m n * (2 ^ place_bits m n) ^ place_count m n) (omega arith) seldom)
@@ -282,9 +283,9 @@ module _ (field : IsField 128 word_times) (vectors : AreCantorVectors 128 word_t
         (subst (λ (v : ℕ). 93 * j < marked_below marked v) places
         (subst (λ (v : ℕ). v < marked_below marked (2 ^ 2 * 2 ^ row_levels m n)) wrong-some many))))
 
-pub errors_are_small : IsField 128 word_times → AreCantorVectors 128 word_times word_vector
+pub errors_are_small : LinesHaveOneRoot → IsField 128 word_times → AreCantorVectors 128 word_times word_vector
     → ((b : ℕ) → b < 128 → word_vector b < 2 ^ 128) → ErrorsAreSmall
-errors_are_small field vectors fit m n some most few = pick (cases_lt 0 (place_bits m n))
+errors_are_small lines field vectors fit m n some most few = pick (cases_lt 0 (place_bits m n))
   where
     nothing : (b : ℕ) → b ≤ 0 → b ≡ 0
     nothing b less = omega (arith, less)
@@ -294,14 +295,14 @@ errors_are_small field vectors fit m n some most few = pick (cases_lt 0 (place_b
         → Cheats 128 word_times word_vector m n (wrong_columns m n) left right sum prover accepted
         → whole_parts m * accepted_runs 128 m n accepted ≤ error_parts m n * all_runs 128 m n
     pick (inl bits) =
-        by-parts field vectors fit m n some most few (34 * (4 * 2 ^ row_levels m n) - 1)
-        (radius field vectors fit m n some most few bits) (gap field vectors fit m n some most few bits)
-        (lucky-most field vectors fit m n some most few bits) (seldom field vectors fit m n some most few bits)
+        by-parts lines field vectors fit m n some most few (34 * (4 * 2 ^ row_levels m n) - 1)
+        (radius lines field vectors fit m n some most few bits) (gap lines field vectors fit m n some most few bits)
+        (lucky-most lines field vectors fit m n some most few bits) (seldom lines field vectors fit m n some most few bits)
     pick (inr none) =
         let no_bits = nothing (place_bits m n) none in
-        by-parts field vectors fit m n some most few 1 (opened-radius field vectors fit m n some most few no_bits)
-        (opened-gap field vectors fit m n some most few no_bits) (opened-lucky field vectors fit m n some most few no_bits)
-        (opened-seldom field vectors fit m n some most few no_bits)
+        by-parts lines field vectors fit m n some most few 1 (opened-radius lines field vectors fit m n some most few no_bits)
+        (opened-gap lines field vectors fit m n some most few no_bits) (opened-lucky lines field vectors fit m n some most few no_bits)
+        (opened-seldom lines field vectors fit m n some most few no_bits)
 
 -- ---- its bits
 

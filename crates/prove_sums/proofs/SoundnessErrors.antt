@@ -7,9 +7,10 @@ use Rattle.std.proofs.lemmas.Bool.{cases_lt}
 use Rattle.std.proofs.lemmas.Bool.Decides.{eqb_tells}
 use Rattle.std.proofs.lemmas.List.{length-drop, length-take-le, take-append-drop, take_at}
 use Rattle.std.proofs.lemmas.List.FromFn.{get_or-map-range_with_len, length-map-range_with_len}
-use Rattle.std.proofs.lemmas.Nat.{mul-pow, pow-add, xor_lt}
+use Rattle.std.proofs.lemmas.Nat.{mul-pow, pow-add, xor_comm, xor_lt}
 use native.Mathlib.Nat.{mod-eq_of_lt}
-use lib.Bits.{xor_self}
+use lib.Bits.{xor_self, xor_zero_r}
+use Rattle.field_base.specs.Basis.{sum_below}
 use Rattle.field_base.specs.Field.{IsField}
 use Rattle.field_base.specs.Orders.{AreCantorVectors}
 use Rattle.field_base.proofs.RingLemmas.{xor_nothing}
@@ -28,8 +29,7 @@ use Rattle.proximity.proofs.Deciding.{near-decided}
 use Rattle.proximity.proofs.Openings.{little-missed, near-row}
 use Rattle.sum_checks.specs.SumcheckClaims.{reduced_claim}
 use Rattle.sum_checks.specs.Terms.{table_value, terms_value}
-use Rattle.sum_checks.specs.ZeroCheck.{IsNonzeroLine}
-use Rattle.sum_checks.proofs.ZeroChecks.{lines_have_one_root}
+use Rattle.sum_checks.specs.ZeroCheck.{IsNonzeroLine, LinesHaveOneRoot}
 use Rattle.protocols.specs.CodeDistances.{point_generator}
 use Rattle.protocols.specs.CommitmentScheme.{block_places, matrix_rows, place_bits, place_count, row_levels, word_levels}
 use Rattle.protocols.specs.OpenedTables.{AreColumnsOf, CommitsTo, column_symbol}
@@ -38,7 +38,7 @@ use Rattle.protocols.specs.Tables.{AgreesAt}
 use Rattle.protocols.proofs.JointTables.{part-commits}
 use Rattle.protocols.proofs.OpenedTables.{code-distance, code-word-of, commits, row-value, row-values, table}
 use Rattle.protocols.proofs.SoundnessErrors.{MissesFew, at-most-one, few_runs_save, seldom-or-near}
-use Rattle.protocols.proofs.StackedTables.{row-value as part-value, stacked-fits, value-none, value-parts, value-same, value-sum, value_of}
+use Rattle.protocols.proofs.StackedTables.{row-value as part-value, stacked-fits, value-parts, value-same, value-sum, value_of}
 use Rattle.protocols.specs.ProductSums.{interleaved, product_terms}
 use Rattle.protocols.proofs.ProductSums.{tables-shape, values-product}
 use Rattle.prove_sums.specs.SoundnessErrors.{Cheats, FewCheatsSucceed, Prover, accepted_runs, both_columns, joint_column}
@@ -158,7 +158,7 @@ module _ (width : ℕ) (times : ℕ → ℕ → ℕ) (wide : 0 < width) (field :
 -- ---- the challenge that combines values
 
 -- By two differences of values that are not both 0, at most one challenge combines them to 0.
-module _ (width : ℕ) (times : ℕ → ℕ → ℕ) (wide : 0 < width) (field : IsField width times) (v w : ℕ) (v_fits : v < 2 ^ width)
+module _ (lines : LinesHaveOneRoot) (width : ℕ) (times : ℕ → ℕ → ℕ) (wide : 0 < width) (field : IsField width times) (v w : ℕ) (v_fits : v < 2 ^ width)
     (w_fits : w < 2 ^ width) where
   -- the differences are not both 0, and a challenge combines them to 0
   abbrev pub combines : ℕ → Bool
@@ -196,21 +196,27 @@ module _ (width : ℕ) (times : ℕ → ℕ → ℕ) (wide : 0 < width) (field :
           let second = numbered.1 1 many in
           let same : 0 ≡ 1 =
           numbered.2 0 1 some many
-          (lines_have_one_root width times v w (numbered.0 0) (numbered.0 1) field wide v_fits w_fits first.0 second.0
+          (lines width times v w (numbered.0 0) (numbered.0 1) field wide v_fits w_fits first.0 second.0
           (line (numbered.0 0) first.1) (root (numbered.0 0) first.1) (root (numbered.0 1) second.1)) in
           absurd (omega (arith, same))
+
+-- the value at no coordinates
+value-none : (width : ℕ) (times : ℕ → ℕ → ℕ) → IsField width times → (f : ℕ → ℕ) → f 0 < 2 ^ width → value_of times f [] ≡ f 0
+unfolding sum_below eq_corner
+value-none width times field f fits =
+    xor_comm 0 (times (f 0) 1) ∙ xor_zero_r (times (f 0) 1) ∙ field.ring.comm (f 0) 1 ∙ field.ring.one (f 0) ∙ mod-eq_of_lt fits
 
 -- the value of two values at one challenge is on their line
 line-value : (width : ℕ) (times : ℕ → ℕ → ℕ) → 0 < width → IsField width times → (f : ℕ → ℕ) → f 0 < 2 ^ width → f 1 < 2 ^ width → (x : ℕ)
     → value_of times f (x ∷ []) ≡ on_line times x (f 0) (f 1)
 line-value width times wide field f one other x =
     corners-line width times field.ring f x []
-    ∙ ap₂ (on_line times x) (value-none width times field.ring f one) (value-none width times field.ring (λ i. f (2 ^ 0 + i)) other)
+    ∙ ap₂ (on_line times x) (value-none width times field f one) (value-none width times field (λ i. f (2 ^ 0 + i)) other)
 
 -- ---- both tables
 
 -- `weight` times the lists of numbers are at most `large`, and those that miss more than e places at most `small`
-module _ (width : ℕ) (times : ℕ → ℕ → ℕ) (vector : ℕ → ℕ) (wide : 2 ≤ width) (field : IsField width times)
+module _ (lines : LinesHaveOneRoot) (width : ℕ) (times : ℕ → ℕ → ℕ) (vector : ℕ → ℕ) (wide : 2 ≤ width) (field : IsField width times)
     (vectors : AreCantorVectors width times vector) (fit : (b : ℕ) → b < width → vector b < 2 ^ width) (m n e lucky : ℕ)
     (deep : word_levels m n ≤ width) (radius : 2 * e + 2 ^ row_levels m n ≤ 2 ^ 2 * 2 ^ row_levels m n)
     (gap : HasGap width times (2 ^ row_levels m n) (2 ^ 2 * 2 ^ row_levels m n)
@@ -508,7 +514,7 @@ module _ (width : ℕ) (times : ℕ → ℕ → ℕ) (vector : ℕ → ℕ) (wid
       -- whether wrong values are combined as if they were right
       abbrev hides : List ℕ → ℕ → Bool
       hides point x =
-          combines width times some_width field (difference 0 point) (difference 1 point) (difference-fits 0 point) (difference-fits 1 point) x
+          combines lines width times some_width field (difference 0 point) (difference 1 point) (difference-fits 0 point) (difference-fits 1 point) x
 
       abbrev bad : List ℕ → Bool
       bad draws = leads (point_of draws) || hides (point_of draws) (slice_index draws 0)
@@ -587,7 +593,7 @@ module _ (width : ℕ) (times : ℕ → ℕ → ℕ) (vector : ℕ → ℕ) (wid
           (let less =
           lists-most n (2 ^ width) (λ point. total (λ x. cond (hides point x) 1 0) (2 ^ width)) (λ point. 1)
           (λ point long.
-          few-combine width times some_width field (difference 0 point) (difference 1 point) (difference-fits 0 point) (difference-fits 1 point)) in
+          few-combine lines width times some_width field (difference 0 point) (difference 1 point) (difference-fits 0 point) (difference-fits 1 point)) in
           let count = lists-constant n (2 ^ width) 1 in omega (arith, less, count))
 
       bad-few : 2 ^ width * sum_lists (suc n) (2 ^ width) (λ draws. cond (bad draws) 1 0) ≤ most * (2 ^ width) ^ suc n
@@ -645,9 +651,9 @@ module _ (width : ℕ) (times : ℕ → ℕ → ℕ) (vector : ℕ → ℕ) (wid
 
 -- ---- over every field
 
-pub few_cheats_succeed : FewCheatsSucceed
-few_cheats_succeed width times vector wide field vectors fit m n e lucky deep radius gap left right sum prover accepted cheats =
-    few-accepted width times vector wide field vectors fit m n e lucky deep radius gap left right sum prover accepted cheats
+pub few_cheats_succeed : LinesHaveOneRoot → FewCheatsSucceed
+few_cheats_succeed lines width times vector wide field vectors fit m n e lucky deep radius gap left right sum prover accepted cheats =
+    few-accepted lines width times vector wide field vectors fit m n e lucky deep radius gap left right sum prover accepted cheats
     (place_count m n ^ place_count m n) ((2 ^ 2 * 2 ^ row_levels m n) ^ place_count m n)
     ((2 ^ 2 * 2 ^ row_levels m n - (e + 1)) ^ place_count m n) whole seldom
   where

@@ -6,7 +6,8 @@ ghost use Rattle.prove_sums.specs.SoundnessErrors.{ErrorsAreSmall, FewCheatsSucc
 use field_element::Ghash128;
 use protocols::extension::parts_determine;
 use protocols::laws::{
-    false_claims_need_luck, honest_reduces, opened_tables_need_luck, roots_hold_columns,
+    false_claims_need_luck, honest_reduces, lines_have_one_root, opened_tables_need_luck,
+    roots_hold_columns,
 };
 use protocols::openings::openings_have_one_count;
 use transcript_elements::{ByteLevel, FieldChallenger};
@@ -39,8 +40,7 @@ pub fn sums_are_proved<
 {
     field_has_points::<F>();
     roots_hold_columns();
-    opened_tables_need_luck();
-    false_claims_need_luck();
+    sums_need_luck();
 }
 
 /// States the same of files that the program accepts for the same roots, as `answer_to` does, by hashers whose digests have 32 bytes.
@@ -49,8 +49,7 @@ pub fn files_show_sums<H: ByteHasher32>()
 {
     field_has_points::<Ghash128>();
     roots_hold_columns();
-    opened_tables_need_luck();
-    false_claims_need_luck();
+    sums_need_luck();
 }
 
 /// States completeness with what `proving::prove` says: on what it makes of two tables that are committed to, in transcripts of any
@@ -83,7 +82,9 @@ pub fn written_proofs_are_accepted<H: ByteHasher32>()
 /// are.
 pub fn few_cheats_succeed()
     ensures { FewCheatsSucceed }
-{}
+{
+    lines_have_one_root();
+}
 
 /// States it in numbers over the field of GHASH: of all runs for two tables of 2^n words, of which q places are opened, 2^7 or 2^8, at most
 /// the share max(2 n + 1, 34 N (h + 1)) / 2^128 + (163 / 256)^q accepts a sum that is false, by N places and 2^h rows, and
@@ -92,4 +93,5 @@ pub fn errors_are_small()
     ensures { ErrorsAreSmall }
 {
     field_has_points::<Ghash128>();
+    lines_have_one_root();
 }

@@ -1,5 +1,5 @@
 // The prover of a sum of products of two tables, both committed to.
-ghost use Rattle.std.specs.Prelude.{◌≡◌, ◌^◌, ◌≤◌, ◌++◌, map, vec_len, IfOk, OnOk};
+ghost use Rattle.std.specs.Prelude.{◌≡◌, ◌^◌, ◌≤◌, map, vec_len, IfOk};
 ghost use Rattle.std.specs.List.{flat_map};
 ghost use Rattle.transcripts.specs.Grinding.{MayGrind};
 ghost use Rattle.field_bytes.specs.Streams.{joined_bytes};
@@ -88,18 +88,19 @@ pub fn prove<
     elements.extend_from_slice(opened.values.as_slice())?;
     elements.push(opened.witness)?;
     elements.extend_from_slice(opened.row.as_slice())?;
-    extend_from_lists(&mut elements, opened.columns.as_slice())?;
-    let mut nodes = Vec::new(alloc);
-    extend_from_lists(&mut nodes, opened.nodes.as_slice())?;
+    let columns = joined(alloc, opened.columns.as_slice())?;
+    elements.extend_from_slice(columns.as_slice())?;
+    let nodes = joined(alloc, opened.nodes.as_slice())?;
     Ok(Sent { elements, nodes })
 }
 
-// Appends the elements of lists.
-fn extend_from_lists<T: Copy>(to: &mut Vec<T>, lists: &[Vec<T>]) -> Result<(), AllocError>
-    ensures { OnOk result (to.new.items ≡ to.old.items ++ flat_map (λ list. list) (map (λ list. list.items) lists.now)) }
+// The elements of lists, one list after the other.
+fn joined<T: Copy>(alloc: Global, lists: &[Vec<T>]) -> Result<Vec<T>, AllocError>
+    ensures { IfOk result (λ all. all.items ≡ flat_map (λ list. list) (map (λ list. list.items) lists.now)) }
 {
+    let mut all = Vec::new(alloc);
     'lists: for index in 0..lists.len() {
-        to.extend_from_slice(lists[index].as_slice())?;
+        all.extend_from_slice(lists[index].as_slice())?;
     }
-    Ok(())
+    Ok(all)
 }

@@ -4,5 +4,4 @@ use Rattle.prove_sums.proofs.laws.files_show_sums.Goals as goal
 
 pub returns : goal.returns
 returns g c =
-    files_show_sums g.H.ByteHasher32.digest repr_of c.field_has_points.ensures c.roots_hold_columns.ensures c.opened_tables_need_luck.ensures
-    c.false_claims_need_luck.ensures
+    files_show_sums g.H.ByteHasher32.digest repr_of c.field_has_points.ensures c.roots_hold_columns.ensures c.sums_need_luck.ensures

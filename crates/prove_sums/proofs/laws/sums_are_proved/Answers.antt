@@ -8,5 +8,4 @@ returns g c =
     let level = g.F.TowerLevel in
     sums_are_proved g.C.CanObserve.observes g.C.CanSample.gives g.C.GrindingChallenger.passing g.C.GrindingChallenger.checks
     g.C.CanSampleBits.gives_bits g.C.GrindingChallenger.number field.repr g.F.RawDataSerializable.NUM_BYTES field.width field.product
-    (λ (i : ℕ). level.basis (level.cantor i)) c.field_has_points.ensures c.roots_hold_columns.ensures c.opened_tables_need_luck.ensures
-    c.false_claims_need_luck.ensures
+    (λ (i : ℕ). level.basis (level.cantor i)) c.field_has_points.ensures c.roots_hold_columns.ensures c.sums_need_luck.ensures
