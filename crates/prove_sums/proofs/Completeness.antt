@@ -195,7 +195,7 @@ module _ {C F A : Type 0} {observes gives : C → F → C → Type 0} {passing :
       ≡ multilinear_value times (map repr left) (map repr honest.point) ∷ multilinear_value times (map repr right) (map repr honest.point) ∷ [])
       × VerifiesTables observes gives passing checks gives_bits repr hash size width times vector m n (root_of left_tree ∷ root_of right_tree ∷ [])
       honest.point sent honest.between true honest.new
-  honest-opened = honest.opened hash (left ∷ right ∷ []) (left_held, right_held, tt)
+  honest-opened = honest.opened hash (left ∷ right ∷ []) (left_held, (right_held, tt))
 
   opens : OpensTables hash repr size width times vector m n (root_of left_tree ∷ root_of right_tree ∷ []) sent honest-opened.1.challenges honest.point
       honest-opened.1.places

@@ -28,7 +28,7 @@ use Rattle.protocols.proofs.TableOpenings.{opens-same}
 use Rattle.protocols.specs.CommitmentScheme.{matrix_rows, row_levels, word_levels}
 use Rattle.protocols.specs.ProductSums.{interleaved, product_terms}
 use Rattle.protocols.proofs.ProductSums.{messages-are, tables-shape, values-product}
-use Rattle.prove_sums.specs.Shapes.{columns_in, columns_size, element_count, messages_in, nodes_in, row_in, row_size, sum_in, values_in}
+use Rattle.prove_sums.specs.Shapes.{columns_in, columns_size, element_count, messages_in, nodes_in, row_in, row_size, sent_in, sum_in, values_in}
 use Rattle.prove_sums.specs.ProofFiles.{file_bytes}
 use Rattle.prove_sums.specs.Soundness.{AcceptedFile, AcceptedProof, ElementsAreRun, ElementsShowSum, FilesShowSums, HasPoints, HaveColumns, RootsShowSums, ShowsSum}
 use Rattle.prove_sums.specs.Soundness.{SumsAreProved, SumsNeedLuck, both_differences, sent_columns}

@@ -1,7 +1,7 @@
 -- For how many challenges and places a prover that cheats is accepted.
 use Rattle.std.proofs.Common.{◌≡◌, ◌⊎◌, inl, inr, ℕ, zero, suc, ◌+◌, ◌-◌, ◌*◌, ◌%◌, ◌^◌, ◌<◌, ◌≤◌, Bool, true, false, cond, List, [], ◌∷◌, ◌++◌}
 use Rattle.std.proofs.Common.{append_assoc, length, take, drop, refl, sym, ◌∙◌, ap, ap₂, subst, le_trans, arith, eq-eqb, eqb-true}
-use Rattle.std.specs.Prelude.{◌&&◌, ◌||◌, bit_xor, max, nat_eq, not, slice_index}
+use Rattle.std.specs.Prelude.{◌≢◌, ◌&&◌, ◌||◌, bit_xor, max, nat_eq, not, slice_index}
 use Rattle.std.proofs.Math.Nat.{le-max_left, le-max_right, mul-le-mul_left, mul-le-mul_right, pow-le-pow_left, pow-suc}
 use Rattle.std.proofs.lemmas.Bool.{cases_lt}
 use Rattle.std.proofs.lemmas.Bool.Decides.{eqb_tells}
@@ -74,9 +74,12 @@ unfolding sum_lists
 drawn-first q bound f = lists-total q bound bound (λ x xs. f xs (x ∷ []))
 
 -- numbers and one before them
+one-less : (a b : ℕ) → suc a ≡ suc b → a ≡ b
+one-less a b is = omega (arith, is)
+
 tail-below : (q bound : ℕ) (draws : List ℕ) → AreNumbersBelow (suc q) bound draws → AreNumbersBelow q bound (drop 1 draws)
 tail-below q bound [] are = absurd (let none = are.count in omega (arith, none))
-tail-below q bound (x ∷ xs) are = record { count = let all = are.count in omega (arith, all); below = λ i inside. are.below (suc i) (omega (arith, inside)) }
+tail-below q bound (x ∷ xs) are = record { count = one-less (length xs) q are.count; below = λ i inside. are.below (suc i) (omega (arith, inside)) }
 
 head-below : (q bound : ℕ) (draws : List ℕ) → AreNumbersBelow (suc q) bound draws → AreNumbersBelow 1 bound (take 1 draws)
 head-below q bound [] are = absurd (let none = are.count in omega (arith, none))
@@ -292,18 +295,15 @@ module _ (lines : LinesHaveOneRoot) (width : ℕ) (times : ℕ → ℕ → ℕ) 
 
     folding-long : (draws : List ℕ) → length draws ≡ suc n → length (folding draws) ≡ suc h
     folding-long [] long = absurd (omega (arith, long))
-    folding-long (x ∷ xs) long =
-        let all = parts in
-        let first = length-take-le h xs (omega (arith, long, all)) in
-        omega (arith, first)
+    folding-long (x ∷ xs) long = ap suc (length-take-le h xs (let all = parts in omega (arith, long, all)))
 
-    folding-first : (draws : List ℕ) → take (suc h) draws ≡ folding draws
-    folding-first [] = refl
-    folding-first (x ∷ xs) = refl
+    folding-first : (draws : List ℕ) → length draws ≡ suc n → take (suc h) draws ≡ folding draws
+    folding-first [] long = absurd (omega (arith, long))
+    folding-first (x ∷ xs) long = refl
 
     point-long : (draws : List ℕ) → length draws ≡ suc n → length (point_of draws) ≡ n
     point-long [] long = absurd (omega (arith, long))
-    point-long (x ∷ xs) long = omega (arith, long)
+    point-long (x ∷ xs) long = one-less (length xs) n long
 
     others-long : (point : List ℕ) → length point ≡ n → length (drop h point) ≡ k
     others-long point long = let behind = length-drop h point in let all = parts in omega (arith, behind, long, all)
@@ -374,7 +374,7 @@ module _ (lines : LinesHaveOneRoot) (width : ℕ) (times : ℕ → ℕ → ℕ) 
         near-test width times some_width field (2 ^ k) (2 ^ 2 * 2 ^ k) (point_generator width times vector k) e 1
         (rows_folded times (suc h) (take (suc h) draws) (column_symbol column))
         (subst (λ (l : List ℕ). IsNear times (2 ^ k) (2 ^ 2 * 2 ^ k) (point_generator width times vector k) e 1
-        (rows_folded times (suc h) l (column_symbol column))) (sym (folding-first draws))
+        (rows_folded times (suc h) l (column_symbol column))) (sym (folding-first draws long))
         (near-row width times some_width field (2 ^ k) (2 ^ 2 * 2 ^ k) (2 ^ 2 * 2 ^ k + 1 - 2 ^ k)
         (point_generator width times vector k) distance e (suc h)
         (column_symbol column) (folding draws) (slice_index v.word)
@@ -553,8 +553,8 @@ module _ (lines : LinesHaveOneRoot) (width : ℕ) (times : ℕ → ℕ → ℕ) 
               ∙ sym (values-product width times field.ring one other point
               (one-size ∙ ap (λ (v : ℕ). 2 ^ v) (sym (point-long draws are.count))) same-size))
 
-          wrong-values : nat_eq (difference 0 point) 0 && nat_eq (difference 1 point) 0 ≡ false → hides point (slice_index draws 0) ≡ true
-          wrong-values some = ap₂ (λ (a b : Bool). not a && b) some zero-line
+          wrong-values : (nat_eq (difference 0 point) 0 && nat_eq (difference 1 point) 0) ≡ false → hides point (slice_index draws 0) ≡ true
+          wrong-values differ = ap₂ (λ (a b : Bool). not a && b) differ zero-line
 
           pick : ((nat_eq (difference 0 point) 0 ≡ true) × (difference 0 point ≡ 0))
               ⊎ ((nat_eq (difference 0 point) 0 ≡ false) × (difference 0 point ≢ 0))
