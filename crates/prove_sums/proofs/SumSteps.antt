@@ -1,6 +1,8 @@
 -- Proofs of sums as elements: what is at their places, and what is said by sizes and tests.
-use Rattle.std.proofs.Common.{◌≡◌, ℕ, zero, suc, ◌<◌, List, [], ◌∷◌, ◌++◌, append_assoc, length, map, get_or, ◌∙◌, ap, subst, arith}
+use Rattle.std.proofs.Common.{◌≡◌, ℕ, zero, suc, ◌<◌, List, [], ◌∷◌, ◌++◌, ◌≤◌, append_assoc, length, map, take, get_or, refl, sym, ◌∙◌, ap, subst, arith}
 use Rattle.std.specs.Prelude.{slice_index}
+use Rattle.std.specs.List.{flat_map}
+use Rattle.std.proofs.lemmas.List.{append-nil}
 
 -- the number of the element at a place
 pub number-at : {F : Type 0} (repr : F → ℕ) (xs : List F) (place : ℕ) (x : F) → place < length xs → x ≡ get_or xs place x
@@ -26,3 +28,21 @@ elements-listed {one = one} {two = two} {three = three} {four = four} {five = fi
     (c ∙ ap (λ (l : List _). one ++ l) d ∙ ap (λ (l : List _). l ++ messages) (b ∙ ap (λ (l : List _). l ++ sum ∷ []) a))
     ∙ append_assoc (((sum ∷ messages) ++ values) ++ witness ∷ []) row columns
     ∙ append_assoc ((sum ∷ messages) ++ values) (witness ∷ []) (row ++ columns) ∙ append_assoc (sum ∷ messages) values (witness ∷ row ++ columns)
+
+-- ---- lists, one after the other
+
+-- one list more
+pub flat-more : {X Y : Type 0} (f : Y → List X) (ys : List Y) (i : ℕ) (y : Y) → i < length ys → y ≡ get_or ys i y
+    → flat_map (λ (list : List X). list) (take (suc i) (map f ys)) ≡ flat_map (λ (list : List X). list) (take i (map f ys)) ++ f y
+flat-more f [] i y inside is = absurd (omega (arith, inside))
+flat-more f (z ∷ zs) zero y inside is = append-nil (f z) ∙ ap f (sym is)
+flat-more {X} f (z ∷ zs) (suc i) y inside is =
+    ap (λ (l : List X). f z ++ l) (flat-more f zs i y (omega (arith, inside)) is)
+    ∙ sym (append_assoc (f z) (flat_map (λ (list : List X). list) (take i (map f zs))) (f y))
+
+-- all lists
+pub take-whole : {X : Type 0} (xs : List X) (n : ℕ) → length xs ≤ n → take n xs ≡ xs
+take-whole [] zero all = refl
+take-whole [] (suc n) all = refl
+take-whole (x ∷ xs) zero all = absurd (omega (arith, all))
+take-whole {X} (x ∷ xs) (suc n) all = ap (λ (l : List X). x ∷ l) (take-whole xs n (omega (arith, all)))

@@ -4,8 +4,8 @@ use Rattle.prove_sums.proofs.verifying.two_parts.Goals as goal
 pub part-requires : goal.part-requires
 part-requires g c = omega (arith, c.requires)
 
-pub part-2-requires : goal.part-2-requires
-part-2-requires g c = omega (arith, c.requires)
+pub part-requires-2 : goal.part-requires-2
+part-requires-2 g c = omega (arith, c.requires)
 
 pub returns : goal.returns
 returns g c =
