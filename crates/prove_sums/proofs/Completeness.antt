@@ -64,7 +64,7 @@ flat-two {X} lists long =
     ap (flat_map (λ (list : List X). list)) (two-long lists [] long) ∙ ap (λ (l : List X). get_or lists 0 [] ++ l) (append-nil (get_or lists 1 []))
 
 -- what is sent of tables, by its parts
-sent-same : {F : Type 0} {values values_read row row_read : List F} {witness witness_read : ℕ} {columns columns_read : List (List F)}
+pub sent-same : {F : Type 0} {values values_read row row_read : List F} {witness witness_read : ℕ} {columns columns_read : List (List F)}
     {nodes nodes_read : List (List (List ℕ))} → values_read ≡ values → row_read ≡ row → witness_read ≡ witness → columns_read ≡ columns
     → nodes_read ≡ nodes
     → sent_tables values_read row_read witness_read columns_read nodes_read ≡ sent_tables values row witness columns nodes

@@ -1,4 +1,4 @@
-use Rattle.std.proofs.Common.{◌^◌, ◌*◌, ℕ, zero, suc, List, length, map, sym, ◌∙◌, ap, ap₂, subst, arith}
+use Rattle.std.proofs.Common.{◌^◌, ◌*◌, ◌∷◌, [], ℕ, zero, suc, List, length, map, sym, ◌∙◌, ap, ap₂, subst, arith}
 use Rattle.std.specs.List.{flat_map}
 use Rattle.protocols.specs.CommitmentScheme.{matrix_rows, row_levels, word_levels}
 use Rattle.protocols.specs.JointTables.{IsHonestOpeningOf, sent_tables}
@@ -8,22 +8,22 @@ use Rattle.prove_sums.proofs.proving.prove.Goals as goal
 
 pub open_tables-requires-clause-coordinates : goal.open_tables-requires-clause-coordinates
 open_tables-requires-clause-coordinates g c =
-    ap length c.as_slice.ensures.value ∙ c.in_ok-summed.ensures.challenge_count ∙ sym c.sizes.ensures.variables
+    ap length c.as_slice-point.ensures.value ∙ c.in_ok-summed.ensures.challenge_count ∙ sym c.sizes-sizes.ensures.variables
 
 pub open_tables-requires-clause-depth : goal.open_tables-requires-clause-depth
 open_tables-requires-clause-depth g c zero d below =
-    c.requires.left.depth ∙ ap₂ (λ (q v : ℕ). word_levels q v) (sym c.sizes.ensures.queries) (sym c.sizes.ensures.variables)
+    c.requires.left.depth ∙ ap₂ (λ (q v : ℕ). word_levels q v) (sym c.sizes-sizes.ensures.queries) (sym c.sizes-sizes.ensures.variables)
 open_tables-requires-clause-depth g c (suc zero) d below =
-    c.requires.right.depth ∙ ap₂ (λ (q v : ℕ). word_levels q v) (sym c.sizes.ensures.queries) (sym c.sizes.ensures.variables)
+    c.requires.right.depth ∙ ap₂ (λ (q v : ℕ). word_levels q v) (sym c.sizes-sizes.ensures.queries) (sym c.sizes-sizes.ensures.variables)
 open_tables-requires-clause-depth g c (suc (suc k)) d below = absurd (omega (arith, below))
 
 pub open_tables-requires-clause-count : goal.open_tables-requires-clause-count
 open_tables-requires-clause-count g c zero d below =
     c.requires.left.extended.count
-    ∙ ap₂ (λ (q v : ℕ). 2 ^ 2 * 2 ^ row_levels q v * 2 ^ matrix_rows q v) (sym c.sizes.ensures.queries) (sym c.sizes.ensures.variables)
+    ∙ ap₂ (λ (q v : ℕ). 2 ^ 2 * 2 ^ row_levels q v * 2 ^ matrix_rows q v) (sym c.sizes-sizes.ensures.queries) (sym c.sizes-sizes.ensures.variables)
 open_tables-requires-clause-count g c (suc zero) d below =
     c.requires.right.extended.count
-    ∙ ap₂ (λ (q v : ℕ). 2 ^ 2 * 2 ^ row_levels q v * 2 ^ matrix_rows q v) (sym c.sizes.ensures.queries) (sym c.sizes.ensures.variables)
+    ∙ ap₂ (λ (q v : ℕ). 2 ^ 2 * 2 ^ row_levels q v * 2 ^ matrix_rows q v) (sym c.sizes-sizes.ensures.queries) (sym c.sizes-sizes.ensures.variables)
 open_tables-requires-clause-count g c (suc (suc k)) d below = absurd (omega (arith, below))
 
 pub returns : goal.returns
@@ -64,15 +64,15 @@ returns g c =
           (λ (i : ℕ). g.F.TowerLevel.basis (g.F.TowerLevel.cantor i)) q v
           ((left.held.columns.items, left.held.tree) ∷ (right.held.columns.items, right.held.tree) ∷ []) point
           (sent_tables opened.values.items opened.row.items (g.C.GrindingChallenger.number opened.witness) columns openers)
-          c.prove_sum.new.challenger c.open_tables.new.challenger) c.sizes.ensures.queries c.sizes.ensures.variables c.as_slice.ensures.value
+          c.prove_sum.new.challenger c.open_tables.new.challenger) c.sizes-sizes.ensures.queries c.sizes-sizes.ensures.variables c.as_slice-point.ensures.value
           c.in_ok-opened.ensures;
       written =
           elements-listed summed.sum opened.witness c.new-elements.ensures.items c.in_ok-push.ensures.items c.in_ok-extend_from_slice.ensures.items
-          c.as_slice-2.ensures.value c.in_ok-extend_from_slice-2.ensures.items c.as_slice-3.ensures.value c.in_ok-push-2.ensures.items
-          c.in_ok-extend_from_slice-3.ensures.items c.as_slice-4.ensures.value c.in_ok-extend_from_slice-4.ensures.items
-          (c.as_slice-6.ensures.value ∙ c.in_ok-columns.ensures
-          ∙ ap (λ (l : List _). flat_map (λ (list : List _). list) (map (λ list. list.items) l)) c.as_slice-5.ensures.value);
+          c.as_slice.ensures.value c.in_ok-extend_from_slice-2.ensures.items c.as_slice-2.ensures.value c.in_ok-push-2.ensures.items
+          c.in_ok-extend_from_slice-3.ensures.items c.as_slice-3.ensures.value c.in_ok-extend_from_slice-4.ensures.items
+          (c.as_slice-5.ensures.value ∙ c.in_ok-columns.ensures
+          ∙ ap (λ (l : List _). flat_map (λ (list : List _). list) (map (λ list. list.items) l)) c.as_slice-4.ensures.value);
       nodes_are =
           c.in_ok-nodes.ensures
-          ∙ ap (λ (l : List _). flat_map (λ (list : List (List ℕ)). list) (map (λ list. list.items) l)) c.as_slice-7.ensures.value;
+          ∙ ap (λ (l : List _). flat_map (λ (list : List (List ℕ)). list) (map (λ list. list.items) l)) c.as_slice-6.ensures.value;
     }

@@ -1,5 +1,6 @@
-use Rattle.std.proofs.Common.{◌≡◌, ◌+◌, ◌*◌, ◌≤◌, ℕ, List, length, map, refl, ◌∙◌, ap, arith, rules}
-use Rattle.prove_sums.specs.Shapes.{columns_size, element_count, part, row_in, row_size, values_in, witness_in}
+use Rattle.std.proofs.Common.{◌≡◌, ◌+◌, ◌*◌, ◌∷◌, [], ℕ, List, length, map, refl, ◌∙◌, ap, arith, rules}
+use Rattle.std.specs.Prelude.{slice_index}
+use Rattle.prove_sums.specs.Shapes.{columns_in, columns_size, element_count, part, row_in, row_size, values_in, witness_in}
 use Rattle.prove_sums.proofs.Completeness.{sent-same}
 use Rattle.prove_sums.proofs.Sizes.{columns-read, nodes-read, part-same, parts-room}
 use Rattle.prove_sums.proofs.SumSteps.{number-at}
@@ -15,8 +16,8 @@ part-requires g c =
     parts-room m n c.as_slice-elements.result.now (row_size m n) (columns_size m n) (ap length c.as_slice-elements.ensures.value ∙ count) refl refl in
     omega (arith, room)
 
-pub bounds-elements : goal.bounds-elements
-bounds-elements g c =
+pub bounds-elements-behind : goal.bounds-elements-behind
+bounds-elements-behind g c =
     let proof = c.args.proof.now in
     let m = proof.shape.queries in
     let n = proof.shape.rounds in
@@ -25,8 +26,8 @@ bounds-elements g c =
     parts-room m n c.as_slice-elements.result.now (row_size m n) (columns_size m n) (ap length c.as_slice-elements.ensures.value ∙ count) refl refl in
     omega (arith, room)
 
-pub part-2-requires : goal.part-2-requires
-part-2-requires g c =
+pub part-requires-2 : goal.part-requires-2
+part-requires-2 g c =
     let proof = c.args.proof.now in
     let m = proof.shape.queries in
     let n = proof.shape.rounds in
@@ -36,8 +37,8 @@ part-2-requires g c =
     c.row_size.ensures.size refl in
     omega (arith, room)
 
-pub two_parts-columns-requires : goal.two_parts-columns-requires
-two_parts-columns-requires g c =
+pub two_parts-requires : goal.two_parts-requires
+two_parts-requires g c =
     let proof = c.args.proof.now in
     let m = proof.shape.queries in
     let n = proof.shape.rounds in
@@ -47,8 +48,8 @@ two_parts-columns-requires g c =
     c.row_size.ensures.size c.columns_size.ensures.size in
     omega (arith, room)
 
-pub two_parts-nodes-requires : goal.two_parts-nodes-requires
-two_parts-nodes-requires g c = omega arith
+pub two_parts-requires-2 : goal.two_parts-requires-2
+two_parts-requires-2 g c = omega arith
 
 pub returns-clause-sent : goal.returns-clause-sent
 returns-clause-sent g c number =
@@ -64,7 +65,7 @@ returns-clause-sent g c number =
     let place : 2 * n + 1 + 2 ≡ 2 * n + 3 = omega arith in
     sent-same (c.in_ok-values.ensures.items ∙ c.part.ensures.values ∙ ap (values_in n) same)
     (c.in_ok-row.ensures.items ∙ c.part-2.ensures.values ∙ part-same elements begin c.row_size.ensures.size ∙ ap (row_in m n) same)
-    (number-at number elements (2 * n + 1 + 2) c.index-elements.result (omega (arith, room)) c.index-elements.is
+    (number-at number elements (2 * n + 1 + 2) c.index-elements-behind.result (omega (arith, room)) c.index-elements-behind.is
     ∙ ap (λ (p : ℕ). slice_index (map number elements) p) place ∙ ap (witness_in number n) same)
     (c.in_ok-columns.ensures ∙ columns-read m n elements c.row_size.result c.columns_size.result c.row_size.ensures.size c.columns_size.ensures.size
     ∙ ap (λ (l : List _). columns_in m n 0 l ∷ columns_in m n 1 l ∷ []) same)

@@ -1,6 +1,6 @@
-use Rattle.std.proofs.Common.{◌≡◌, ◌∷◌, [], ℕ, List, length, refl, sym, ◌∙◌, ap, subst, arith, rules}
+use Rattle.std.proofs.Common.{◌≡◌, ◌∷◌, [], ℕ, List, length, map, refl, sym, ◌∙◌, ap, subst, arith, rules}
 use Rattle.std.specs.Prelude.{◌↔◌, IsTrue}
-use Rattle.protocols.specs.JointTables.{SentTables, VerifiesTables}
+use Rattle.protocols.specs.JointTables.{SentTables, VerifiesTables, sent_tables}
 use Rattle.protocols.proofs.SchemeRuns.{memory-alone}
 use Rattle.prove_sums.specs.Shapes.{columns_size, element_count, row_size, values_in}
 use Rattle.prove_sums.specs.Verdicts.{IsProductOf, IsReducedClaim}
@@ -41,6 +41,10 @@ returns-clause-verdict g c =
     g.C.CanSampleBits.gives_bits field.repr (g.H.ByteHasher32.digest c.args.hasher.now) g.F.RawDataSerializable.NUM_BYTES field.width
     field.product (λ (i : ℕ). g.F.TowerLevel.basis (g.F.TowerLevel.cantor i)) q v (proof.roots.left ∷ proof.roots.right ∷ []) p sent
     c.reduce.new.challenger opens c.verify_tables.new.challenger in
+    let read = c.in_ok-sent.sent in
+    let sent : SentTables _ =
+    sent_tables read.values.items read.row.items (g.C.GrindingChallenger.number read.witness) (map (λ list. list.items) read.columns.items)
+    (map (λ list. list.items) read.nodes.items) in
     let product : IsTrue c.is_product-holds.result ↔ IsProductOf field.repr field.product (values_in n proof.elements.items) claim =
     subst (λ (l : List _). IsTrue c.is_product-holds.result ↔ IsProductOf field.repr field.product l claim)
     (c.as_slice.ensures.value ∙ c.in_ok-sent.ensures.values) c.is_product-holds.ensures in
@@ -57,7 +61,7 @@ returns-clause-verdict g c =
           c.args.challenger.now point claim c.reduce.new.challenger) c.as_slice-elements.ensures.value c.in_ok-reduced.ensures.reduced;
       opened =
           subst (λ (sent : SentTables _). says m n point sent) (c.in_ok-sent.ensures.sent g.C.GrindingChallenger.number)
-          (sizes-same (λ (q v : ℕ) (p : List _). says q v p _) c.sizes-sizes.ensures.queries c.sizes-sizes.ensures.variables
+          (sizes-same (λ (q v : ℕ) (p : List _). says q v p sent) c.sizes-sizes.ensures.queries c.sizes-sizes.ensures.variables
           c.as_slice-point.ensures.value c.in_ok-opens.ensures.verdict);
       decided = (
         λ holds. let each = whole.0 holds in (each.0, product.0 each.1),
