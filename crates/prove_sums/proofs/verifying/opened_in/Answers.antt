@@ -33,8 +33,8 @@ part-requires-2 g c =
     let n = proof.shape.rounds in
     let count : length proof.elements.items ≡ element_count m n = search rules in
     let room =
-    parts-room m n c.as_slice-elements.result.now c.row_size.result (columns_size m n) (ap length c.as_slice-elements.ensures.value ∙ count)
-    c.row_size.ensures.size refl in
+    parts-room m n c.as_slice-elements.result.now c.row_size-row_size.result (columns_size m n) (ap length c.as_slice-elements.ensures.value ∙ count)
+    c.row_size-row_size.ensures.size refl in
     omega (arith, room)
 
 pub two_parts-requires : goal.two_parts-requires
@@ -44,8 +44,8 @@ two_parts-requires g c =
     let n = proof.shape.rounds in
     let count : length proof.elements.items ≡ element_count m n = search rules in
     let room =
-    parts-room m n c.as_slice-elements.result.now c.row_size.result c.columns_size.result (ap length c.as_slice-elements.ensures.value ∙ count)
-    c.row_size.ensures.size c.columns_size.ensures.size in
+    parts-room m n c.as_slice-elements.result.now c.row_size-row_size.result c.columns_size.result (ap length c.as_slice-elements.ensures.value ∙ count)
+    c.row_size-row_size.ensures.size c.columns_size.ensures.size in
     omega (arith, room)
 
 pub two_parts-requires-2 : goal.two_parts-requires-2
@@ -64,10 +64,10 @@ returns-clause-sent g c number =
     let begin : 2 * n + 1 + 3 ≡ 2 * n + 4 = omega arith in
     let place : 2 * n + 1 + 2 ≡ 2 * n + 3 = omega arith in
     sent-same (c.in_ok-values.ensures.items ∙ c.part.ensures.values ∙ ap (values_in n) same)
-    (c.in_ok-row.ensures.items ∙ c.part-2.ensures.values ∙ part-same elements begin c.row_size.ensures.size ∙ ap (row_in m n) same)
+    (c.in_ok-row.ensures.items ∙ c.part-2.ensures.values ∙ part-same elements begin c.row_size-row_size.ensures.size ∙ ap (row_in m n) same)
     (number-at number elements (2 * n + 1 + 2) c.index-elements-behind.result (omega (arith, room)) c.index-elements-behind.is
     ∙ ap (λ (p : ℕ). slice_index (map number elements) p) place ∙ ap (witness_in number n) same)
-    (c.in_ok-columns.ensures ∙ columns-read m n elements c.row_size.result c.columns_size.result c.row_size.ensures.size c.columns_size.ensures.size
+    (c.in_ok-columns.ensures ∙ columns-read m n elements c.row_size-row_size.result c.columns_size.result c.row_size-row_size.ensures.size c.columns_size.ensures.size
     ∙ ap (λ (l : List _). columns_in m n 0 l ∷ columns_in m n 1 l ∷ []) same)
     (c.in_ok-nodes.ensures ∙ nodes-read proof.nodes.now)
 
