@@ -10,15 +10,16 @@ use Rattle.field_bytes.specs.Bytes.{number_of_bytes}
 use Rattle.field_bytes.specs.Streams.{joined_bytes}
 use Rattle.merkle_trees.specs.Commitments.{row_at}
 use Rattle.merkle_trees.specs.MerkleTrees.{rows_root}
+use Rattle.merkle_trees.specs.declared.merkle_tree.MerkleTree.{MerkleTree}
 use Rattle.sum_checks.proofs.Runs.{elements-same}
 use Rattle.protocols.specs.CodeWords.{PartsDetermine}
-use Rattle.protocols.specs.CommitmentScheme.{matrix_rows, row_levels, word_levels}
+use Rattle.protocols.specs.CommitmentScheme.{HoldsColumns, matrix_rows, row_levels, word_levels}
 use Rattle.protocols.specs.Tables.{AreExtendedColumns, column_at}
 use Rattle.protocols.proofs.ProofBytes.{same-bytes, same-proof}
 use Rattle.prove_sums.specs.Bits.{AreFor}
 use Rattle.prove_sums.specs.Soundness.{HasPoints}
 use Rattle.prove_sums.specs.Tables.{AreEmbedded, AreTableWords, IsTable, tower_bytes}
-use Rattle.prove_sums.specs.Verdicts.{IsCommitment, IsTableRoot, word_times, word_vector}
+use Rattle.prove_sums.specs.Verdicts.{IsCommitment, IsTableRoot, IsTableTree, word_times, word_vector}
 use Rattle.prove_sums.specs.declared.tables.TableField.{TableField}
 use Rattle.prove_sums.specs.declared.tables.TableField.TheVariants.{Ghash, Tower8, Tower16, Tower32, Tower64, Tower128}
 use Rattle.prove_sums.proofs.SizeBits.{one-for}
@@ -127,3 +128,9 @@ module _ {F : Type 0} (repr : F → ℕ) (points : HasPoints repr 16 128 word_ti
         moved.extended)
         commits.extended)
         ∙ sym commits.rooted
+
+-- a table whose root and tree commit to it is held by the scheme
+pub table-held : {F A : Type 0} {hash : List ℕ → List ℕ} {repr : F → ℕ} {field : TableField} {m n : ℕ} {bytes root : List ℕ} {elements columns : List F}
+    {tree : MerkleTree A} → IsTable field repr bytes n elements → IsTableRoot hash repr m n elements columns root
+    → IsTableTree hash repr m n columns root tree → HoldsColumns hash repr 16 128 word_times word_vector m n elements columns tree
+table-held table commits held = record { count = table.count; extended = commits.extended; depth = held.depth; over = held.over }

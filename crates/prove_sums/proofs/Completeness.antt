@@ -1,38 +1,34 @@
 -- What an honest prover sends of two tables is accepted.
-use Rattle.std.proofs.Common.{◌≡◌, ℕ, suc, ◌+◌, ◌-◌, ◌*◌, ◌/◌, ◌%◌, ◌^◌, ◌<◌, ◌≤◌, Bool, true, List, [], ◌∷◌, ◌++◌, length, map, take, drop}
+use Rattle.std.proofs.Common.{◌≡◌, ℕ, suc, ◌+◌, ◌-◌, ◌*◌, ◌/◌, ◌%◌, ◌^◌, ◌<◌, ◌≤◌, Bool, true, List, [], ◌∷◌, ◌++◌, length, map, take, drop, get_or}
 use Rattle.std.proofs.Common.{append_assoc, refl, sym, ◌∙◌, ap, ap₂, subst, arith}
 use Rattle.std.specs.Prelude.{slice_index}
-use Rattle.std.specs.List.{range_with_len}
+use Rattle.std.specs.List.{flat_map}
 use Rattle.std.specs.declared.alloc.Global.{Global}
 use Rattle.std.proofs.Math.Seq.{drop-append_seam, take-append_seam}
-use Rattle.std.proofs.lemmas.List.{append-nil, drop-map, get_or-append_right, length-append, length-drop, length-map, length-take-le, map-append}
-use Rattle.std.proofs.lemmas.List.{take-append-drop, take-map}
+use Rattle.std.proofs.lemmas.List.{append-nil, get_or-append_right, length-append, length-map, map-append}
 use Rattle.std.proofs.lemmas.List.FromFn.{length-map-range_with_len}
 use Rattle.transcripts.specs.States.{GivesByState, LeadsByState}
 use Rattle.field_base.proofs.Places.{numbers-lt}
 use Rattle.field_bytes.specs.Streams.{joined_bytes}
 use Rattle.field_slices.specs.Multilinear.{multilinear_value}
-use Rattle.merkle_trees.specs.Commitments.{IsTreeOver, root_of, row_at}
-use Rattle.merkle_trees.specs.Openings.{AreAscending, OpeningsHaveOneCount, OpensRows}
+use Rattle.merkle_trees.specs.Commitments.{root_of, row_at}
+use Rattle.merkle_trees.specs.Openings.{OpeningsHaveOneCount}
 use Rattle.merkle_trees.specs.declared.merkle_tree.MerkleTree.{MerkleTree}
 use Rattle.sum_checks.specs.Sumcheck.{IsRunOf, messages_of}
 use Rattle.sum_checks.specs.SumcheckClaims.{AreHonestMessages, HonestReduces, IsClaimShape, reduced_claim}
 use Rattle.sum_checks.specs.Terms.{cube_sum}
-use Rattle.protocols.specs.CommitmentScheme.{ArePlacesDrawn, HoldsColumns, matrix_rows, place_bits, place_count, row_levels, word_levels}
-use Rattle.protocols.specs.Tables.{AreColumnsAt, OpensColumns, OpensPlaces}
-use Rattle.protocols.proofs.BlockPlaces.{ascending, blocks-whole}
-use Rattle.protocols.proofs.CommitmentScheme.{value-opened}
-use Rattle.protocols.proofs.HonestColumns.{honest-opening}
-use Rattle.protocols.proofs.SchemeTurns.{places-same, runs-same}
+use Rattle.protocols.specs.CommitmentScheme.{HoldsColumns, matrix_rows, place_bits, place_count, row_levels, word_levels}
+use Rattle.protocols.specs.JointTables.{OpensTables, SentTables, VerifiesTables, sent_tables}
+use Rattle.protocols.proofs.SchemeTurns.{runs-same, table_verdicts_agree}
+use Rattle.protocols.proofs.TableOpenings.{row-long}
 use Rattle.protocols.specs.ProductSums.{interleaved, product_terms, sum_statement}
 use Rattle.protocols.proofs.ProductSums.{map-interleaved, tables-shape, values-product}
 use Rattle.prove_sums.specs.Completeness.{HonestSumsAreAccepted}
 use Rattle.prove_sums.specs.ProofFiles.{IsFile}
-use Rattle.prove_sums.specs.Shapes.{columns_in, columns_size, element_count, messages_in, nodes_in, part, row_in, row_size, rows_in}
-use Rattle.prove_sums.specs.Shapes.{sum_in, witness_in}
+use Rattle.prove_sums.specs.Shapes.{columns_in, columns_size, element_count, messages_in, nodes_in, part, row_in, row_size, sent_in, sum_in}
+use Rattle.prove_sums.specs.Shapes.{values_in, witness_in}
 use Rattle.prove_sums.specs.Soundness.{HasPoints}
-use Rattle.prove_sums.specs.Verdicts.{IsHonestProof, IsProductAt, OpensTable, SentParts, VerifiesSum, sent_elements}
-use Rattle.prove_sums.specs.Verdicts.{values_at}
+use Rattle.prove_sums.specs.Verdicts.{IsHonestProof, IsProductOf, SentParts, VerifiesSum, sent_elements}
 use Rattle.prove_sums.proofs.Files.{AreNodes, length-joined}
 
 -- ---- parts of what is sent
@@ -55,171 +51,216 @@ halves one other {nodes} is same =
       part-at one other [] (is ∙ ap (λ (l : List (List ℕ)). one ++ l) (sym (append-nil other))) (omega (arith, half)) (half ∙ same),
     )
 
+-- a list of two
+two-long : {X : Type 0} (xs : List X) (d : X) → length xs ≡ 2 → xs ≡ get_or xs 0 d ∷ get_or xs 1 d ∷ []
+two-long [] d long = absurd (omega (arith, long))
+two-long (x ∷ []) d long = absurd (omega (arith, long))
+two-long (x ∷ y ∷ []) d long = refl
+two-long (x ∷ y ∷ z ∷ xs) d long = absurd (omega (arith, long))
+
+-- two lists, one after the other
+flat-two : {X : Type 0} (lists : List (List X)) → length lists ≡ 2 → flat_map (λ list. list) lists ≡ get_or lists 0 [] ++ get_or lists 1 []
+flat-two {X} lists long =
+    ap (flat_map (λ (list : List X). list)) (two-long lists [] long) ∙ ap (λ (l : List X). get_or lists 0 [] ++ l) (append-nil (get_or lists 1 []))
+
+-- what is sent of tables, by its parts
+pub sent-same : {F : Type 0} {values values_read row row_read : List F} {witness witness_read : ℕ} {columns columns_read : List (List F)}
+    {nodes nodes_read : List (List (List ℕ))} → values_read ≡ values → row_read ≡ row → witness_read ≡ witness → columns_read ≡ columns
+    → nodes_read ≡ nodes
+    → sent_tables values_read row_read witness_read columns_read nodes_read ≡ sent_tables values row witness columns nodes
+sent-same {F} {values} {values_read} {row} {row_read} {witness} {witness_read} {columns} {columns_read} {nodes} {nodes_read} one two three four five =
+    ap (λ (l : List F). sent_tables l row_read witness_read columns_read nodes_read) one
+    ∙ ap (λ (l : List F). sent_tables values l witness_read columns_read nodes_read) two
+    ∙ ap (λ (v : ℕ). sent_tables values row v columns_read nodes_read) three
+    ∙ ap (λ (l : List (List F)). sent_tables values row witness l nodes_read) four
+    ∙ ap (λ (l : List (List (List ℕ))). sent_tables values row witness columns l) five
+
 module _ {F : Type 0} (m n : ℕ) (parts : SentParts F) (elements : List F) (written : elements ≡ sent_elements parts)
-    (message_count : length parts.messages ≡ 2 * n) (row_count : length parts.rows ≡ 2 * row_size m n)
-    (left_count : length parts.left ≡ columns_size m n) (right_count : length parts.right ≡ columns_size m n) where
-  -- the sum, the messages and the witness
+    (message_count : length parts.messages ≡ 2 * n) (value_count : length parts.values ≡ 2) (row_count : length parts.row ≡ row_size m n)
+    (table_count : length parts.columns ≡ 2) (left_count : length (get_or parts.columns 0 []) ≡ columns_size m n)
+    (right_count : length (get_or parts.columns 1 []) ≡ columns_size m n) where
+  abbrev left : List F
+  left = get_or parts.columns 0 []
+
+  abbrev right : List F
+  right = get_or parts.columns 1 []
+
+  -- the sum, the messages and both values
   abbrev front : List F
-  front = (parts.sum ∷ parts.messages) ++ (parts.witness ∷ [])
+  front = (parts.sum ∷ parts.messages) ++ parts.values
 
-  front-long : length front ≡ 2 * n + 2
-  front-long = let both = length-append (parts.sum ∷ parts.messages) (parts.witness ∷ []) in omega (arith, both, message_count)
+  -- .. and the witness
+  abbrev claimed : List F
+  claimed = front ++ (parts.witness ∷ [])
 
-  behind-front : elements ≡ front ++ (parts.rows ++ (parts.left ++ parts.right))
+  front-long : length front ≡ 2 * n + 3
+  front-long = let both = length-append (parts.sum ∷ parts.messages) parts.values in omega (arith, both, message_count, value_count)
+
+  claimed-long : length claimed ≡ 2 * n + 4
+  claimed-long = let both = length-append front (parts.witness ∷ []) in omega (arith, both, front-long)
+
+  behind-messages : elements ≡ (parts.sum ∷ parts.messages) ++ (parts.values ++ (parts.witness ∷ parts.row ++ (left ++ right)))
+  behind-messages =
+      written
+      ∙ ap (λ (l : List F). (parts.sum ∷ parts.messages) ++ (parts.values ++ (parts.witness ∷ parts.row ++ l))) (flat-two parts.columns table_count)
+
+  behind-front : elements ≡ front ++ (parts.witness ∷ parts.row ++ (left ++ right))
   behind-front =
-      written ∙ sym (append_assoc (parts.sum ∷ parts.messages) (parts.witness ∷ []) (parts.rows ++ (parts.left ++ parts.right)))
+      behind-messages ∙ sym (append_assoc (parts.sum ∷ parts.messages) parts.values (parts.witness ∷ parts.row ++ (left ++ right)))
 
-  sent-sum : (repr : F → ℕ) → sum_in repr elements ≡ repr parts.sum
+  behind-claimed : elements ≡ claimed ++ (parts.row ++ (left ++ right))
+  behind-claimed = behind-front ∙ sym (append_assoc front (parts.witness ∷ []) (parts.row ++ (left ++ right)))
+
+  behind-row : elements ≡ (claimed ++ parts.row) ++ (left ++ right)
+  behind-row = behind-claimed ∙ sym (append_assoc claimed parts.row (left ++ right))
+
+  pub sent-sum : (repr : F → ℕ) → sum_in repr elements ≡ repr parts.sum
   sent-sum repr = ap (sum_in repr) written
 
-  sent-messages : messages_in n elements ≡ parts.messages
+  pub sent-messages : messages_in n elements ≡ parts.messages
   sent-messages =
-      part-at (parts.sum ∷ []) parts.messages (parts.witness ∷ parts.rows ++ (parts.left ++ parts.right)) written refl (sym message_count)
+      part-at (parts.sum ∷ []) parts.messages (parts.values ++ (parts.witness ∷ parts.row ++ (left ++ right))) behind-messages refl (sym message_count)
+
+  pub sent-values : values_in n elements ≡ parts.values
+  sent-values =
+      part-at (parts.sum ∷ parts.messages) parts.values (parts.witness ∷ parts.row ++ (left ++ right)) behind-messages
+      (omega (arith, message_count)) (sym value_count)
 
   sent-witness : (number : F → ℕ) → witness_in number n elements ≡ number parts.witness
   sent-witness number =
-      let long : length (map number (parts.sum ∷ parts.messages)) ≡ 2 * n + 1 =
-      length-map (parts.sum ∷ parts.messages) number ∙ omega (arith, message_count) in
-      ap (λ (l : List F). slice_index (map number l) (2 * n + 1)) written
-      ∙ ap (λ (l : List ℕ). slice_index l (2 * n + 1))
-      (map-append number (parts.sum ∷ parts.messages) (parts.witness ∷ parts.rows ++ (parts.left ++ parts.right)))
-      ∙ get_or-append_right (map number (parts.sum ∷ parts.messages))
-      (map number (parts.witness ∷ parts.rows ++ (parts.left ++ parts.right))) (2 * n + 1) (2 * n + 1) 0 long (omega arith)
-      ∙ ap (slice_index (map number (parts.witness ∷ parts.rows ++ (parts.left ++ parts.right))))
-      (let none : 2 * n + 1 - (2 * n + 1) ≡ 0 = omega arith in none)
+      let long : length (map number front) ≡ 2 * n + 3 = length-map front number ∙ front-long in
+      ap (λ (l : List F). slice_index (map number l) (2 * n + 3)) behind-front
+      ∙ ap (λ (l : List ℕ). slice_index l (2 * n + 3)) (map-append number front (parts.witness ∷ parts.row ++ (left ++ right)))
+      ∙ get_or-append_right (map number front) (map number (parts.witness ∷ parts.row ++ (left ++ right))) (2 * n + 3) (2 * n + 3) 0 long
+      (omega arith)
+      ∙ ap (slice_index (map number (parts.witness ∷ parts.row ++ (left ++ right))))
+      (let none : 2 * n + 3 - (2 * n + 3) ≡ 0 = omega arith in none)
 
-  sent-rows : rows_in m n elements ≡ parts.rows
-  sent-rows = part-at front parts.rows (parts.left ++ parts.right) behind-front (sym front-long) (sym row_count)
-
-  -- both rows, as numbers
-  module _ (repr : F → ℕ) (one other : List ℕ) (rows_are : map repr parts.rows ≡ one ++ other) (one_long : length one ≡ row_size m n)
-      (other_long : length other ≡ row_size m n) where
-    abbrev upper : List F
-    upper = take (row_size m n) parts.rows
-
-    abbrev lower : List F
-    lower = drop (row_size m n) parts.rows
-
-    upper-long : length upper ≡ row_size m n
-    upper-long = length-take-le (row_size m n) parts.rows (omega (arith, row_count))
-
-    lower-long : length lower ≡ row_size m n
-    lower-long = let behind = length-drop (row_size m n) parts.rows in omega (arith, behind, row_count)
-
-    split : elements ≡ front ++ (upper ++ (lower ++ (parts.left ++ parts.right)))
-    split =
-        behind-front
-        ∙ ap (λ (l : List F). front ++ l)
-        (ap (λ (l : List F). l ++ (parts.left ++ parts.right)) (sym (take-append-drop (row_size m n) parts.rows))
-        ∙ append_assoc upper lower (parts.left ++ parts.right))
-
-    sent-one : map repr (row_in m n 0 elements) ≡ one
-    sent-one =
-        ap (map repr) (part-at front upper (lower ++ (parts.left ++ parts.right)) split (omega (arith, front-long)) (sym upper-long))
-        ∙ sym (take-map repr (row_size m n) parts.rows) ∙ ap (take (row_size m n)) rows_are
-        ∙ ap (λ (v : ℕ). take v (one ++ other)) (sym one_long) ∙ take-append_seam one other
-
-    sent-other : map repr (row_in m n 1 elements) ≡ other
-    sent-other =
-        let long = length-append front upper in
-        ap (map repr)
-        (part-at (front ++ upper) lower (parts.left ++ parts.right)
-        (split ∙ sym (append_assoc front upper (lower ++ (parts.left ++ parts.right))))
-        (omega (arith, long, front-long, upper-long)) (sym lower-long))
-        ∙ sym (drop-map repr (row_size m n) parts.rows) ∙ ap (drop (row_size m n)) rows_are
-        ∙ ap (λ (v : ℕ). drop v (one ++ other)) (sym one_long) ∙ drop-append_seam one other
+  sent-row : row_in m n elements ≡ parts.row
+  sent-row = part-at claimed parts.row (left ++ right) behind-claimed (sym claimed-long) (sym row_count)
 
   -- the columns of both
-  sent-left : columns_in m n 0 elements ≡ parts.left
+  sent-left : columns_in m n 0 elements ≡ left
   sent-left =
-      let long = length-append front parts.rows in
-      part-at (front ++ parts.rows) parts.left parts.right
-      (behind-front ∙ sym (append_assoc front parts.rows (parts.left ++ parts.right))) (omega (arith, long, front-long, row_count)) (sym left_count)
+      let long = length-append claimed parts.row in
+      part-at (claimed ++ parts.row) left right behind-row (omega (arith, long, claimed-long, row_count)) (sym left_count)
 
-  sent-right : columns_in m n 1 elements ≡ parts.right
+  sent-right : columns_in m n 1 elements ≡ right
   sent-right =
-      let long = length-append front parts.rows in
-      let longer = length-append (front ++ parts.rows) parts.left in
-      part-at ((front ++ parts.rows) ++ parts.left) parts.right []
-      (behind-front ∙ sym (append_assoc front parts.rows (parts.left ++ parts.right))
-      ∙ sym (append_assoc (front ++ parts.rows) parts.left parts.right)
-      ∙ ap (λ (l : List F). ((front ++ parts.rows) ++ parts.left) ++ l) (sym (append-nil parts.right)))
-      (omega (arith, longer, long, front-long, row_count, left_count)) (sym right_count)
+      let long = length-append claimed parts.row in
+      let longer = length-append (claimed ++ parts.row) left in
+      part-at ((claimed ++ parts.row) ++ left) right []
+      (behind-row ∙ sym (append_assoc (claimed ++ parts.row) left right)
+      ∙ ap (λ (l : List F). ((claimed ++ parts.row) ++ left) ++ l) (sym (append-nil right)))
+      (omega (arith, longer, long, claimed-long, row_count, left_count)) (sym right_count)
+
+  -- what is read of both tables is what was sent
+  pub sent-read : (number : F → ℕ) (openers : List (List (List ℕ))) (nodes : List (List ℕ)) → length openers ≡ 2
+      → length (get_or openers 0 []) ≡ length (get_or openers 1 []) → nodes ≡ flat_map (λ opening. opening) openers
+      → sent_in number m n elements nodes ≡ sent_tables parts.values parts.row (number parts.witness) parts.columns openers
+  sent-read number openers nodes two same is =
+      let read = halves (get_or openers 0 []) (get_or openers 1 []) (is ∙ flat-two openers two) same in
+      sent-same sent-values sent-row (sent-witness number)
+      (ap₂ (λ (a b : List F). a ∷ b ∷ []) sent-left sent-right ∙ sym (two-long parts.columns [] table_count))
+      (ap₂ (λ (a b : List (List ℕ)). a ∷ b ∷ []) read.0 read.1 ∙ sym (two-long openers [] two))
+
+  -- so many elements are sent
+  pub sent-count : length elements ≡ element_count m n
+  sent-count =
+      let last = length-append left right in
+      let all = length-append (claimed ++ parts.row) (left ++ right) in
+      let middle = length-append claimed parts.row in
+      ap length behind-row
+      ∙ enough (row_size m n) (columns_size m n) (length claimed) (length parts.row) (length left) (length right) (length (left ++ right))
+      (length (claimed ++ parts.row)) (length ((claimed ++ parts.row) ++ (left ++ right))) claimed-long row_count left_count right_count last middle all
+    where
+      enough : (r s claimed row one other ends front all : ℕ) → claimed ≡ 2 * n + 4 → row ≡ r → one ≡ s → other ≡ s → ends ≡ one + other
+          → front ≡ claimed + row → all ≡ front + ends → all ≡ 2 * n + 4 + r + 2 * s
+      enough r s claimed row one other ends front all a b c d e f g = omega (arith, a, b, c, d, e, f, g)
 
 -- ---- what an honest prover sends
 
--- a value for each column of a row
-values-count : {F : Type 0} (repr : F → ℕ) (times : ℕ → ℕ → ℕ) (m n : ℕ) (columns point : List F)
-    → length (values_at repr times m n columns point) ≡ row_size m n
-values-count repr times m n columns point =
-    length-map-range_with_len (λ p. multilinear_value times (map repr (row_at (2 ^ length point) columns p)) (map repr point)) 0 (row_size m n)
-
 module _ {C F A : Type 0} {observes gives : C → F → C → Type 0} {passing : C → ℕ → ℕ → Bool} {checks gives_bits : C → ℕ → ℕ → C → Type 0}
-    {number repr : F → ℕ} {width : ℕ} {times : ℕ → ℕ → ℕ} {m n : ℕ} {left right left_columns right_columns : List F}
-    {left_tree right_tree : MerkleTree A} {elements : List F} {nodes : List (List ℕ)} {prover : C}
-    (honest : IsHonestProof observes gives passing checks gives_bits number repr width times m n left right left_columns right_columns left_tree
-    right_tree elements nodes prover) where
-  pub honest-rows : length honest.parts.rows ≡ 2 * row_size m n
-  honest-rows =
-      let point = take (matrix_rows m n) honest.point in
-      let one = values-count repr times m n left_columns point in
-      let other = values-count repr times m n right_columns point in
-      let both = length-append (values_at repr times m n left_columns point) (values_at repr times m n right_columns point) in
-      let all = sym (length-map honest.parts.rows repr) ∙ ap length honest.rows_are ∙ both in
-      omega (arith, all, one, other)
+    {number repr : F → ℕ} {size width : ℕ} {times : ℕ → ℕ → ℕ} {vector : ℕ → ℕ} {m n : ℕ} {left right left_columns right_columns : List F}
+    {left_tree right_tree : MerkleTree A} {elements : List F} {nodes : List (List ℕ)} {prover : C} (counts : OpeningsHaveOneCount)
+    (hash : List ℕ → List ℕ) (left_held : HoldsColumns hash repr size width times vector m n left left_columns left_tree)
+    (right_held : HoldsColumns hash repr size width times vector m n right right_columns right_tree)
+    (honest : IsHonestProof observes gives passing checks gives_bits number repr size width times vector m n left right left_columns right_columns
+    left_tree right_tree elements nodes prover) where
+  abbrev pub sent : SentTables F
+  sent = sent_tables honest.parts.values honest.parts.row (number honest.parts.witness) honest.parts.columns honest.openers
 
-  places-count : length honest.places ≡ place_count m n
+  -- both tables' values at the point, and a verdict that is true
+  pub honest-opened : (map repr honest.parts.values
+      ≡ multilinear_value times (map repr left) (map repr honest.point) ∷ multilinear_value times (map repr right) (map repr honest.point) ∷ [])
+      × VerifiesTables observes gives passing checks gives_bits repr hash size width times vector m n (root_of left_tree ∷ root_of right_tree ∷ [])
+      honest.point sent honest.between true honest.new
+  honest-opened = honest.opened hash (left ∷ right ∷ []) (left_held, (right_held, tt))
+
+  opens : OpensTables hash repr size width times vector m n (root_of left_tree ∷ root_of right_tree ∷ []) sent honest-opened.1.challenges honest.point
+      honest-opened.1.places
+  opens = (honest-opened.1.decided.0 refl).1
+
+  places-count : length honest-opened.1.places ≡ place_count m n
   places-count =
-      ap length honest.drawn.chosen
-      ∙ length-map-range_with_len (λ i. i * 2 ^ place_bits m n + slice_index honest.drawn.numbers i % 2 ^ place_bits m n) 0
-      (length honest.drawn.numbers)
-      ∙ honest.drawn.count
+      ap length honest-opened.1.drawn.chosen
+      ∙ length-map-range_with_len (λ i. i * 2 ^ place_bits m n + slice_index honest-opened.1.drawn.numbers i % 2 ^ place_bits m n) 0
+      (length honest-opened.1.drawn.numbers)
+      ∙ honest-opened.1.drawn.count
 
-  pub honest-left : length honest.parts.left ≡ columns_size m n
-  honest-left = honest.left_opened.0 ∙ ap (λ (v : ℕ). v * 2 ^ matrix_rows m n) places-count
+  honest-row : length honest.parts.row ≡ row_size m n
+  honest-row = sym (length-map honest.parts.row repr) ∙ row-long (row_levels m n) 2 opens.agrees
 
-  pub honest-right : length honest.parts.right ≡ columns_size m n
-  honest-right = honest.right_opened.0 ∙ ap (λ (v : ℕ). v * 2 ^ matrix_rows m n) places-count
+  honest-left : length (get_or honest.parts.columns 0 []) ≡ columns_size m n
+  honest-left = (opens.opened 0 (omega arith)).count ∙ ap (λ (v : ℕ). v * 2 ^ matrix_rows m n) places-count
 
-  -- so many elements are sent
-  pub honest-count : length elements ≡ element_count m n
-  honest-count =
-      let parts = honest.parts in
-      let last = length-append parts.left parts.right in
-      let middle = length-append parts.rows (parts.left ++ parts.right) in
-      let front = length-append parts.messages (parts.witness ∷ parts.rows ++ (parts.left ++ parts.right)) in
-      all (row_size m n) (columns_size m n) (length parts.messages) (length parts.rows) (length parts.left) (length parts.right)
-      (length (parts.left ++ parts.right)) (length (parts.rows ++ (parts.left ++ parts.right)))
-      (length (parts.messages ++ (parts.witness ∷ parts.rows ++ (parts.left ++ parts.right)))) (length elements) honest.summed.message_count
-      honest-rows honest-left honest-right last middle front (ap length honest.written)
-    where
-      all : (r s messages rows one other ends behind front count : ℕ) → messages ≡ 2 * n → rows ≡ 2 * r → one ≡ s → other ≡ s
-          → ends ≡ one + other → behind ≡ rows + ends → front ≡ messages + suc behind → count ≡ suc front
-          → count ≡ 2 * n + 2 + 2 * r + 2 * s
-      all r s messages rows one other ends behind front count a b c d e f g h = omega (arith, a, b, c, d, e, f, g, h)
+  honest-right : length (get_or honest.parts.columns 1 []) ≡ columns_size m n
+  honest-right = (opens.opened 1 (omega arith)).count ∙ ap (λ (v : ℕ). v * 2 ^ matrix_rows m n) places-count
 
   -- as many nodes open one tree as the other
-  pub honest-halves : OpeningsHaveOneCount → (hash : List ℕ → List ℕ) (row other : ℕ → List ℕ) → IsTreeOver hash row left_tree
-      → IsTreeOver hash other right_tree → left_tree.depth ≡ right_tree.depth → length honest.left_nodes ≡ length honest.right_nodes
-  honest-halves counts hash row other over other_over same =
-      counts hash hash left_tree.depth (root_of left_tree) (root_of right_tree) honest.places (λ i. row (slice_index honest.places i))
-      (λ i. other (slice_index honest.places i)) honest.left_nodes honest.right_nodes (honest.left_nodes_open hash row over)
-      (subst (λ (d : ℕ). OpensRows hash d (root_of right_tree) honest.places (λ i. other (slice_index honest.places i)) honest.right_nodes) (sym same)
-      (honest.right_nodes_open hash other other_over))
+  honest-halves : length (get_or honest.openers 0 []) ≡ length (get_or honest.openers 1 [])
+  honest-halves =
+      counts hash hash (word_levels m n) (root_of left_tree) (root_of right_tree) honest-opened.1.places
+      (λ i. joined_bytes size repr (row_at (2 ^ matrix_rows m n) (get_or honest.parts.columns 0 []) i))
+      (λ i. joined_bytes size repr (row_at (2 ^ matrix_rows m n) (get_or honest.parts.columns 1 []) i)) (get_or honest.openers 0 [])
+      (get_or honest.openers 1 []) (opens.opened 0 (omega arith)).opened (opens.opened 1 (omega arith)).opened
+
+  pub honest-sum : sum_in repr elements ≡ repr honest.parts.sum
+  honest-sum =
+      sent-sum m n honest.parts elements honest.written honest.summed.message_count opens.values honest-row opens.columns honest-left honest-right repr
+
+  pub honest-messages : messages_in n elements ≡ honest.parts.messages
+  honest-messages =
+      sent-messages m n honest.parts elements honest.written honest.summed.message_count opens.values honest-row opens.columns honest-left honest-right
+
+  pub honest-values : values_in n elements ≡ honest.parts.values
+  honest-values =
+      sent-values m n honest.parts elements honest.written honest.summed.message_count opens.values honest-row opens.columns honest-left honest-right
+
+  pub honest-read : sent_in number m n elements nodes ≡ sent
+  honest-read =
+      sent-read m n honest.parts elements honest.written honest.summed.message_count opens.values honest-row opens.columns honest-left honest-right
+      number honest.openers nodes opens.nodes honest-halves honest.nodes_are
 
   -- a file may hold it
   pub honest-file : (one other : List ℕ) → 7 ≤ m → m ≤ 8 → n ≤ 39 → length one ≡ 32 → length other ≡ 32 → AreNodes nodes
-      → length honest.left_nodes ≡ length honest.right_nodes → IsFile m n one other (joined_bytes 16 repr elements) nodes
-  honest-file one other some_queries few_queries few one_size other_size sized halves = record {
+      → IsFile m n one other (joined_bytes 16 repr elements) nodes
+  honest-file one other some_queries few_queries few one_size other_size sized = record {
     some_queries = some_queries;
     few_queries = few_queries;
     few = few;
     left_size = one_size;
     right_size = other_size;
-    body_size = length-joined repr elements ∙ ap (λ (v : ℕ). v * 16) honest-count;
+    body_size =
+        length-joined repr elements
+        ∙ ap (λ (v : ℕ). v * 16)
+        (sent-count m n honest.parts elements honest.written honest.summed.message_count opens.values honest-row opens.columns honest-left
+        honest-right);
     node_size = sized;
     even =
-        let long = ap length honest.nodes_are ∙ length-append honest.left_nodes honest.right_nodes in
+        let long = ap length (honest.nodes_are ∙ flat-two honest.openers opens.nodes)
+        ∙ length-append (get_or honest.openers 0 []) (get_or honest.openers 1 []) in
+        let halves = honest-halves in
         omega (arith, long, halves);
   }
 
@@ -238,76 +279,23 @@ module _ {C S F : Type 0} (state : C → S) (observes gives : C → F → C → 
       (prover verifier : C) (accepted : Bool) (wide : 2 ≤ width)
       (left_held : HoldsColumns hash repr size width times vector m n left left_columns left_tree)
       (right_held : HoldsColumns hash repr size width times vector m n right right_columns right_tree)
-      (honest : IsHonestProof observes gives passing checks gives_bits number repr width times m n left right left_columns right_columns left_tree
-      right_tree elements nodes prover) (same : state prover ≡ state verifier)
+      (honest : IsHonestProof observes gives passing checks gives_bits number repr size width times vector m n left right left_columns right_columns
+      left_tree right_tree elements nodes prover) (same : state prover ≡ state verifier)
       (verdict : VerifiesSum observes gives passing checks gives_bits number repr hash size width times vector m n (root_of left_tree)
       (root_of right_tree) elements nodes verifier accepted) where
-    abbrev first : List F
-    first = take (matrix_rows m n) honest.point
-
-    abbrev others : List F
-    others = drop (matrix_rows m n) honest.point
-
-    challenges : length honest.point ≡ n
-    challenges = honest.summed.challenge_count
-
-    first-long : length first ≡ matrix_rows m n
-    first-long = length-take-le (matrix_rows m n) honest.point (omega (arith, challenges))
-
-    others-long : length others ≡ row_levels m n
-    others-long = let behind = length-drop (matrix_rows m n) honest.point in omega (arith, behind, challenges)
-
-    -- the values of columns, by the number of rows
-    abbrev values : List F → List ℕ
-    values columns =
-        map (λ p. multilinear_value times (map repr (row_at (2 ^ matrix_rows m n) columns p)) (map repr first)) (range_with_len 0 (2 ^ row_levels m n))
-
-    values-are : (columns : List F) → values_at repr times m n columns first ≡ values columns
-    values-are columns =
-        ap (λ (h : ℕ). map (λ p. multilinear_value times (map repr (row_at (2 ^ h) columns p)) (map repr first))
-        (range_with_len 0 (2 ^ row_levels m n))) first-long
-
-    values-long : (columns : List F) → length (values columns) ≡ row_size m n
-    values-long columns =
-        length-map-range_with_len (λ p. multilinear_value times (map repr (row_at (2 ^ matrix_rows m n) columns p)) (map repr first)) 0 (2 ^ row_levels m n)
-
-    rows-are : map repr honest.parts.rows ≡ values left_columns ++ values right_columns
-    rows-are = honest.rows_are ∙ ap₂ (λ (a b : List ℕ). a ++ b) (values-are left_columns) (values-are right_columns)
-
-    rows-count : length honest.parts.rows ≡ 2 * row_size m n
-    rows-count = honest-rows honest
-
-    left-count : length honest.parts.left ≡ columns_size m n
-    left-count = honest-left honest
-
-    right-count : length honest.parts.right ≡ columns_size m n
-    right-count = honest-right honest
-
     -- what the verifier reads
     sum-read : sum_in repr elements ≡ repr honest.parts.sum
-    sum-read = sent-sum m n honest.parts elements honest.written honest.summed.message_count rows-count left-count right-count repr
+    sum-read = honest-sum counts hash left_held right_held honest
 
     messages-read : messages_in n elements ≡ honest.parts.messages
-    messages-read = sent-messages m n honest.parts elements honest.written honest.summed.message_count rows-count left-count right-count
+    messages-read = honest-messages counts hash left_held right_held honest
 
-    witness-read : witness_in number n elements ≡ number honest.parts.witness
-    witness-read =
-        sent-witness m n honest.parts elements honest.written honest.summed.message_count rows-count left-count right-count number
+    values-read : map repr (values_in n elements)
+        ≡ multilinear_value times (map repr left) (map repr honest.point) ∷ multilinear_value times (map repr right) (map repr honest.point) ∷ []
+    values-read =
+        ap (map repr) (honest-values counts hash left_held right_held honest) ∙ (honest-opened counts hash left_held right_held honest).0
 
-    rows-read : rows_in m n elements ≡ honest.parts.rows
-    rows-read = sent-rows m n honest.parts elements honest.written honest.summed.message_count rows-count left-count right-count
-
-    left-row : map repr (row_in m n 0 elements) ≡ values left_columns
-    left-row =
-        sent-one m n honest.parts elements honest.written honest.summed.message_count rows-count left-count right-count repr (values left_columns)
-        (values right_columns) rows-are (values-long left_columns) (values-long right_columns)
-
-    right-row : map repr (row_in m n 1 elements) ≡ values right_columns
-    right-row =
-        sent-other m n honest.parts elements honest.written honest.summed.message_count rows-count left-count right-count repr (values left_columns)
-        (values right_columns) rows-are (values-long left_columns) (values-long right_columns)
-
-    -- the challenges and the places are the prover's
+    -- the challenges are the prover's
     run : (honest.point ≡ verdict.point) × (state honest.between ≡ state verdict.between)
     run =
         runs-same state observes gives passing checks gives_bits observes_law gives_law passing_law checks_law bits_law repr same_law
@@ -317,17 +305,23 @@ module _ {C S F : Type 0} (state : C → S) (observes gives : C → F → C → 
         (subst (λ (l : List F). IsRunOf observes gives repr verifier (sum_statement width times n (sum_in repr elements)) (messages_of 2 n l)
         verdict.point verdict.between) messages-read verdict.reduced.run))
 
-    draws : (true ≡ verdict.works) × (honest.places ≡ verdict.places) × (state honest.new ≡ state verdict.new)
-    draws =
-        places-same state observes gives passing checks gives_bits observes_law gives_law passing_law checks_law bits_law run.1 honest.drawn
-        (subst (λ (w : ℕ). ArePlacesDrawn observes gives passing checks gives_bits m n honest.parts.rows w verdict.between verdict.works
-        verdict.places verdict.new) witness-read
-        (subst (λ (l : List F). ArePlacesDrawn observes gives passing checks gives_bits m n l (witness_in number n elements) verdict.between
-        verdict.works verdict.places verdict.new) rows-read verdict.drawn))
+    -- and so both tables are opened
+    abbrev Opens : List F → SentTables F → Type 0
+    Opens point read =
+        VerifiesTables observes gives passing checks gives_bits repr hash size width times vector m n (root_of left_tree ∷ root_of right_tree ∷ [])
+        point read verdict.between verdict.opens verdict.new
+
+    opened : true ≡ verdict.opens
+    opened =
+        (table_verdicts_agree state observes gives passing checks gives_bits observes_law gives_law passing_law checks_law bits_law repr size width
+        times vector hash m n (root_of left_tree ∷ root_of right_tree ∷ []) honest.point (sent counts hash left_held right_held honest) honest.between
+        verdict.between true verdict.opens honest.new verdict.new run.1 (honest-opened counts hash left_held right_held honest).1
+        (subst (λ (p : List F). Opens p (sent counts hash left_held right_held honest)) (sym run.0)
+        (subst (λ (t : SentTables F). Opens verdict.point t) (honest-read counts hash left_held right_held honest) verdict.opened))).0
 
     -- the claim that is left is the product of both tables' values
     point-long : length (map repr honest.point) ≡ n
-    point-long = length-map honest.point repr ∙ challenges
+    point-long = length-map honest.point repr ∙ honest.summed.challenge_count
 
     left-long : length (map repr left) ≡ 2 ^ n
     left-long = length-map left repr ∙ left_held.count
@@ -357,85 +351,18 @@ module _ {C S F : Type 0} (state : C → S) (observes gives : C → F → C → 
         ∙ values-product width times points.field.ring (map repr left) (map repr right) (map repr honest.point)
         (left-long ∙ ap (λ (v : ℕ). 2 ^ v) (sym point-long)) right-long
 
-    some-width : 0 < width
-    some-width = omega (arith, wide)
-
-    valued : (table columns : List F) (tree : MerkleTree Global) → HoldsColumns hash repr size width times vector m n table columns tree
-        → (row : List F) → map repr row ≡ values columns
-        → multilinear_value times (map repr row) (map repr others) ≡ multilinear_value times (map repr table) (map repr honest.point)
-    valued table columns tree held row is =
-        value-opened repr width times vector some-width points.field.ring points.range (row_levels m n) 2 (matrix_rows m n) columns table honest.point row
-        first others first-long others-long (sym (take-append-drop (matrix_rows m n) honest.point))
-        (held.count ∙ ap (λ (v : ℕ). 2 ^ v) (sym challenges)) held.extended is
-
-    product : IsProductAt repr times m n elements (drop (matrix_rows m n) verdict.point) verdict.claim
+    product : IsProductOf repr times (values_in n elements) verdict.claim
     product =
-        subst (λ (p : List F). IsProductAt repr times m n elements (drop (matrix_rows m n) p) verdict.claim) run.0
-        (verdict.reduced.left
+        verdict.reduced.left
         ∙ ap (λ (s : ℕ). reduced_claim width times s (map (map repr) (messages_of 2 n (messages_in n elements))) (map repr verdict.point)) sum-read
         ∙ ap (λ (l : List F). reduced_claim width times (repr honest.parts.sum) (map (map repr) (messages_of 2 n l)) (map repr verdict.point))
         messages-read
         ∙ ap (λ (p : List F). reduced_claim width times (repr honest.parts.sum) (map (map repr) (messages_of 2 n honest.parts.messages))
         (map repr p)) (sym run.0)
-        ∙ reduced
-        ∙ sym
-        (ap₂ times (valued left left_columns left_tree left_held (row_in m n 0 elements) left-row)
-        (valued right right_columns right_tree right_held (row_in m n 1 elements) right-row)))
-
-    -- the columns of both are opened
-    ascends : AreAscending (2 ^ word_levels m n) honest.places
-    ascends =
-        subst (λ (l : List ℕ). AreAscending (2 ^ word_levels m n) l) (sym honest.drawn.chosen)
-        (ascending (place_bits m n) (place_count m n) (word_levels m n) (blocks-whole m n) honest.drawn.numbers honest.drawn.count)
-
-    opened : (table columns : List F) (tree : MerkleTree Global) → HoldsColumns hash repr size width times vector m n table columns tree
-        → (row sent : List F) (ns : List (List ℕ)) → map repr row ≡ values columns → AreColumnsAt (2 ^ matrix_rows m n) columns honest.places sent
-        → OpensPlaces tree honest.places ns
-        → OpensColumns hash repr size width times vector (row_levels m n) 2 (root_of tree) first row honest.places sent ns
-    opened table columns tree held row sent ns is at opens =
-        honest-opening repr width times vector some-width points.field.ring columns size (matrix_rows m n) tree honest.places sent ns
-        (subst (λ (d : ℕ). AreAscending (2 ^ d) honest.places) (sym held.depth) ascends) at.0 at.1 opens hash (row_levels m n) 2 (map repr table)
-        first row (sym held.depth) first-long held.extended held.over is
-
-    abbrev row-bytes : List F → ℕ → List ℕ
-    row-bytes columns p = joined_bytes size repr (row_at (2 ^ matrix_rows m n) columns p)
-
-    nodes-count : length honest.left_nodes ≡ length honest.right_nodes
-    nodes-count =
-        honest-halves honest counts hash (row-bytes left_columns) (row-bytes right_columns) left_held.over right_held.over
-        (left_held.depth ∙ sym right_held.depth)
-
-    nodes-read : (nodes_in 0 nodes ≡ honest.left_nodes) × (nodes_in 1 nodes ≡ honest.right_nodes)
-    nodes-read = halves honest.left_nodes honest.right_nodes honest.nodes_are nodes-count
-
-    -- what is said by the prover's point and places, and of parts that it sends, is said by the verifier's and of what it reads
-    moved : (says : List F → List ℕ → List F → List (List ℕ) → Type 0) {sent read : List F} {ns half : List (List ℕ)} → read ≡ sent → half ≡ ns
-        → says first honest.places sent ns → says (take (matrix_rows m n) verdict.point) verdict.places read half
-    moved says {sent} {read} {ns} {half} one two holds =
-        subst (λ (p : List F). says (take (matrix_rows m n) p) verdict.places read half) run.0
-        (subst (λ (ps : List ℕ). says first ps read half) draws.1
-        (subst (λ (l : List F). says first honest.places l half) (sym one)
-        (subst (λ (l : List (List ℕ)). says first honest.places sent l) (sym two) holds)))
-
-    opens-left : OpensTable hash repr size width times vector m n 0 (root_of left_tree) (take (matrix_rows m n) verdict.point) elements verdict.places nodes
-    opens-left =
-        moved (λ (p : List F) (ps : List ℕ) (l : List F) (ns : List (List ℕ)). OpensColumns hash repr size width times vector (row_levels m n) 2
-        (root_of left_tree) p (row_in m n 0 elements) ps l ns)
-        (sent-left m n honest.parts elements honest.written honest.summed.message_count rows-count left-count right-count) nodes-read.0
-        (opened left left_columns left_tree left_held (row_in m n 0 elements) honest.parts.left honest.left_nodes left-row honest.left_opened
-        honest.left_nodes_open)
-
-    opens-right : OpensTable hash repr size width times vector m n 1 (root_of right_tree) (take (matrix_rows m n) verdict.point) elements verdict.places
-        nodes
-    opens-right =
-        moved (λ (p : List F) (ps : List ℕ) (l : List F) (ns : List (List ℕ)). OpensColumns hash repr size width times vector (row_levels m n) 2
-        (root_of right_tree) p (row_in m n 1 elements) ps l ns)
-        (sent-right m n honest.parts elements honest.written honest.summed.message_count rows-count left-count right-count) nodes-read.1
-        (opened right right_columns right_tree right_held (row_in m n 1 elements) honest.parts.right honest.right_nodes right-row
-        honest.right_opened honest.right_nodes_open)
+        ∙ reduced ∙ sym (ap (λ (l : List ℕ). times (slice_index l 0) (slice_index l 1)) values-read)
 
     pub is-accepted : accepted ≡ true
-    is-accepted = verdict.decided.1 (sym draws.0, product, opens-left, opens-right)
+    is-accepted = verdict.decided.1 (sym opened, product)
 
   pub honest_sums_are_accepted : HonestReduces → OpeningsHaveOneCount
       → HonestSumsAreAccepted state observes gives passing checks gives_bits number repr size width times vector

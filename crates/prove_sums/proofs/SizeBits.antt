@@ -1,7 +1,6 @@
 -- Sizes by the bits of soundness that they reach.
 use Rattle.std.proofs.Common.{◌≡◌, ◌⊎◌, inl, inr, ℕ, suc, ◌*◌, ◌^◌, ◌<◌, ◌≤◌, sym, ◌∙◌, subst, le_trans, arith, lit<}
 use Rattle.std.proofs.Math.Nat.{mul-le-mul_right, pow-le-pow_right}
-use Rattle.std.proofs.lemmas.Bool.{cases_lt}
 use Rattle.prove_sums.specs.Bits.{AreFor, AreMostBits, HaveSoundBits, error_parts, whole_parts}
 
 -- fewer bits are reached where more are
@@ -9,21 +8,13 @@ pub bits-reached : (m n bits most : ℕ) → bits ≤ most → AreMostBits m n m
 bits-reached m n bits most less is = le_trans (mul-le-mul_right (error_parts m n) (pow-le-pow_right (lit< tt) less)) is.bound
 
 -- and more than the most are not
-pub bits-missed : (m n bits most : ℕ) → most < bits → bits ≤ 128 → AreMostBits m n most → HaveSoundBits m n bits → ⊥
-bits-missed m n bits most less few is bound = elim (cases_lt 0 (error_parts m n)) [
-  | inl some ↦ apart (whole_parts m) (2 ^ suc most * error_parts m n) (2 ^ bits * error_parts m n) (is.most some)
-      (mul-le-mul_right (error_parts m n) (pow-le-pow_right (lit< tt) less)) bound
-  | inr none ↦ beyond most bits less few (is.none (nothing (error_parts m n) none))
-]
+pub bits-missed : (m n bits most : ℕ) → most < bits → AreMostBits m n most → HaveSoundBits m n bits → ⊥
+bits-missed m n bits most less is bound =
+    apart (whole_parts m) (2 ^ suc most * error_parts m n) (2 ^ bits * error_parts m n) is.most
+    (mul-le-mul_right (error_parts m n) (pow-le-pow_right (lit< tt) less)) bound
   where
     apart : (whole least all : ℕ) → whole < least → least ≤ all → all ≤ whole → ⊥
     apart whole least all one two three = absurd (omega (arith, one, two, three))
-
-    beyond : (least all : ℕ) → least < all → all ≤ 128 → least ≡ 128 → ⊥
-    beyond least all one two three = absurd (omega (arith, one, two, three))
-
-    nothing : (v : ℕ) → v ≤ 0 → v ≡ 0
-    nothing v is = omega (arith, is)
 
 -- there is one m for so many bits
 pub one-for : (bits n m k : ℕ) → AreFor bits m n → AreFor bits k n → m ≡ k

@@ -1,7 +1,7 @@
 -- The soundness error in numbers, over the field of GHASH, and its bits.
 use Rattle.std.proofs.Common.{◌≡◌, ◌⊎◌, inl, inr, ℕ, zero, suc, ◌+◌, ◌-◌, ◌*◌, ◌/◌, ◌^◌, ◌<◌, ◌≤◌, Bool, cond, List}
-use Rattle.std.proofs.Common.{refl, sym, ◌∙◌, ap, subst, le_trans, arith, lit<, lit≤, ne_eqb}
-use Rattle.std.specs.Prelude.{max}
+use Rattle.std.proofs.Common.{false, refl, sym, ◌∙◌, ap, subst, le_trans, arith, eq-eqb, lit<, lit≤, ne_eqb}
+use Rattle.std.specs.Prelude.{max, nat_eq}
 use Rattle.std.proofs.Math.Nat.{le-max_left, le-max_right, max-le, mul-le-mul, mul-le-mul_left, mul-le-mul_right}
 use Rattle.std.proofs.Math.Nat.{pow-le-pow_left, pow-le-pow_right, pow-suc, pow-zero}
 use Rattle.std.proofs.lemmas.Bool.{cases_lt}
@@ -14,6 +14,7 @@ use Rattle.proximity.specs.Marks.{marked_below}
 use Rattle.proximity.specs.Openings.{sum_lists}
 use Rattle.proximity.proofs.Blocks.{few_blocks_miss}
 use Rattle.proximity.proofs.Lines.{lines_are_near}
+use Rattle.sum_checks.specs.ZeroCheck.{LinesHaveOneRoot}
 use Rattle.protocols.specs.CodeDistances.{point_generator}
 use Rattle.protocols.proofs.CodeDistances.{quarter_rate_gap}
 use Rattle.protocols.proofs.OpenedTables.{code-distance}
@@ -102,7 +103,7 @@ seldom-none v marked some =
 
 -- ---- the error
 
-module _ (field : IsField 128 word_times) (vectors : AreCantorVectors 128 word_times word_vector)
+module _ (lines : LinesHaveOneRoot) (field : IsField 128 word_times) (vectors : AreCantorVectors 128 word_times word_vector)
     (fit : (b : ℕ) → b < 128 → word_vector b < 2 ^ 128) (m n : ℕ) (some : 7 ≤ m) (most : m ≤ 8) (few : n ≤ 39) where
   abbrev Seldom : Type 0
   Seldom =
@@ -114,63 +115,96 @@ module _ (field : IsField 128 word_times) (vectors : AreCantorVectors 128 word_t
   deep : word_levels m n ≤ 128
   deep = omega (arith, few)
 
-  radius : 2 * wrong_columns m n + 2 ^ row_levels m n ≤ 2 ^ 2 * 2 ^ row_levels m n
-  radius = omega arith
-
   gathered : (f w accepted bound lucky p b places : ℕ) → f * (w * accepted)
       ≤ bound * p * (w * b) + f * (p * (places * b)) → bound ≤ lucky
       → f * w * accepted ≤ (lucky * w + f * places) * (p * b)
   gathered f w accepted bound lucky p b places is more =
       let grown = mul-le-mul_right (p * (w * b)) more in omega (arith, is, grown)
 
-  by-parts : (lucky : ℕ)
+  by-parts : (lucky : ℕ) → 2 * wrong_columns m n + 2 ^ row_levels m n ≤ 2 ^ 2 * 2 ^ row_levels m n
       → HasGap 128 word_times (2 ^ row_levels m n) (2 ^ 2 * 2 ^ row_levels m n)
       (point_generator 128 word_times word_vector (row_levels m n)) (wrong_columns m n) lucky
-      → matrix_rows m n * lucky ≤ lucky_challenges m n → Seldom
-      → (left right : ℕ → List ℕ) (sum : ℕ) (prover : Prover) (accepted : List ℕ → List ℕ → Bool)
+      → suc (matrix_rows m n) * lucky ≤ lucky_challenges m n → Seldom
+      → (left right : ℕ → List ℕ) (sum : ℕ) (prover : Prover) (accepted : List ℕ → List ℕ → List ℕ → Bool)
       → Cheats 128 word_times word_vector m n (wrong_columns m n) left right sum prover accepted
       → whole_parts m * accepted_runs 128 m n accepted ≤ error_parts m n * all_runs 128 m n
-  by-parts lucky gap less seldom left right sum prover accepted cheats =
-      gathered (2 ^ 128) (256 ^ 2 ^ m) (accepted_runs 128 m n accepted) (max (2 * n) (matrix_rows m n * lucky))
-      (lucky_challenges m n) ((2 ^ 128) ^ n)
+  by-parts lucky radius gap less seldom left right sum prover accepted cheats =
+      gathered (2 ^ 128) (256 ^ 2 ^ m) (accepted_runs 128 m n accepted) (max (suc (2 * n)) (suc (matrix_rows m n) * lucky))
+      (lucky_challenges m n) ((2 ^ 128) ^ suc n)
       ((2 ^ place_bits m n) ^ place_count m n) (lucky_places m n)
-      (few-accepted 128 word_times word_vector (lit≤ tt) field vectors fit m n
+      (few-accepted lines 128 word_times word_vector (lit≤ tt) field vectors fit m n
       (wrong_columns m n) lucky deep radius gap left right sum prover accepted cheats
       (256 ^ 2 ^ m) (256 ^ 2 ^ m * (2 ^ place_bits m n) ^ place_count m n)
       (lucky_places m n * (2 ^ place_bits m n) ^ place_count m n) (omega arith) seldom)
-      (max-le (le-max_left (2 * n) (matrix_rows m n * (34 * 2 ^ word_levels m n))) less)
+      (max-le
+      (le-max_left (suc (2 * n)) (cond (nat_eq (place_bits m n) 0) 0 (suc (matrix_rows m n) * (34 * 2 ^ word_levels m n)))) less)
 
   deep-power : 2 ^ word_levels m n ≡ 4 * 2 ^ row_levels m n
   deep-power = pow-add 2 2 (row_levels m n)
 
-  -- ---- places
+  -- ---- all columns are opened
 
-  -- all are opened, so that none of the lists misses a column
-  opened-seldom : place_bits m n ≡ 0 → Seldom
-  opened-seldom no_bits marked many =
-      subst (λ (v : ℕ). 256 ^ 2 ^ m * v ≤ lucky_places m n * (2 ^ place_bits m n) ^ place_count m n) (sym none) (omega arith)
-    where
-      blocks : 2 ^ 2 * 2 ^ row_levels m n ≡ 2 ^ (word_levels m n - place_bits m n) * 1
-      blocks =
-          sym (pow-add 2 2 (row_levels m n)) ∙ ap (λ (v : ℕ). 2 ^ v) (less-none (word_levels m n) (place_bits m n) no_bits)
-          ∙ times-one (2 ^ (word_levels m n - place_bits m n))
-        where
-          less-none : (d b : ℕ) → b ≡ 0 → d ≡ d - b
-          less-none d b is = omega (arith, is)
+  module _ (no_bits : place_bits m n ≡ 0) where
+    right-columns : wrong_columns m n ≡ 0
+    right-columns = ap (λ (c : Bool). cond c 0 (93 * (2 ^ row_levels m n / 64))) (eq-eqb (place_bits m n) 0 no_bits)
 
-          times-one : (v : ℕ) → v ≡ v * 1
-          times-one v = omega arith
+    -- none of the lists misses a column
+    opened-seldom : Seldom
+    opened-seldom marked many =
+        subst (λ (v : ℕ). 256 ^ 2 ^ m * v ≤ lucky_places m n * (2 ^ place_bits m n) ^ place_count m n) (sym none) (omega arith)
+      where
+        blocks : 2 ^ 2 * 2 ^ row_levels m n ≡ 2 ^ (word_levels m n - place_bits m n) * 1
+        blocks =
+            sym (pow-add 2 2 (row_levels m n)) ∙ ap (λ (v : ℕ). 2 ^ v) (less-none (word_levels m n) (place_bits m n) no_bits)
+            ∙ times-one (2 ^ (word_levels m n - place_bits m n))
+          where
+            less-none : (d b : ℕ) → b ≡ 0 → d ≡ d - b
+            less-none d b is = omega (arith, is)
 
-      none : sum_lists (place_count m n) (2 ^ place_bits m n)
-          (λ numbers. cond (blocks_unmarked (2 ^ place_bits m n) marked 0 numbers) 1 0) ≡ 0
-      none =
-          subst (λ (b : ℕ). sum_lists (place_count m n) (2 ^ b)
-          (λ numbers. cond (blocks_unmarked (2 ^ b) marked 0 numbers) 1 0) ≡ 0) (sym no_bits)
-          (seldom-none (word_levels m n - place_bits m n) marked
-          (subst (λ (v : ℕ). 0 < marked_below marked v) blocks (le_trans (omega arith) many)))
+            times-one : (v : ℕ) → v ≡ v * 1
+            times-one v = omega arith
 
-  -- rows of 64 words or more
-  module _ (long : 6 ≤ row_levels m n) where
+        none : sum_lists (place_count m n) (2 ^ place_bits m n)
+            (λ numbers. cond (blocks_unmarked (2 ^ place_bits m n) marked 0 numbers) 1 0) ≡ 0
+        none =
+            subst (λ (b : ℕ). sum_lists (place_count m n) (2 ^ b)
+            (λ numbers. cond (blocks_unmarked (2 ^ b) marked 0 numbers) 1 0) ≡ 0) (sym no_bits)
+            (seldom-none (word_levels m n - place_bits m n) marked
+            (subst (λ (v : ℕ). 0 < marked_below marked v) blocks (le_trans (omega arith) many)))
+
+    opened-radius : 2 * wrong_columns m n + 2 ^ row_levels m n ≤ 2 ^ 2 * 2 ^ row_levels m n
+    opened-radius = subst (λ (e : ℕ). 2 * e + 2 ^ row_levels m n ≤ 2 ^ 2 * 2 ^ row_levels m n) (sym right-columns) (omega arith)
+
+    opened-gap : HasGap 128 word_times (2 ^ row_levels m n) (2 ^ 2 * 2 ^ row_levels m n)
+        (point_generator 128 word_times word_vector (row_levels m n))
+        (wrong_columns m n) 1
+    opened-gap =
+        subst (λ (e : ℕ). HasGap 128 word_times (2 ^ row_levels m n) (2 ^ 2 * 2 ^ row_levels m n)
+        (point_generator 128 word_times word_vector (row_levels m n)) e 1)
+        (sym right-columns)
+        (lines_are_near 128 word_times (2 ^ row_levels m n) (2 ^ 2 * 2 ^ row_levels m n)
+        (2 ^ 2 * 2 ^ row_levels m n + 1 - 2 ^ row_levels m n)
+        (point_generator 128 word_times word_vector (row_levels m n)) (lit< tt) field
+        (code-distance 128 word_times word_vector (lit< tt) field vectors fit (row_levels m n) 2 deep (omega arith)) 0
+        (omega arith))
+
+    opened-lucky : suc (matrix_rows m n) * 1 ≤ lucky_challenges m n
+    opened-lucky =
+        le_trans (omega arith)
+        (le-max_left (suc (2 * n)) (cond (nat_eq (place_bits m n) 0) 0 (suc (matrix_rows m n) * (34 * 2 ^ word_levels m n))))
+
+  -- ---- one place of each block is opened
+
+  module _ (bits : 0 < place_bits m n) where
+    some-bits : nat_eq (place_bits m n) 0 ≡ false
+    some-bits = ne_eqb (place_bits m n) 0 (λ (none : place_bits m n ≡ 0). omega (arith, bits, none))
+
+    wrong-some : wrong_columns m n ≡ 93 * (2 ^ row_levels m n / 64)
+    wrong-some = ap (λ (c : Bool). cond c 0 (93 * (2 ^ row_levels m n / 64))) some-bits
+
+    long : 6 ≤ row_levels m n
+    long = omega (arith, bits, some)
+
     abbrev j : ℕ
     j = 2 ^ row_levels m n / 64
 
@@ -183,123 +217,92 @@ module _ (field : IsField 128 word_times) (vectors : AreCantorVectors 128 word_t
     whole : 2 ^ row_levels m n ≡ 64 * j
     whole = let is = split in omega (arith, is)
 
+    radius : 2 * wrong_columns m n + 2 ^ row_levels m n ≤ 2 ^ 2 * 2 ^ row_levels m n
+    radius = subst (λ (e : ℕ). 2 * e + 2 ^ row_levels m n ≤ 2 ^ 2 * 2 ^ row_levels m n) (sym wrong-some) (omega arith)
+
     gap : HasGap 128 word_times (2 ^ row_levels m n) (2 ^ 2 * 2 ^ row_levels m n)
         (point_generator 128 word_times word_vector (row_levels m n)) (wrong_columns m n)
         (34 * (4 * 2 ^ row_levels m n) - 1)
     gap =
-        quarter_rate_gap 128 word_times word_vector (lit< tt) field vectors fit (row_levels m n) j whole
-        (subst (λ (v : ℕ). v ≤ 2 ^ 128) deep-power (pow-le-pow_right (lit< tt) deep))
-
-    lucky-most : matrix_rows m n * (34 * (4 * 2 ^ row_levels m n) - 1) ≤ lucky_challenges m n
-    lucky-most =
-        le_trans (mul-le-mul_left (matrix_rows m n) (subst (λ (v : ℕ). 34 * (4 * 2 ^ row_levels m n) - 1 ≤ 34 * v)
-        (sym deep-power) (omega arith)))
-        (le-max_right (2 * n) (matrix_rows m n * (34 * 2 ^ word_levels m n)))
-
-    -- one place of each block is opened
-    module _ (bits : 0 < place_bits m n) where
-      enough : m ≤ word_levels m n
-      enough = omega (arith, bits)
-
-      blocks : word_levels m n - place_bits m n ≡ m
-      blocks = within (word_levels m n) m enough
-        where
-          within : (d q : ℕ) → q ≤ d → d - (d - q) ≡ q
-          within d q less = omega (arith, less)
-
-      places : 2 ^ 2 * 2 ^ row_levels m n ≡ 2 ^ m * 2 ^ place_bits m n
-      places =
-          sym deep-power ∙ ap (λ (v : ℕ). 2 ^ v) (within (word_levels m n) m enough) ∙ pow-add 2 m (place_bits m n)
-        where
-          within : (d q : ℕ) → q ≤ d → d ≡ q + (d - q)
-          within d q less = omega (arith, less)
-
-      size : 2 ^ m * 2 ^ (8 - m) ≡ 256
-      size = sym (pow-add 2 m (8 - m)) ∙ ap (λ (v : ℕ). 2 ^ v) (within m most)
-        where
-          within : (q : ℕ) → q ≤ 8 → q + (8 - q) ≡ 8
-          within q less = omega (arith, less)
-
-      turned : 2 ^ place_bits m n ≡ 2 ^ (8 - m) * j
-      turned =
-          ap (λ (v : ℕ). 2 ^ v) (within (row_levels m n) m long some most) ∙ pow-add 2 (8 - m) (row_levels m n - 6)
-          ∙ ap (λ (v : ℕ). 2 ^ (8 - m) * v) (let is = split in omega (arith, is))
-        where
-          within : (l q : ℕ) → 6 ≤ l → 7 ≤ q → q ≤ 8 → 2 + l - q ≡ 8 - q + (l - 6)
-          within l q one two three = omega (arith, one, two, three)
-
-      seldom : Seldom
-      seldom marked many =
-          subst (λ (c : Bool). 256 ^ 2 ^ m
-          * sum_lists (place_count m n) (2 ^ place_bits m n)
-          (λ numbers. cond (blocks_unmarked (2 ^ place_bits m n) marked 0 numbers) 1 0)
-          ≤ cond c 0 (163 ^ 2 ^ m) * (2 ^ place_bits m n) ^ place_count m n)
-          (sym (ne_eqb (place_bits m n) 0 (λ (none : place_bits m n ≡ 0). omega (arith, bits, none))))
-          (subst (λ (v : ℕ). 256 ^ 2 ^ m
-          * sum_lists (2 ^ v) (2 ^ place_bits m n)
-          (λ numbers. cond (blocks_unmarked (2 ^ place_bits m n) marked 0 numbers) 1 0)
-          ≤ 163 ^ 2 ^ m * (2 ^ place_bits m n) ^ 2 ^ v) (sym blocks)
-          (seldom-many m (2 ^ (8 - m)) j (place_bits m n) marked size turned
-          (subst (λ (v : ℕ). wrong_columns m n < marked_below marked v) places many)))
-
-    long-seldom : Seldom
-    long-seldom = elim (cases_lt 0 (place_bits m n)) [
-      | inl bits ↦ seldom bits
-      | inr none ↦ opened-seldom (nothing (place_bits m n) none)
-    ]
-      where
-        nothing : (b : ℕ) → b ≤ 0 → b ≡ 0
-        nothing b less = omega (arith, less)
-
-  -- shorter rows, of which all columns are opened
-  module _ (short : row_levels m n < 6) where
-    no-rows : matrix_rows m n ≡ 0
-    no-rows = omega (arith, short, some)
-
-    no-bits : place_bits m n ≡ 0
-    no-bits = omega (arith, short, some)
-
-    right-columns : wrong_columns m n ≡ 0
-    right-columns = let small = less in omega (arith, small)
-      where
-        five : row_levels m n ≤ 5
-        five = omega (arith, short)
-
-        less : 2 ^ row_levels m n ≤ 2 ^ 5
-        less = pow-le-pow_right (lit< tt) five
-
-    short-gap : HasGap 128 word_times (2 ^ row_levels m n) (2 ^ 2 * 2 ^ row_levels m n)
-        (point_generator 128 word_times word_vector (row_levels m n))
-        (wrong_columns m n) 1
-    short-gap =
         subst (λ (e : ℕ). HasGap 128 word_times (2 ^ row_levels m n) (2 ^ 2 * 2 ^ row_levels m n)
-        (point_generator 128 word_times word_vector (row_levels m n)) e 1)
-        (sym right-columns)
-        (lines_are_near 128 word_times (2 ^ row_levels m n) (2 ^ 2 * 2 ^ row_levels m n)
-        (2 ^ 2 * 2 ^ row_levels m n + 1 - 2 ^ row_levels m n)
-        (point_generator 128 word_times word_vector (row_levels m n)) (lit< tt) field
-        (code-distance 128 word_times word_vector (lit< tt) field vectors fit (row_levels m n) 2 deep (omega arith)) 0
-        (omega arith))
+        (point_generator 128 word_times word_vector (row_levels m n)) e (34 * (4 * 2 ^ row_levels m n) - 1)) (sym wrong-some)
+        (quarter_rate_gap 128 word_times word_vector (lit< tt) field vectors fit (row_levels m n) j whole
+        (subst (λ (v : ℕ). v ≤ 2 ^ 128) deep-power (pow-le-pow_right (lit< tt) deep)))
 
-    short-lucky : matrix_rows m n * 1 ≤ lucky_challenges m n
-    short-lucky = subst (λ (h : ℕ). h * 1 ≤ lucky_challenges m n) (sym no-rows) (omega arith)
+    lucky-most : suc (matrix_rows m n) * (34 * (4 * 2 ^ row_levels m n) - 1) ≤ lucky_challenges m n
+    lucky-most =
+        le_trans
+        (subst (λ (c : Bool). suc (matrix_rows m n) * (34 * (4 * 2 ^ row_levels m n) - 1)
+        ≤ cond c 0 (suc (matrix_rows m n) * (34 * 2 ^ word_levels m n))) (sym some-bits)
+        (mul-le-mul_left (suc (matrix_rows m n)) (subst (λ (v : ℕ). 34 * (4 * 2 ^ row_levels m n) - 1 ≤ 34 * v)
+        (sym deep-power) (omega arith))))
+        (le-max_right (suc (2 * n)) (cond (nat_eq (place_bits m n) 0) 0 (suc (matrix_rows m n) * (34 * 2 ^ word_levels m n))))
 
-pub errors_are_small : IsField 128 word_times → AreCantorVectors 128 word_times word_vector
+    enough : m ≤ word_levels m n
+    enough = omega (arith, bits)
+
+    blocks : word_levels m n - place_bits m n ≡ m
+    blocks = within (word_levels m n) m enough
+      where
+        within : (d q : ℕ) → q ≤ d → d - (d - q) ≡ q
+        within d q less = omega (arith, less)
+
+    places : 2 ^ 2 * 2 ^ row_levels m n ≡ 2 ^ m * 2 ^ place_bits m n
+    places =
+        sym deep-power ∙ ap (λ (v : ℕ). 2 ^ v) (within (word_levels m n) m enough) ∙ pow-add 2 m (place_bits m n)
+      where
+        within : (d q : ℕ) → q ≤ d → d ≡ q + (d - q)
+        within d q less = omega (arith, less)
+
+    size : 2 ^ m * 2 ^ (8 - m) ≡ 256
+    size = sym (pow-add 2 m (8 - m)) ∙ ap (λ (v : ℕ). 2 ^ v) (within m most)
+      where
+        within : (q : ℕ) → q ≤ 8 → q + (8 - q) ≡ 8
+        within q less = omega (arith, less)
+
+    turned : 2 ^ place_bits m n ≡ 2 ^ (8 - m) * j
+    turned =
+        ap (λ (v : ℕ). 2 ^ v) (within (row_levels m n) m long some most) ∙ pow-add 2 (8 - m) (row_levels m n - 6)
+        ∙ ap (λ (v : ℕ). 2 ^ (8 - m) * v) (let is = split in omega (arith, is))
+      where
+        within : (l q : ℕ) → 6 ≤ l → 7 ≤ q → q ≤ 8 → 2 + l - q ≡ 8 - q + (l - 6)
+        within l q one two three = omega (arith, one, two, three)
+
+    seldom : Seldom
+    seldom marked many =
+        subst (λ (c : Bool). 256 ^ 2 ^ m
+        * sum_lists (place_count m n) (2 ^ place_bits m n)
+        (λ numbers. cond (blocks_unmarked (2 ^ place_bits m n) marked 0 numbers) 1 0)
+        ≤ cond c 0 (163 ^ 2 ^ m) * (2 ^ place_bits m n) ^ place_count m n)
+        (sym some-bits)
+        (subst (λ (v : ℕ). 256 ^ 2 ^ m
+        * sum_lists (2 ^ v) (2 ^ place_bits m n)
+        (λ numbers. cond (blocks_unmarked (2 ^ place_bits m n) marked 0 numbers) 1 0)
+        ≤ 163 ^ 2 ^ m * (2 ^ place_bits m n) ^ 2 ^ v) (sym blocks)
+        (seldom-many m (2 ^ (8 - m)) j (place_bits m n) marked size turned
+        (subst (λ (v : ℕ). 93 * j < marked_below marked v) places
+        (subst (λ (v : ℕ). v < marked_below marked (2 ^ 2 * 2 ^ row_levels m n)) wrong-some many))))
+
+pub errors_are_small : LinesHaveOneRoot → IsField 128 word_times → AreCantorVectors 128 word_times word_vector
     → ((b : ℕ) → b < 128 → word_vector b < 2 ^ 128) → ErrorsAreSmall
-errors_are_small field vectors fit m n some most few = pick (cases_lt (row_levels m n) 6)
+errors_are_small lines field vectors fit m n some most few = pick (cases_lt 0 (place_bits m n))
   where
-    pick : (row_levels m n < 6) ⊎ (6 ≤ row_levels m n)
-        → (left right : ℕ → List ℕ) (sum : ℕ) (prover : Prover) (accepted : List ℕ → List ℕ → Bool)
+    nothing : (b : ℕ) → b ≤ 0 → b ≡ 0
+    nothing b less = omega (arith, less)
+
+    pick : (0 < place_bits m n) ⊎ (place_bits m n ≤ 0)
+        → (left right : ℕ → List ℕ) (sum : ℕ) (prover : Prover) (accepted : List ℕ → List ℕ → List ℕ → Bool)
         → Cheats 128 word_times word_vector m n (wrong_columns m n) left right sum prover accepted
         → whole_parts m * accepted_runs 128 m n accepted ≤ error_parts m n * all_runs 128 m n
-    pick (inl short) =
-        by-parts field vectors fit m n some most few 1 (short-gap field vectors fit m n some most few short)
-        (short-lucky field vectors fit m n some most few short)
-        (opened-seldom field vectors fit m n some most few (no-bits field vectors fit m n some most few short))
-    pick (inr long) =
-        by-parts field vectors fit m n some most few (34 * (4 * 2 ^ row_levels m n) - 1) (gap field vectors fit m n some most few long)
-        (lucky-most field vectors fit m n some most few long)
-        (long-seldom field vectors fit m n some most few long)
+    pick (inl bits) =
+        by-parts lines field vectors fit m n some most few (34 * (4 * 2 ^ row_levels m n) - 1)
+        (radius lines field vectors fit m n some most few bits) (gap lines field vectors fit m n some most few bits)
+        (lucky-most lines field vectors fit m n some most few bits) (seldom lines field vectors fit m n some most few bits)
+    pick (inr none) =
+        let no_bits = nothing (place_bits m n) none in
+        by-parts lines field vectors fit m n some most few 1 (opened-radius lines field vectors fit m n some most few no_bits)
+        (opened-gap lines field vectors fit m n some most few no_bits) (opened-lucky lines field vectors fit m n some most few no_bits)
+        (opened-seldom lines field vectors fit m n some most few no_bits)
 
 -- ---- its bits
 
@@ -329,26 +332,28 @@ sound-bits small m n bits some most few are left right sum prover accepted cheat
 pub many-bits : (n : ℕ) → 6 ≤ n → n ≤ 39 → AreMostBits 7 n 83
 many-bits n enough few = record {
   bound = le_trans (mul-le-mul_left (2 ^ 83) top) (lit≤ tt);
-  most = λ some. le_trans least (mul-le-mul_left (2 ^ 84) bottom);
-  none = λ none. absurd (omega (arith, none, positive));
+  most = le_trans least (mul-le-mul_left (2 ^ 84) bottom);
 }
   where
+    some-bits : nat_eq (place_bits 7 n) 0 ≡ false
+    some-bits = ne_eqb (place_bits 7 n) 0 (λ (none : place_bits 7 n ≡ 0). omega (arith, enough, none))
+
     lucky : lucky_challenges 7 n ≤ 2 ^ 40
     lucky =
         max-le (omega (arith, few))
+        (subst (λ (c : Bool). cond c 0 (suc (matrix_rows 7 n) * (34 * 2 ^ word_levels 7 n)) ≤ 2 ^ 40) (sym some-bits)
         (le_trans
         (mul-le-mul (rows-few n few)
-        (mul-le-mul_left 34 (pow-le-pow_right (lit< tt) (depth-few n few)))) (lit≤ tt))
+        (mul-le-mul_left 34 (pow-le-pow_right (lit< tt) (depth-few n few)))) (lit≤ tt)))
       where
-        rows-few : (n : ℕ) → n ≤ 39 → matrix_rows 7 n ≤ 16
+        rows-few : (n : ℕ) → n ≤ 39 → suc (matrix_rows 7 n) ≤ 17
         rows-few n few = omega (arith, few)
 
         depth-few : (n : ℕ) → n ≤ 39 → word_levels 7 n ≤ 25
         depth-few n few = omega (arith, few)
 
     places : lucky_places 7 n ≡ 163 ^ 128
-    places = ap (λ (c : Bool). cond c 0 (163 ^ 128))
-        (ne_eqb (place_bits 7 n) 0 (λ (none : place_bits 7 n ≡ 0). omega (arith, enough, none)))
+    places = ap (λ (c : Bool). cond c 0 (163 ^ 128)) some-bits
 
     top : error_parts 7 n ≤ 2 ^ 40 * 256 ^ 128 + 2 ^ 128 * 163 ^ 128
     top =
@@ -367,9 +372,6 @@ many-bits n enough few = record {
       where
         roomy : (a b : ℕ) → b ≤ a + b
         roomy a b = omega arith
-
-    positive : 0 < error_parts 7 n
-    positive = le_trans (lit≤ tt) bottom
 
     least : whole_parts 7 < 2 ^ 84 * (2 ^ 128 * 163 ^ 128)
     least = lit< tt

@@ -1,12 +1,14 @@
 -- What is stated over a challenger, over its states.
-use Rattle.std.proofs.Common.{◌≡◌, ◌∙◌, ℕ, Bool, true, List, [], ◌∷◌, ap, subst}
+use Rattle.std.proofs.Common.{◌≡◌, ◌∙◌, ℕ, Bool, true, List, [], ◌∷◌, ◌++◌, ap, subst}
 use Rattle.transcripts.specs.Lists.{InTurn}
+use Rattle.merkle_trees.specs.Commitments.{root_of}
 use Rattle.merkle_trees.specs.Queries.{AreQueries}
 use Rattle.merkle_trees.specs.declared.merkle_tree.MerkleTree.{MerkleTree}
 use Rattle.sum_checks.specs.Sumcheck.{AreTurns, IsRunOf, IsTurn, Statement, messages_of}
 use Rattle.protocols.specs.CommitmentScheme.{ArePlacesDrawn, opening_work, place_bits}
+use Rattle.protocols.specs.JointTables.{SentTables, VerifiesTables, sent_tables}
 use Rattle.protocols.specs.ProductSums.{IsSummed, sum_statement}
-use Rattle.prove_sums.specs.Shapes.{messages_in, rows_in, sum_in, witness_in}
+use Rattle.prove_sums.specs.Shapes.{messages_in, sent_in, sum_in}
 use Rattle.prove_sums.specs.Verdicts.{IsHonestProof, IsReducedClaim, VerifiesSum}
 
 module _ {C S : Type 0} (state : C → S) where
@@ -80,6 +82,27 @@ module _ {C S : Type 0} (state : C → S) where
         challenge_count = reduced.challenge_count;
       }
 
+      -- the verdict on an opening of tables
+      tables-on_states : (hash : List ℕ → List ℕ) (size width : ℕ) (times : ℕ → ℕ → ℕ) (vector : ℕ → ℕ) (roots : List (List ℕ)) (point : List F)
+          (sent : SentTables F) (old : C) (accepted : Bool) (new : C)
+          → VerifiesTables observes gives passing checks gives_bits repr hash size width times vector m n roots point sent old accepted new
+          → VerifiesTables observed given passed checked given_bits repr hash size width times vector m n roots point sent (state old) accepted
+          (state new)
+      tables-on_states hash size width times vector roots point sent old accepted new verdict = record {
+        challenges = verdict.challenges;
+        between = state verdict.between;
+        combined = record {
+          begun = state verdict.combined.begun;
+          observed = in_turn observes observed observes_by (point ++ sent.values) old verdict.combined.begun verdict.combined.observed;
+          sampled = in_turn gives given gives_by verdict.challenges verdict.combined.begun verdict.between verdict.combined.sampled;
+          cube = verdict.combined.cube;
+        };
+        works = verdict.works;
+        places = verdict.places;
+        drawn = draws-on_states sent.row sent.witness verdict.between new verdict.works verdict.places verdict.drawn;
+        decided = verdict.decided;
+      }
+
       pub verdict-on_states : (hash : List ℕ → List ℕ) (size width : ℕ) (times : ℕ → ℕ → ℕ) (vector : ℕ → ℕ) (left right : List ℕ)
           (nodes : List (List ℕ)) (old : C) (begun : S) (accepted : Bool) → state old ≡ begun
           → VerifiesSum observes gives passing checks gives_bits number repr hash size width times vector m n left right elements nodes old accepted
@@ -89,13 +112,12 @@ module _ {C S : Type 0} (state : C → S) where
           (record {
             point = verdict.point;
             claim = verdict.claim;
-            works = verdict.works;
-            places = verdict.places;
+            opens = verdict.opens;
             between = state verdict.between;
             new = state verdict.new;
             reduced = reduced-on_states width times old verdict.between verdict.point verdict.claim verdict.reduced;
-            drawn = draws-on_states (rows_in m n elements) (witness_in number n elements) verdict.between verdict.new verdict.works verdict.places
-                verdict.drawn;
+            opened = tables-on_states hash size width times vector (left ∷ right ∷ []) verdict.point (sent_in number m n elements nodes)
+                verdict.between verdict.opens verdict.new verdict.opened;
             decided = verdict.decided;
           })
 
@@ -110,32 +132,30 @@ module _ {C S : Type 0} (state : C → S) where
         challenge_count = summed.challenge_count;
       }
 
-      pub honest-on_states : {A : Type 0} (width : ℕ) (times : ℕ → ℕ → ℕ) (left right left_columns right_columns : List F)
+      pub honest-on_states : {A : Type 0} (size width : ℕ) (times : ℕ → ℕ → ℕ) (vector : ℕ → ℕ) (left right left_columns right_columns : List F)
           (left_tree right_tree : MerkleTree A) (nodes : List (List ℕ)) (old : C) (begun : S) → state old ≡ begun
-          → IsHonestProof observes gives passing checks gives_bits number repr width times m n left right left_columns right_columns left_tree right_tree
-          elements nodes old
-          → IsHonestProof observed given passed checked given_bits number repr width times m n left right left_columns right_columns left_tree right_tree
-          elements nodes begun
-      honest-on_states width times left right left_columns right_columns left_tree right_tree nodes old begun is honest =
+          → IsHonestProof observes gives passing checks gives_bits number repr size width times vector m n left right left_columns right_columns left_tree
+          right_tree elements nodes old
+          → IsHonestProof observed given passed checked given_bits number repr size width times vector m n left right left_columns right_columns left_tree
+          right_tree elements nodes begun
+      honest-on_states size width times vector left right left_columns right_columns left_tree right_tree nodes old begun is honest =
           let parts = honest.parts in
           subst
-          (λ (s : S). IsHonestProof observed given passed checked given_bits number repr width times m n left right left_columns right_columns
-          left_tree right_tree elements nodes s) is
+          (λ (s : S). IsHonestProof observed given passed checked given_bits number repr size width times vector m n left right left_columns
+          right_columns left_tree right_tree elements nodes s) is
           (record {
             parts = parts;
             point = honest.point;
-            places = honest.places;
+            openers = honest.openers;
             between = state honest.between;
             new = state honest.new;
             summed = summed-on_states width times left right old honest.between parts.sum parts.messages honest.point honest.summed;
-            rows_are = honest.rows_are;
-            drawn = draws-on_states parts.rows (number parts.witness) honest.between honest.new true honest.places honest.drawn;
-            left_opened = honest.left_opened;
-            right_opened = honest.right_opened;
+            opened = λ hash tables held.
+                let opened = honest.opened hash tables held in (
+                  opened.0,
+                  tables-on_states hash size width times vector (root_of left_tree ∷ root_of right_tree ∷ []) honest.point
+                      (sent_tables parts.values parts.row (number parts.witness) parts.columns honest.openers) honest.between true honest.new opened.1,
+                );
             written = honest.written;
-            left_nodes = honest.left_nodes;
-            right_nodes = honest.right_nodes;
-            left_nodes_open = honest.left_nodes_open;
-            right_nodes_open = honest.right_nodes_open;
             nodes_are = honest.nodes_are;
           })

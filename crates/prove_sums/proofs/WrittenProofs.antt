@@ -16,7 +16,6 @@ use Rattle.merkle_trees.specs.Commitments.{root_of}
 use Rattle.merkle_trees.specs.Openings.{OpeningsHaveOneCount}
 use Rattle.sum_checks.specs.SumcheckClaims.{HonestReduces}
 use Rattle.protocols.specs.CodeWords.{PartsDetermine}
-use Rattle.protocols.specs.CommitmentScheme.{HoldsColumns}
 use Rattle.protocols.proofs.ProofBytes.{same-bytes, same-proof}
 use Rattle.prove_sums.specs.Bits.{AreFor, HaveSoundBits, NoneIsFor}
 use Rattle.prove_sums.specs.Completeness.{WrittenProofsAreAccepted}
@@ -30,7 +29,7 @@ use Rattle.prove_sums.specs.declared.refusal.Refusal.{Refusal}
 use Rattle.prove_sums.specs.declared.refusal.Refusal.TheVariants.{NotAProof, OtherVersion, OtherField, Length, OtherParameters, TooFewBits, OtherLeft, OtherRight, NotProved}
 use Rattle.prove_sums.specs.declared.tables.Table.{Table}
 use Rattle.prove_sums.specs.declared.tables.TableField.{TableField}
-use Rattle.prove_sums.proofs.CommittedRoots.{one-root}
+use Rattle.prove_sums.proofs.CommittedRoots.{one-root, table-held}
 use Rattle.prove_sums.proofs.Completeness.{honest_sums_are_accepted}
 use Rattle.prove_sums.proofs.Files.{one-file}
 use Rattle.prove_sums.proofs.SizeBits.{one-for}
@@ -85,22 +84,6 @@ module _ {F H : Type 0} (digest : H → List ℕ → List ℕ) (repr : F → ℕ
 
   module _ (reduces : HonestReduces) (counts : OpeningsHaveOneCount) (hasher : H) (bits : ℕ) (field : TableField) (left right proof : List ℕ)
       (is : IsProgramProof digest hasher repr bits field left right proof) where
-    one-held : HoldsColumns (digest hasher) repr 16 128 word_times word_vector is.queries is.rounds is.one is.one_columns is.one_tree
-    one-held = record {
-      count = is.left_table.count;
-      extended = is.left_root.extended;
-      depth = is.left_tree.depth;
-      over = is.left_tree.over;
-    }
-
-    other-held : HoldsColumns (digest hasher) repr 16 128 word_times word_vector is.queries is.rounds is.other is.other_columns is.other_tree
-    other-held = record {
-      count = is.right_table.count;
-      extended = is.right_root.extended;
-      depth = is.right_tree.depth;
-      over = is.right_tree.over;
-    }
-
     -- the verdict on what was sent is true
     verdict-true : (accepted : Bool)
         → IsSumVerdict digest hasher repr (file_bytes field is.queries is.rounds is.one_root is.other_root [] []) is.queries is.rounds is.one_root is.other_root
@@ -112,7 +95,8 @@ module _ {F H : Type 0} (digest : H → List ℕ → List ℕ) (repr : F → ℕ
         (λ old x new. gives_number digest old (repr x) new) (passes_number digest) (checks_number digest) (samples_bits digest) observed-once
         given-once (λ one other b n same. ap (λ (s : HashState H). passes_number digest s b n) same) checked-once bits-once repr repr 16 128 word_times
         word_vector points points.same reduces counts (digest hasher) is.queries is.rounds is.one is.other is.one_columns is.other_columns is.one_tree
-        is.other_tree is.elements is.nodes start start accepted (lit≤ tt) one-held other-held is.honest refl
+        is.other_tree is.elements is.nodes start start accepted (lit≤ tt) (table-held is.left_table is.left_root is.left_tree)
+        (table-held is.right_table is.right_root is.right_tree) is.honest refl
         (subst (λ (r : List ℕ). At (root_of is.one_tree) r) is.right_tree.top (subst (λ (l : List ℕ). At l is.other_root) is.left_tree.top verdict))
       where
         -- the verdict for two roots

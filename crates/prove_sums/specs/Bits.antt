@@ -5,14 +5,16 @@ use Rattle.protocols.specs.CommitmentScheme.{matrix_rows, place_bits, row_levels
 
 -- ---- the error
 
--- how many columns may be wrong: 93 of 256; none where rows have fewer than 64 elements
+-- how many columns may be wrong: 93 of 256; none where all columns are opened
 abbrev pub wrong_columns : ℕ → ℕ → ℕ
-wrong_columns m n = 93 * (2 ^ row_levels m n / 64)
+wrong_columns m n = cond (nat_eq (place_bits m n) 0) 0 (93 * (2 ^ row_levels m n / 64))
 
--- of the 2 ^ 128 values of a challenge, so many in all rounds help a prover that cheats: two in each round of the
--- sum-check, or 34 for each place in each round that combines rows
+-- of the 2 ^ 128 values of a challenge, so many in all draws help a prover that cheats: two in each round of the
+-- sum-check and one of the challenge that combines the tables, or 34 for each place, of that challenge and in each round
+-- that combines rows, where not all columns are opened
 abbrev pub lucky_challenges : ℕ → ℕ → ℕ
-lucky_challenges m n = max (2 * n) (matrix_rows m n * (34 * 2 ^ word_levels m n))
+lucky_challenges m n =
+    max (suc (2 * n)) (cond (nat_eq (place_bits m n) 0) 0 (suc (matrix_rows m n) * (34 * 2 ^ word_levels m n)))
 
 -- of 256 ^ q lists of places, q = 2 ^ m, so many miss all columns that are wrong: (256 - 93) ^ q; none where all columns
 -- are opened
@@ -33,11 +35,10 @@ whole_parts m = 2 ^ 128 * 256 ^ 2 ^ m
 abbrev pub HaveSoundBits : ℕ → ℕ → ℕ → Type 0
 HaveSoundBits m n bits = 2 ^ bits * error_parts m n ≤ whole_parts m
 
--- the largest bits of which that holds, and 128 where there is no error
+-- the largest bits of which that holds
 pub record AreMostBits (m n bits : ℕ) : Type 0 where
   pub bound : 2 ^ bits * error_parts m n ≤ whole_parts m
-  pub most : 0 < error_parts m n → whole_parts m < 2 ^ suc bits * error_parts m n
-  pub none : error_parts m n ≡ 0 → bits ≡ 128
+  pub most : whole_parts m < 2 ^ suc bits * error_parts m n
 
 -- m is for so many bits: 7 where these reach them, else 8 where these do
 abbrev pub AreFor : ℕ → ℕ → ℕ → Type 0

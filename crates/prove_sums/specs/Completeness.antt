@@ -17,8 +17,8 @@ HonestSumsAreAccepted {C} {S} {F} state observes gives passing checks gives_bits
     (elements : List F) (nodes : List (List ℕ)) (prover verifier : C) (accepted : Bool) → 2 ≤ width
     → HoldsColumns hash repr size width times vector m n left left_columns left_tree
     → HoldsColumns hash repr size width times vector m n right right_columns right_tree
-    → IsHonestProof observes gives passing checks gives_bits number repr width times m n left right left_columns right_columns left_tree
-    right_tree elements nodes prover
+    → IsHonestProof observes gives passing checks gives_bits number repr size width times vector m n left right left_columns right_columns
+    left_tree right_tree elements nodes prover
     → state prover ≡ state verifier
     → VerifiesSum observes gives passing checks gives_bits number repr hash size width times vector m n (root_of left_tree) (root_of right_tree)
     elements nodes verifier accepted

@@ -10,9 +10,9 @@ use Rattle.prove_sums.specs.declared.tables.TableField.{TableField}
 use Rattle.prove_sums.specs.declared.refusal.Refusal.{Refusal}
 use Rattle.prove_sums.specs.declared.refusal.Refusal.TheVariants.{NotAProof, OtherVersion, OtherField, Length, OtherParameters, TooFewBits, OtherLeft, OtherRight, NotProved}
 
--- what a file begins with: "sum 3 ", the letter of the field of the words, and a line feed
+-- what a file begins with: "sum 4 ", the letter of the field of the words, and a line feed
 abbrev pub head : TableField → List ℕ
-head field = 115 ∷ 117 ∷ 109 ∷ 32 ∷ 51 ∷ 32 ∷ field_letter field ∷ 10 ∷ []
+head field = 115 ∷ 117 ∷ 109 ∷ 32 ∷ 52 ∷ 32 ∷ field_letter field ∷ 10 ∷ []
 
 -- the bytes of a file: the head, m and n as one byte each, where 2 ^ m places are opened of tables of 2 ^ n elements, the roots of the left
 -- and of the right table, the bytes of the elements, and the nodes, one after the other

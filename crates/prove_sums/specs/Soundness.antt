@@ -1,5 +1,5 @@
 -- Soundness of sums of products of two tables, for every prover: what accepted proofs show of the columns that two roots hold.
-use Rattle.std.specs.Prelude.{◌≡◌, ◌⊎◌, ℕ, ◌+◌, ◌*◌, ◌^◌, ◌<◌, ◌≤◌, Bool, true, List, [], ◌++◌, length, map, take, drop, slice_index}
+use Rattle.std.specs.Prelude.{◌≡◌, ◌⊎◌, ℕ, ◌+◌, ◌*◌, ◌^◌, ◌<◌, ◌≤◌, Bool, true, List, [], ◌∷◌, ◌++◌, length, map, take, drop, bit_xor, slice_index}
 use Rattle.field_base.specs.Field.{IsField}
 use Rattle.field_base.specs.Orders.{AreCantorVectors}
 use Rattle.field_element.specs.Element.{repr_of}
@@ -8,6 +8,7 @@ use Rattle.merkle_trees.specs.MerkleTrees.{HaveDigestSize}
 use Rattle.sum_checks.specs.Sumcheck.{messages_of}
 use Rattle.sum_checks.specs.SumcheckClaims.{AreMessages, IsSaved, reduced_claim}
 use Rattle.sum_checks.specs.Terms.{cube_sum}
+use Rattle.sum_checks.specs.ZeroCheck.{IsRootAt}
 use Rattle.protocols.specs.CommitmentScheme.{matrix_rows, row_levels, value_columns, word_levels}
 use Rattle.protocols.specs.OpenedTables.{AreColumnsOf, AreLuckyPlaces, CommitsTo, HasLuckyCoordinate}
 use Rattle.protocols.specs.RootColumns.{HasSent, HaveOtherColumns, SentColumns}
@@ -16,42 +17,48 @@ use Rattle.protocols.specs.ProductSums.{interleaved, product_terms}
 use Rattle.prove_sums.specs.declared.tables.Table.{Table}
 use Rattle.prove_sums.specs.declared.tables.TableField.{TableField}
 use Rattle.prove_sums.specs.ProofFiles.{IsFileOf, file_bytes, number_in}
-use Rattle.prove_sums.specs.Shapes.{columns_in, element_count, messages_in, nodes_in, row_in, sum_in}
-use Rattle.prove_sums.specs.SoundnessErrors.{IsAcceptedRun, sends_always}
+use Rattle.prove_sums.specs.Shapes.{columns_in, element_count, messages_in, nodes_in, row_in, sum_in, values_in}
+use Rattle.prove_sums.specs.SoundnessErrors.{IsAcceptedRun, joint_column, sends_always}
 use Rattle.prove_sums.specs.Verdicts.{IsSumVerdict, VerifiesSum, word_times, word_vector}
 
 -- ---- of columns
 
--- What messages and rows show of the columns of two tables, whatever these are: the columns commit to two tables, and the sum is that of
--- the products of both or a round is saved; or else a coordinate of the point is lucky for the columns of one, or the places are for its
--- row.
+-- by how much two values differ from those of two tables at a point
+abbrev pub both_differences : (ℕ → ℕ → ℕ) → List ℕ → List ℕ → List ℕ → List ℕ → List ℕ
+both_differences times values one other point =
+    bit_xor (slice_index values 0) (multilinear_value times one point) ∷ bit_xor (slice_index values 1) (multilinear_value times other point) ∷ []
+
+-- What messages, values and a row show of the columns of two tables, whatever these are: the columns commit to two tables, and the sum is
+-- that of the products of both, or a round is saved, or the challenge that combines the tables is lucky for the values, the root of a line
+-- that is not 0; or else that challenge or a coordinate of the point is lucky for the columns of both, one above the other, or the places
+-- are for the row.
 abbrev pub ShowsSum : ℕ → (ℕ → ℕ → ℕ) → (ℕ → ℕ) → ℕ → ℕ → ℕ → (ℕ → List ℕ) → (ℕ → List ℕ) → ℕ → List (List ℕ) → List ℕ → List ℕ
-    → List ℕ → List ℕ → List ℕ → Type 0
-ShowsSum width times vector k r e left right sum messages first others left_row right_row places =
+    → List ℕ → List ℕ → List ℕ → List ℕ → Type 0
+ShowsSum width times vector k r e left right sum messages combining values first others row places =
     ((one other : List ℕ) × CommitsTo width times vector k r e (2 ^ length first) left one
     × CommitsTo width times vector k r e (2 ^ length first) right other
     × ((sum ≡ cube_sum times product_terms 2 (length (first ++ others)) (interleaved one other))
-    ⊎ ((j : ℕ) × IsSaved width times product_terms 2 sum (interleaved one other) (first ++ others) messages j)))
-    ⊎ HasLuckyCoordinate width times vector k r e left first
-    ⊎ HasLuckyCoordinate width times vector k r e right first
-    ⊎ AreLuckyPlaces width times vector k r e left first left_row places
-    ⊎ AreLuckyPlaces width times vector k r e right first right_row places
+    ⊎ ((j : ℕ) × IsSaved width times product_terms 2 sum (interleaved one other) (first ++ others) messages j)
+    ⊎ ((j : ℕ) × IsRootAt times (both_differences times values one other (first ++ others)) combining j)))
+    ⊎ HasLuckyCoordinate width times vector k r e (joint_column (2 ^ length first) left right) (combining ++ first)
+    ⊎ AreLuckyPlaces width times vector k r e (joint_column (2 ^ length first) left right) (combining ++ first) row places
 
--- Messages that leave the product of what two rows have at the other coordinates as the claim, and rows that agree with columns at places,
--- show the sum, for every prover.
+-- Messages that leave the product of two values as the claim, and a row that agrees with the columns of both tables at places and has what the
+-- values have at one challenge, show the sum, for every prover.
 abbrev pub SumsNeedLuck : Type 0
 SumsNeedLuck =
     (width : ℕ) (times : ℕ → ℕ → ℕ) (vector : ℕ → ℕ) → 2 ≤ width → IsField width times → AreCantorVectors width times vector
     → ((b : ℕ) → b < width → vector b < 2 ^ width)
-    → (k r e : ℕ) (left right : ℕ → List ℕ) (sum : ℕ) (messages : List (List ℕ)) (first others left_row right_row places : List ℕ)
-    → r + k ≤ width → 2 * e + 2 ^ k ≤ 2 ^ r * 2 ^ k → length others ≡ k
+    → (k r e : ℕ) (left right : ℕ → List ℕ) (sum : ℕ) (messages : List (List ℕ)) (combining values first others row places : List ℕ)
+    → r + k ≤ width → 2 * e + 2 ^ k ≤ 2 ^ r * 2 ^ k → length combining ≡ 1 → length others ≡ k
     → AreColumnsOf width (2 ^ r * 2 ^ k) left → AreColumnsOf width (2 ^ r * 2 ^ k) right
     → sum < 2 ^ width → AreMessages width 2 messages → length messages ≡ length (first ++ others)
-    → reduced_claim width times sum messages (first ++ others)
-    ≡ times (multilinear_value times left_row others) (multilinear_value times right_row others)
-    → AgreesAt width times vector k r first left_row places (λ i. left (slice_index places i))
-    → AgreesAt width times vector k r first right_row places (λ i. right (slice_index places i))
-    → ShowsSum width times vector k r e left right sum messages first others left_row right_row places
+    → ((i : ℕ) → slice_index values i < 2 ^ width)
+    → reduced_claim width times sum messages (first ++ others) ≡ times (slice_index values 0) (slice_index values 1)
+    → AgreesAt width times vector k r (combining ++ first) row places
+    (λ i. joint_column (2 ^ length first) left right (slice_index places i))
+    → multilinear_value times values combining ≡ multilinear_value times row others
+    → ShowsSum width times vector k r e left right sum messages combining values first others row places
 
 -- ---- of proofs
 
@@ -81,22 +88,22 @@ pub record AcceptedProof {C F : Type 0} (observes gives : C → F → C → Type
 abbrev pub sent_columns : {F : Type 0} → (F → ℕ) → ℕ → ℕ → ℕ → List F → List (List ℕ) → List ℕ → SentColumns
 sent_columns repr m n which elements nodes places = value_columns repr m n (columns_in m n which elements) (nodes_in which nodes) places
 
--- what its messages and rows show of the columns of both roots
+-- what its messages, values and row show of the columns of both roots
 abbrev pub ElementsShowSum : {F : Type 0} → (F → ℕ) → ℕ → (ℕ → ℕ → ℕ) → (ℕ → ℕ) → ℕ → ℕ → ℕ → (ℕ → List ℕ) → (ℕ → List ℕ) → List F
-    → List F → List ℕ → Type 0
-ElementsShowSum repr width times vector m n e one other elements point places =
+    → List F → List F → List ℕ → Type 0
+ElementsShowSum repr width times vector m n e one other elements point combining places =
     ShowsSum width times vector (row_levels m n) 2 e one other (sum_in repr elements)
-    (map (map repr) (messages_of 2 n (messages_in n elements))) (map repr (take (matrix_rows m n) point)) (map repr (drop (matrix_rows m n) point))
-    (map repr (row_in m n 0 elements)) (map repr (row_in m n 1 elements)) places
+    (map (map repr) (messages_of 2 n (messages_in n elements))) (map repr combining) (map repr (values_in n elements))
+    (map repr (take (matrix_rows m n) point)) (map repr (drop (matrix_rows m n) point)) (map repr (row_in m n elements)) places
 
 -- with these columns it is a run of the interactive protocol that a verifier accepts, with the challenges and the places as those that it
 -- draws: so of all that it may draw, as few make a proof of a false sum accepted as runs are (`FewCheatsSucceed`, SoundnessErrors.antt)
 abbrev pub ElementsAreRun : {F : Type 0} → (F → ℕ) → ℕ → (ℕ → ℕ → ℕ) → (ℕ → ℕ) → ℕ → ℕ → (ℕ → List ℕ) → (ℕ → List ℕ) → List F → List F
-    → List ℕ → Type 0
-ElementsAreRun repr width times vector m n one other elements point places =
+    → List F → List ℕ → Type 0
+ElementsAreRun repr width times vector m n one other elements point combining places =
     IsAcceptedRun width times vector m n one other (sum_in repr elements)
-    (sends_always (map (map repr) (messages_of 2 n (messages_in n elements))) (map repr (row_in m n 0 elements)) (map repr (row_in m n 1 elements)))
-    (map repr point) places
+    (sends_always (map (map repr) (messages_of 2 n (messages_in n elements))) (map repr (values_in n elements)) (map repr (row_in m n elements)))
+    (map repr point) (map repr combining) places
 
 -- there is a function of columns of elements, over so many places, that has those of the openings
 abbrev pub HaveColumns : ℕ → ℕ → ℕ → (ℕ → SentColumns) → Type 0
@@ -107,16 +114,16 @@ HaveColumns width size count sent = (column : ℕ → List ℕ) × AreColumnsOf 
 -- proofs, so that what is lucky is the same for all, and so are the tables to which they commit (`TableIsOne` of `protocols`). Or two proofs
 -- open other columns at one place, and have a collision of the hash function.
 abbrev pub RootsShowSums : {F : Type 0} → (F → ℕ) → (List ℕ → List ℕ) → ℕ → ℕ → (ℕ → ℕ → ℕ) → (ℕ → ℕ) → ℕ → ℕ → ℕ → List ℕ → List ℕ → ℕ
-    → (ℕ → List F) → (ℕ → List (List ℕ)) → (ℕ → List F) → (ℕ → List ℕ) → Type 0
-RootsShowSums repr hash size width times vector m n e left right count elements nodes point places =
+    → (ℕ → List F) → (ℕ → List (List ℕ)) → (ℕ → List F) → (ℕ → List F) → (ℕ → List ℕ) → Type 0
+RootsShowSums repr hash size width times vector m n e left right count elements nodes point combining places =
     (HaveColumns width (2 ^ 2 * 2 ^ row_levels m n) count (λ i. sent_columns repr m n 0 (elements i) (nodes i) (places i))
     × HaveColumns width (2 ^ 2 * 2 ^ row_levels m n) count (λ i. sent_columns repr m n 1 (elements i) (nodes i) (places i))
     × ((one other : ℕ → List ℕ) → AreColumnsOf width (2 ^ 2 * 2 ^ row_levels m n) one → AreColumnsOf width (2 ^ 2 * 2 ^ row_levels m n) other
     → HasSent count (λ i. sent_columns repr m n 0 (elements i) (nodes i) (places i)) one
     → HasSent count (λ i. sent_columns repr m n 1 (elements i) (nodes i) (places i)) other
     → (i : ℕ) → i < count
-    → ElementsShowSum repr width times vector m n e one other (elements i) (point i) (places i)
-    × ElementsAreRun repr width times vector m n one other (elements i) (point i) (places i)))
+    → ElementsShowSum repr width times vector m n e one other (elements i) (point i) (combining i) (places i)
+    × ElementsAreRun repr width times vector m n one other (elements i) (point i) (combining i) (places i)))
     ⊎ HaveOtherColumns hash size (word_levels m n) left count (λ i. sent_columns repr m n 0 (elements i) (nodes i) (places i))
     ⊎ HaveOtherColumns hash size (word_levels m n) right count (λ i. sent_columns repr m n 1 (elements i) (nodes i) (places i))
 
@@ -129,7 +136,7 @@ SumsAreProved observes gives passing checks gives_bits number repr size width ti
     → (count : ℕ)
     (proof : ℕ → AcceptedProof observes gives passing checks gives_bits number repr size width times vector hash digest m n left right)
     → RootsShowSums repr hash size width times vector m n e left right count (λ i. (proof i).elements) (λ i. (proof i).nodes)
-    (λ i. (proof i).verdict.point) (λ i. (proof i).verdict.places)
+    (λ i. (proof i).verdict.point) (λ i. (proof i).verdict.opened.challenges) (λ i. (proof i).verdict.opened.places)
 
 -- ---- of files
 
@@ -150,7 +157,7 @@ FilesShowSums {F} {H} digest repr =
     → (m n e : ℕ) (left right : List ℕ) → 2 * e + 2 ^ row_levels m n ≤ 2 ^ 2 * 2 ^ row_levels m n
     → (count : ℕ) (file : ℕ → AcceptedFile digest hasher repr m n left right)
     → RootsShowSums repr (digest hasher) 16 128 word_times word_vector m n e left right count (λ i. (file i).elements) (λ i. (file i).nodes)
-    (λ i. (file i).verdict.point) (λ i. (file i).verdict.places)
+    (λ i. (file i).verdict.point) (λ i. (file i).verdict.opened.challenges) (λ i. (file i).verdict.opened.places)
 
 -- .. of words
 abbrev pub WordFilesShowSums : {H : Type 0} → (H → List ℕ → List ℕ) → Type 0

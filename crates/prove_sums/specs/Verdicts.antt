@@ -1,7 +1,7 @@
 -- What is proved of two tables, and what a verifier says of a proof, over elements and bytes alone. Elements have numbers by `repr`, the sum is
 -- `bit_xor` and the product `times`. `hash` and `digest` are hash functions.
-use Rattle.std.specs.Prelude.{◌≡◌, ◌≢◌, ◌⊎◌, ◌↔◌, ℕ, zero, suc, ◌^◌, ◌<◌, Bool, true, false, List, [], ◌∷◌, ◌++◌, length, map, take, drop, Err, IsTrue, Ok, Result}
-use Rattle.std.specs.List.{range_with_len}
+use Rattle.std.specs.Prelude.{◌≡◌, ◌≢◌, ◌⊎◌, ◌↔◌, ℕ, ◌^◌, ◌<◌, Bool, true, false, List, [], ◌∷◌, ◌++◌, length, map, slice_index, Err, IsTrue, Ok, Result}
+use Rattle.std.specs.List.{flat_map}
 use Rattle.std.specs.declared.alloc.Global.{Global}
 use Rattle.std.specs.declared.option.Option.{Option}
 use Rattle.std.specs.declared.option.Option.TheVariants.{None, Some}
@@ -12,12 +12,12 @@ use Rattle.field_bytes.specs.Streams.{joined_bytes}
 use Rattle.transcript_elements.specs.Sampled.{SamplesBits, SamplesCoefficients, check_calls, passes}
 use Rattle.field_base.specs.Basis.{basis_image, ghash_images}
 use Rattle.field_base.specs.Remainder.{ghash_modulus, mul_mod}
-use Rattle.field_slices.specs.Multilinear.{multilinear_value}
 use Rattle.word_tables.specs.Cantor.{cantor_vector}
 use Rattle.sum_checks.specs.Sumcheck.{IsRunOf, messages_of}
 use Rattle.sum_checks.specs.SumcheckClaims.{reduced_claim}
-use Rattle.protocols.specs.CommitmentScheme.{ArePlacesDrawn, matrix_rows, row_levels, word_levels}
-use Rattle.protocols.specs.Tables.{AreColumnsAt, AreExtendedColumns, OpensColumns, OpensPlaces}
+use Rattle.protocols.specs.CommitmentScheme.{matrix_rows, row_levels, word_levels}
+use Rattle.protocols.specs.JointTables.{IsHonestOpeningOf, VerifiesTables, sent_tables}
+use Rattle.protocols.specs.Tables.{AreExtendedColumns}
 use Rattle.protocols.specs.ProductSums.{IsSummed, sum_statement}
 use Rattle.merkle_trees.specs.Commitments.{IsTreeOver, root_of, row_at}
 use Rattle.merkle_trees.specs.MerkleTrees.{rows_root}
@@ -28,7 +28,7 @@ use Rattle.prove_sums.specs.ProofFiles.{IsFileOf, IsNoFile, file_bytes, number_i
 use Rattle.prove_sums.specs.Tables.{IsTable}
 use Rattle.prove_sums.specs.declared.tables.Table.{Table}
 use Rattle.prove_sums.specs.declared.tables.TableField.{TableField}
-use Rattle.prove_sums.specs.Shapes.{columns_in, messages_in, nodes_in, row_in, row_size, rows_in, sum_in, witness_in}
+use Rattle.prove_sums.specs.Shapes.{messages_in, sent_in, sum_in, values_in}
 use Rattle.prove_sums.specs.declared.refusal.Refusal.{Refusal}
 use Rattle.prove_sums.specs.declared.refusal.Refusal.TheVariants.{NotAProof, OtherVersion, OtherField, Length, OtherParameters, TooFewBits, OtherLeft, OtherRight, NotProved}
 
@@ -43,43 +43,25 @@ pub record IsReducedClaim {C F : Type 0} (observes gives : C → F → C → Typ
 
 -- ---- the verdict
 
--- the claim is the product of both rows' values at the other coordinates of the point
-abbrev pub IsProductAt : {F : Type 0} → (F → ℕ) → (ℕ → ℕ → ℕ) → ℕ → ℕ → List F → List F → ℕ → Type 0
-IsProductAt repr times m n elements others claim =
-    claim ≡ times (multilinear_value times (map repr (row_in m n 0 elements)) (map repr others))
-    (multilinear_value times (map repr (row_in m n 1 elements)) (map repr others))
+-- the claim is the product of two values
+abbrev pub IsProductOf : {F : Type 0} → (F → ℕ) → (ℕ → ℕ → ℕ) → List F → ℕ → Type 0
+IsProductOf repr times values claim = claim ≡ times (slice_index (map repr values) 0) (slice_index (map repr values) 1)
 
--- the root of table 0 or 1
-abbrev pub root_in : ℕ → List ℕ → List ℕ → List ℕ
-root_in zero left right = left
-root_in (suc which) left right = right
-
--- the nodes open the columns of table 0 or 1 at these places under its root, and its row's code word agrees with them at the point
-abbrev pub OpensTable : {F : Type 0} → (List ℕ → List ℕ) → (F → ℕ) → ℕ → ℕ → (ℕ → ℕ → ℕ) → (ℕ → ℕ) → ℕ → ℕ → ℕ → List ℕ → List F
-    → List F → List ℕ → List (List ℕ) → Type 0
-OpensTable hash repr size width times vector m n which root point elements places nodes =
-    OpensColumns hash repr size width times vector (row_levels m n) 2 root point (row_in m n which elements) places (columns_in m n which elements)
-    (nodes_in which nodes)
-
--- The verdict on elements and nodes: true exactly if the witness works, the claim that the messages leave is the product of both rows' values,
--- and the rows agree with the columns that are opened under the roots.
+-- The verdict on elements and nodes: true exactly if one row opens both tables' values under the roots, at the point that the messages lead
+-- to, and the claim that they leave is the product of these values.
 pub record VerifiesSum {C F : Type 0} (observes gives : C → F → C → Type 0) (passing : C → ℕ → ℕ → Bool)
     (checks : C → ℕ → ℕ → C → Type 0) (gives_bits : C → ℕ → ℕ → C → Type 0) (number repr : F → ℕ) (hash : List ℕ → List ℕ)
     (size width : ℕ) (times : ℕ → ℕ → ℕ) (vector : ℕ → ℕ) (m n : ℕ) (left right : List ℕ) (elements : List F) (nodes : List (List ℕ))
     (old : C) (accepted : Bool) : Type 0 where
   pub point : List F
   pub claim : ℕ
-  pub works : Bool
-  pub places : List ℕ
+  pub opens : Bool
   pub between : C
   pub new : C
   pub reduced : IsReducedClaim observes gives repr width times n elements old point claim between
-  pub drawn : ArePlacesDrawn observes gives passing checks gives_bits m n (rows_in m n elements) (witness_in number n elements) between works places new
-  pub decided : IsTrue accepted
-      ↔ IsTrue works
-      × IsProductAt repr times m n elements (drop (matrix_rows m n) point) claim
-      × OpensTable hash repr size width times vector m n 0 left (take (matrix_rows m n) point) elements places nodes
-      × OpensTable hash repr size width times vector m n 1 right (take (matrix_rows m n) point) elements places nodes
+  pub opened : VerifiesTables observes gives passing checks gives_bits repr hash size width times vector m n (left ∷ right ∷ []) point
+      (sent_in number m n elements nodes) between opens new
+  pub decided : IsTrue accepted ↔ IsTrue opens × IsProductOf repr times (values_in n elements) claim
 
 -- ---- the prover
 
@@ -90,48 +72,37 @@ pub record HoldsTable {F A : Type 0} (repr : F → ℕ) (width : ℕ) (times : �
   pub extended : AreExtendedColumns repr width times vector (row_levels m n) 2 (2 ^ matrix_rows m n) (map repr elements) columns
   pub depth : tree.depth ≡ word_levels m n
 
--- the values of a table's columns at the first coordinates of a point
-abbrev pub values_at : {F : Type 0} → (F → ℕ) → (ℕ → ℕ → ℕ) → ℕ → ℕ → List F → List F → List ℕ
-values_at repr times m n columns point =
-    map (λ p. multilinear_value times (map repr (row_at (2 ^ length point) columns p)) (map repr point)) (range_with_len 0 (row_size m n))
-
--- what a prover sends beside nodes: a sum, messages, a witness of work, both tables' rows, and the columns of each that are opened
+-- what a prover sends beside nodes: a sum, messages, both tables' values, a witness of work, a row, and the columns of each that are opened
 pub record SentParts (F : Type 0) : Type 0 where
   pub sum : F
   pub messages : List F
+  pub values : List F
   pub witness : F
-  pub rows : List F
-  pub left : List F
-  pub right : List F
+  pub row : List F
+  pub columns : List (List F)
 
 -- .. as elements, one after the other
 abbrev pub sent_elements : {F : Type 0} → SentParts F → List F
-sent_elements parts = parts.sum ∷ parts.messages ++ (parts.witness ∷ parts.rows ++ (parts.left ++ parts.right))
+sent_elements parts =
+    parts.sum ∷ parts.messages ++ (parts.values ++ (parts.witness ∷ parts.row ++ flat_map (λ columns. columns) parts.columns))
 
--- What an honest prover sends of two tables: the sum of their products, its messages, a witness that works, the values of both tables' columns,
--- the columns of both at the places that are drawn after these, and nodes, first those that open these places of the left tree, then those
--- of the right one.
+-- What an honest prover sends of two tables: the sum of their products, its messages, and what opens both tables at the point to which these
+-- lead, with nodes, first those of the left tree, then those of the right one.
 pub record IsHonestProof {C F A : Type 0} (observes gives : C → F → C → Type 0) (passing : C → ℕ → ℕ → Bool)
-    (checks : C → ℕ → ℕ → C → Type 0) (gives_bits : C → ℕ → ℕ → C → Type 0) (number repr : F → ℕ) (width : ℕ) (times : ℕ → ℕ → ℕ)
-    (m n : ℕ) (left right left_columns right_columns : List F) (left_tree right_tree : MerkleTree A) (elements : List F) (nodes : List (List ℕ))
-    (old : C) : Type 0 where
+    (checks : C → ℕ → ℕ → C → Type 0) (gives_bits : C → ℕ → ℕ → C → Type 0) (number repr : F → ℕ) (size width : ℕ) (times : ℕ → ℕ → ℕ)
+    (vector : ℕ → ℕ) (m n : ℕ) (left right left_columns right_columns : List F) (left_tree right_tree : MerkleTree A) (elements : List F)
+    (nodes : List (List ℕ)) (old : C) : Type 0 where
   pub parts : SentParts F
   pub point : List F
-  pub places : List ℕ
+  pub openers : List (List (List ℕ))
   pub between : C
   pub new : C
   pub summed : IsSummed observes gives repr width times n left right old parts.sum parts.messages point between
-  pub rows_are : map repr parts.rows ≡ values_at repr times m n left_columns (take (matrix_rows m n) point)
-      ++ values_at repr times m n right_columns (take (matrix_rows m n) point)
-  pub drawn : ArePlacesDrawn observes gives passing checks gives_bits m n parts.rows (number parts.witness) between true places new
-  pub left_opened : AreColumnsAt (2 ^ matrix_rows m n) left_columns places parts.left
-  pub right_opened : AreColumnsAt (2 ^ matrix_rows m n) right_columns places parts.right
+  pub opened : IsHonestOpeningOf observes gives passing checks gives_bits repr size width times vector m n
+      ((left_columns, left_tree) ∷ (right_columns, right_tree) ∷ []) point
+      (sent_tables parts.values parts.row (number parts.witness) parts.columns openers) between new
   pub written : elements ≡ sent_elements parts
-  pub left_nodes : List (List ℕ)
-  pub right_nodes : List (List ℕ)
-  pub left_nodes_open : OpensPlaces left_tree places left_nodes
-  pub right_nodes_open : OpensPlaces right_tree places right_nodes
-  pub nodes_are : nodes ≡ left_nodes ++ right_nodes
+  pub nodes_are : nodes ≡ flat_map (λ opening. opening) openers
 
 -- ---- in the field of GHASH, and in a transcript over a hash function
 
@@ -176,8 +147,8 @@ abbrev pub IsHonestSum : {F H A : Type 0} → (H → List ℕ → List ℕ) → 
     → MerkleTree A → MerkleTree A → List F → List (List ℕ) → Type 0
 IsHonestSum digest hasher repr front m n left right left_columns right_columns left_tree right_tree elements nodes =
     IsHonestProof (λ old x new. observes_number digest old (repr x) new) (λ old x new. gives_number digest old (repr x) new)
-    (passes_number digest) (checks_number digest) (samples_bits digest) repr repr 128 word_times m n left right left_columns right_columns
-    left_tree right_tree elements nodes (hasher, front, [])
+    (passes_number digest) (checks_number digest) (samples_bits digest) repr repr 16 128 word_times word_vector m n left right left_columns
+    right_columns left_tree right_tree elements nodes (hasher, front, [])
 
 -- ---- tables
 

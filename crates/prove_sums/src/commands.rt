@@ -49,9 +49,10 @@ to n = 26 and 96 up to n = 34; a table that has more words is refused, and a pro
 A table is a matrix of 2^h rows, h = (n - m) / 2, or 0 where n is below m, 2^m the places that are opened. Each row of 2^k words,
 k = n - h, is extended to a code word of four times its length, and the root is that of the Merkle tree over SHA-256 whose leaves are
 the columns. A proof is 8 bytes that name the format and the field F, one byte for m and one for n, both roots, the sum, the 2 n numbers
-of the sum-check protocol, a witness of 16 bits of work, a row of 2^k numbers for each table, which has the values of its columns at the
-first h challenges, the columns at 2^m places for each table, or at all places where there are fewer, and the nodes that open them, as
-many for either. Numbers have 16 bytes and nodes 32. The transcript begins with the bytes before the sum.
+of the sum-check protocol, the values of both tables at its n challenges, a witness of 16 bits of work, a row of 2^k numbers, which has
+the values at the first h challenges of the columns of the one table to which a further challenge combines both, the columns at 2^m
+places for each table, or at all places where there are fewer, and the nodes that open them, as many for either. Numbers have 16 bytes
+and nodes 32. The transcript begins with the bytes before the sum.
 
 A proof is about the nearest tables: where a few columns below a root are not those of its table, a proof may be accepted that is one of
 the table to which the others belong. b bits of soundness: where a verifier draws challenges and places at random, it accepts a sum that

@@ -11,7 +11,7 @@ const FIELD: TableField = TableField::Ghash;
 
 // What the example changes, and at which byte of the proof.
 // The change turns the lowest bits of that byte.
-static CHANGES: [(&str, usize, u8); 14] = [
+static CHANGES: [(&str, usize, u8); 15] = [
     ("with another first byte", 0, 1),
     ("of another version", 4, 1),
     ("over another field", 6, 1),
@@ -21,11 +21,12 @@ static CHANGES: [(&str, usize, u8); 14] = [
     ("for another right table", 42, 1),
     ("with another sum", 74, 1),
     ("with another first message", 90, 1),
-    ("with another witness", 186, 1),
-    ("with another left row", 202, 1),
-    ("with another right row", 330, 1),
-    ("with another left column", 458, 1),
-    ("with another right column", 970, 1),
+    ("with another left value", 186, 1),
+    ("with another right value", 202, 1),
+    ("with another witness", 218, 1),
+    ("with another row", 234, 1),
+    ("with another left column", 362, 1),
+    ("with another right column", 874, 1),
 ];
 
 // Prints the verifier's answer on a proof for the tables with these roots.

@@ -6,19 +6,20 @@ ghost use Rattle.prove_sums.specs.SoundnessErrors.{ErrorsAreSmall, FewCheatsSucc
 use field_element::Ghash128;
 use protocols::extension::parts_determine;
 use protocols::laws::{
-    false_claims_need_luck, honest_reduces, opened_values_need_luck, roots_hold_columns,
+    false_claims_need_luck, honest_reduces, lines_have_one_root, opened_tables_need_luck,
+    roots_hold_columns,
 };
 use protocols::openings::openings_have_one_count;
 use transcript_elements::{ByteLevel, FieldChallenger};
 use transcripts::{ByteHasher32, CanSampleUniformBits, GrindingChallenger};
 
-/// States what messages and rows show of columns, whatever these are: the columns commit to two tables whose products have the sum, or a
-/// round is saved, or a coordinate of the point is one of few, or the places are.
+/// States what messages, values and a row show of columns, whatever these are: the columns commit to two tables whose products have the
+/// sum, or a round is saved, or the challenge that combines the tables is one of few, or a coordinate of the point is, or the places are.
 pub fn sums_need_luck()
     ensures { SumsNeedLuck }
 {
     false_claims_need_luck();
-    opened_values_need_luck();
+    opened_tables_need_luck();
 }
 
 // States that the fields of proofs have points for code words.
@@ -77,16 +78,20 @@ pub fn written_proofs_are_accepted<H: ByteHasher32>()
 }
 
 /// States the soundness error of the interactive protocol over every field, as a count: of all lists of challenges and places, at most the
-/// share max(2 n, h lucky) / F + (1 - (e + 1) / N)^q accepts a prover that cheats, whatever its columns, messages and rows are.
+/// share max(2 n + 1, (h + 1) lucky) / F + (1 - (e + 1) / N)^q accepts a prover that cheats, whatever its columns, messages, values and rows
+/// are.
 pub fn few_cheats_succeed()
     ensures { FewCheatsSucceed }
-{}
+{
+    lines_have_one_root();
+}
 
 /// States it in numbers over the field of GHASH: of all runs for two tables of 2^n words, of which q places are opened, 2^7 or 2^8, at most
-/// the share max(2 n, 34 N h) / 2^128 + (163 / 256)^q accepts a sum that is false, by N places and 2^h rows, and max(2 n, 34 N h) / 2^128
-/// where all places are opened.
+/// the share max(2 n + 1, 34 N (h + 1)) / 2^128 + (163 / 256)^q accepts a sum that is false, by N places and 2^h rows, and
+/// (2 n + 1) / 2^128 where all places are opened.
 pub fn errors_are_small()
     ensures { ErrorsAreSmall }
 {
     field_has_points::<Ghash128>();
+    lines_have_one_root();
 }

@@ -38,7 +38,7 @@ pub struct Proof<'a, F: Field> {
     pub shape: Shape,
     /// The roots of the tables.
     pub roots: Roots,
-    /// The sum, the messages, the witness, the rows and the columns.
+    /// The sum, the messages, both tables' values, the witness, the row and the columns.
     pub elements: Vec<F>,
     /// The nodes that open the columns.
     pub nodes: &'a [[u8; 32]],
@@ -127,7 +127,7 @@ pub fn decode(
 fn head_of(field: TableField) -> [u8; 8]
     ensures { result ≡ head field }
 {
-    let mut head = *b"sum 3 G\n";
+    let mut head = *b"sum 4 G\n";
     head[6] = field.letter();
     head
 }
@@ -194,7 +194,7 @@ fn cut(bytes: &[u8]) -> Result<Parts<'_>, Refusal>
 fn other_head(head: &[u8]) -> Refusal
     ensures { IsReadRefusal result }
 {
-    if head.starts_with(b"sum 3 ") {
+    if head.starts_with(b"sum 4 ") {
         Refusal::OtherField
     } else if head.starts_with(b"sum ") {
         Refusal::OtherVersion

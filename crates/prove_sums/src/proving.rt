@@ -1,18 +1,17 @@
 // The prover of a sum of products of two tables, both committed to.
-ghost use Rattle.std.specs.Prelude.{◌≡◌, ◌*◌, ◌^◌, ◌≤◌, ◌++◌, ℕ, List, length, map, vec_len, IfOk, OnOk};
+ghost use Rattle.std.specs.Prelude.{◌≡◌, ◌^◌, ◌≤◌, map, vec_len, IfOk};
+ghost use Rattle.std.specs.List.{flat_map};
 ghost use Rattle.transcripts.specs.Grinding.{MayGrind};
 ghost use Rattle.field_bytes.specs.Streams.{joined_bytes};
-ghost use Rattle.merkle_trees.specs.{Commitments.{IsTreeOver, row_at}, Openings.{AreAscending}};
-ghost use Rattle.protocols.specs.Tables.{AreColumnsAt, OpensPlaces};
-ghost use Rattle.protocols.specs.CommitmentScheme.{matrix_rows, word_levels};
-ghost use Rattle.prove_sums.specs.Shapes.{row_size};
-ghost use Rattle.prove_sums.specs.Verdicts.{HoldsTable, IsHonestProof, values_at};
+ghost use Rattle.merkle_trees.specs.Commitments.{IsTreeOver, row_at};
+ghost use Rattle.protocols.specs.CommitmentScheme.{matrix_rows};
+ghost use Rattle.prove_sums.specs.Verdicts.{HoldsTable, IsHonestProof};
 
 use crate::shapes::Shape;
 use field_base::traits::Field;
-use protocols::commitment_scheme::grind_places;
+use protocols::joint_tables::open_tables;
 use protocols::product_sums::prove_sum;
-use protocols::tables::{TableColumns, column_values, open_columns};
+use protocols::tables::TableColumns;
 use protocols::{ProtocolError, commitment_scheme};
 use std::alloc::{AllocError, Global};
 use transcript_elements::{ByteLevel, FieldChallenger};
@@ -30,7 +29,7 @@ pub struct Committed<F: Field> {
 /// What a prover sends.
 #[derive(Drop)]
 pub struct Sent<F: Field> {
-    /// The sum, the messages, the witness, both rows, and the columns that are opened of both tables.
+    /// The sum, the messages, both tables' values, the witness, the row, and the columns that are opened of both tables.
     pub elements: Vec<F>,
     /// The nodes that open them.
     pub nodes: Vec<[u8; 32]>,
@@ -73,85 +72,35 @@ pub fn prove<
         left.now.elements.items left.now.held.columns.items left.now.held.tree }
     requires right { HoldsTable F.repr F.width F.product (λ i. F.basis (F.cantor i)) shape.now.queries shape.now.rounds
         right.now.elements.items right.now.held.columns.items right.now.held.tree }
-    ensures { IfOk result (λ sent. IsHonestProof C.observes C.gives C.passing C.checks C.gives_bits C.number F.repr F.width F.product
-        shape.now.queries shape.now.rounds left.now.elements.items right.now.elements.items left.now.held.columns.items
-        right.now.held.columns.items left.now.held.tree right.now.held.tree sent.elements.items sent.nodes.items challenger.old) }
+    ensures { IfOk result (λ sent. IsHonestProof C.observes C.gives C.passing C.checks C.gives_bits C.number F.repr F.NUM_BYTES F.width
+        F.product (λ i. F.basis (F.cantor i)) shape.now.queries shape.now.rounds left.now.elements.items right.now.elements.items
+        left.now.held.columns.items right.now.held.columns.items left.now.held.tree right.now.held.tree sent.elements.items
+        sent.nodes.items challenger.old) }
 {
     let (one, other) = (left.elements.as_slice(), right.elements.as_slice());
     let summed = prove_sum(alloc, challenger, one, other, shape.rounds)?;
-    let (point, _others) = summed.point.as_slice().split_at(shape.rows);
-    let rows = rows_of(alloc, shape, left, right, point)?;
-    let rows = rows.as_slice();
-    let sizes = shape.sizes();
-    let (witness, places) = grind_places(alloc, challenger, &sizes, rows)?;
+    let (sizes, point) = (shape.sizes(), summed.point.as_slice());
+    let tables = [&left.held, &right.held];
+    let opened = open_tables(alloc, challenger, &sizes, &tables, point)?;
     let mut elements = Vec::new(alloc);
     elements.push(summed.sum)?;
     elements.extend_from_slice(summed.messages.as_slice())?;
-    elements.push(witness)?;
-    elements.extend_from_slice(rows)?;
-    let mut nodes = Vec::new(alloc);
-    open(
-        alloc,
-        shape,
-        left,
-        places.as_slice(),
-        &mut elements,
-        &mut nodes,
-    )?;
-    open(
-        alloc,
-        shape,
-        right,
-        places.as_slice(),
-        &mut elements,
-        &mut nodes,
-    )?;
+    elements.extend_from_slice(opened.values.as_slice())?;
+    elements.push(opened.witness)?;
+    elements.extend_from_slice(opened.row.as_slice())?;
+    let columns = joined(alloc, opened.columns.as_slice())?;
+    elements.extend_from_slice(columns.as_slice())?;
+    let nodes = joined(alloc, opened.nodes.as_slice())?;
     Ok(Sent { elements, nodes })
 }
 
-// The values of both tables' columns at a point, one row after the other.
-fn rows_of<F: Field>(
-    alloc: Global,
-    shape: &Shape,
-    left: &Committed<F>,
-    right: &Committed<F>,
-    point: &[F],
-) -> Result<Vec<F>, AllocError>
-    requires coordinates { length point.now ≡ matrix_rows shape.now.queries shape.now.rounds }
-    requires left { row_size shape.now.queries shape.now.rounds * 2 ^ matrix_rows shape.now.queries shape.now.rounds ≤ length
-        left.now.held.columns.items }
-    requires right { row_size shape.now.queries shape.now.rounds * 2 ^ matrix_rows shape.now.queries shape.now.rounds ≤ length
-        right.now.held.columns.items }
-    ensures { IfOk result (λ rows. map F.repr rows.items ≡ values_at F.repr F.product shape.now.queries shape.now.rounds
-        left.now.held.columns.items point.now ++ values_at F.repr F.product shape.now.queries shape.now.rounds
-        right.now.held.columns.items point.now) }
+// The elements of lists, one list after the other.
+fn joined<T: Copy>(alloc: Global, lists: &[Vec<T>]) -> Result<Vec<T>, AllocError>
+    ensures { IfOk result (λ all. all.items ≡ flat_map (λ list. list) (map (λ list. list.items) lists.now)) }
 {
-    let size = shape.row_size();
-    let mut rows = column_values(alloc, left.held.columns.as_slice(), size, point)?;
-    let second = column_values(alloc, right.held.columns.as_slice(), size, point)?;
-    rows.extend_from_slice(second.as_slice())?;
-    Ok(rows)
-}
-
-// Appends the columns of a table at these places, and the nodes that open them.
-fn open<F: ByteLevel>(
-    alloc: Global,
-    shape: &Shape,
-    table: &Committed<F>,
-    places: &[usize],
-    elements: &mut Vec<F>,
-    nodes: &mut Vec<[u8; 32]>,
-) -> Result<(), AllocError>
-    requires holds { HoldsTable F.repr F.width F.product (λ i. F.basis (F.cantor i)) shape.now.queries shape.now.rounds
-        table.now.elements.items table.now.held.columns.items table.now.held.tree }
-    requires places { AreAscending (2 ^ word_levels shape.now.queries shape.now.rounds) places.now }
-    ensures { OnOk result ((columns : List F) × (elements.new.items ≡ elements.old.items ++ columns)
-        × AreColumnsAt (2 ^ matrix_rows shape.now.queries shape.now.rounds) table.now.held.columns.items places.now columns
-        × (opening : List (List ℕ)) × (nodes.new.items ≡ nodes.old.items ++ opening)
-        × OpensPlaces table.now.held.tree places.now opening) }
-{
-    let opened = open_columns(alloc, &table.held, shape.rows, places)?;
-    elements.extend_from_slice(opened.columns.as_slice())?;
-    nodes.extend_from_slice(opened.nodes.as_slice())?;
-    Ok(())
+    let mut all = Vec::new(alloc);
+    'lists: for index in 0..lists.len() {
+        all.extend_from_slice(lists[index].as_slice())?;
+    }
+    Ok(all)
 }

@@ -21,7 +21,7 @@ pub enum Refusal {
     OtherLeft,
     /// The proof is for another table on the right.
     OtherRight,
-    /// The messages do not lead from the sum to the rows, or the columns that are opened do not agree with them.
+    /// The messages do not lead from the sum to the product of the values, or the row and the columns do not open these.
     NotProved,
 }
 

@@ -7,7 +7,7 @@ use crate::laws::errors_are_small;
 
 /// The bits of soundness of a proof for two tables of 2^rounds words, rounds from 0 to 39, of which 2^queries places are opened, queries 7
 /// or 8, or all where there are fewer: the largest b by which at most one of 2^b runs accepts a sum that is false, of all that a verifier
-/// may draw, by the bound of `errors_are_small`; 128 where that bound is 0. The work comes on top.
+/// may draw, by the bound of `errors_are_small`. The work comes on top.
 pub(crate) fn soundness_bits(queries: usize, rounds: usize) -> usize
     requires some_queries { 7 ≤ queries }
     requires few_queries { queries ≤ 8 }
@@ -33,7 +33,7 @@ pub(crate) fn most_bits(queries: usize, rounds: usize) -> usize
     }
 }
 
-// Those with 2^7 places. Up to 2^5 words all columns are opened, and 2 n of 2^128 challenges are lucky. From there on
+// Those with 2^7 places. Up to 2^5 words all columns are opened, and 2 n + 1 of 2^128 challenges are lucky. From there on
 // (163 / 256)^128 < 2^-83 of all lists of places are, beside which challenges do not count.
 fn bits_of_128(rounds: usize) -> usize
     requires { rounds ≤ 39 }
@@ -41,45 +41,46 @@ fn bits_of_128(rounds: usize) -> usize
 {
     match rounds {
         0 => 128,
-        1 => 127,
-        2 => 126,
-        3 | 4 => 125,
-        5 => 124,
+        1 => 126,
+        2 | 3 => 125,
+        4 | 5 => 124,
         _ => 83,
     }
 }
 
-// Those with 2^8 places, of whose lists (163 / 256)^256 < 2^-166 are lucky, which does not count beside challenges: up to 2^9 words, of
-// which there is one row, 2 n of 2^128 are, and from there on 34 for each place and each coordinate that combines rows.
+// Those with 2^8 places. Up to 2^6 words all columns are opened, and 2 n + 1 of 2^128 challenges are lucky. From there on 34 for each place
+// are, of the challenge that combines the tables and of each coordinate that combines rows, beside which the lists of places, of which
+// (163 / 256)^256 < 2^-166 are lucky, do not count.
 fn bits_of_256(rounds: usize) -> usize
     requires { rounds ≤ 39 }
     ensures { AreMostBits 8 rounds result }
 {
     match rounds {
         0 => 128,
-        1 => 127,
-        2 => 126,
-        3 | 4 => 125,
-        5 | 6 | 7 => 124,
-        8 | 9 => 123,
-        10 => 111,
-        11 => 110,
-        12 => 109,
-        13 | 14 => 108,
-        15 => 107,
-        16 => 106,
+        1 => 126,
+        2 | 3 => 125,
+        4 | 5 | 6 => 124,
+        7 => 113,
+        8 => 112,
+        9 => 111,
+        10 => 110,
+        11 | 12 => 109,
+        13 => 108,
+        14 => 107,
+        15 | 16 => 106,
         17 | 18 => 105,
         19 | 20 => 104,
-        21 | 22 => 103,
-        23 => 102,
-        24 => 101,
+        21 => 103,
+        22 => 102,
+        23 | 24 => 101,
         25 | 26 => 100,
         27 | 28 => 99,
         29 | 30 => 98,
         31 | 32 => 97,
         33 | 34 => 96,
         35 | 36 => 95,
-        37 | 38 => 94,
-        _ => 93,
+        37 => 94,
+        38 => 93,
+        _ => 92,
     }
 }

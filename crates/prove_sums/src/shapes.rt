@@ -110,7 +110,7 @@ impl Shape {
         ensures count { result ≡ element_count self.now.queries self.now.rounds }
         ensures few { result ≤ 2 ^ 27 }
     {
-        2 * self.rounds + 2 + 2 * self.row_size() + 2 * self.columns_size()
+        2 * self.rounds + 4 + self.row_size() + 2 * self.columns_size()
     }
 }
 

@@ -6,7 +6,8 @@ use Rattle.prove_sums.specs.Reports.{sum_line}
 use Rattle.prove_sums.specs.Shapes.{sum_in}
 use Rattle.prove_sums.specs.Verdicts.{HoldsTable, IsTableRoot, IsTableTree, word_times, word_vector}
 use Rattle.prove_sums.specs.Tables.{IsTable}
-use Rattle.prove_sums.proofs.Completeness.{honest-file, honest-halves}
+use Rattle.prove_sums.proofs.CommittedRoots.{table-held}
+use Rattle.prove_sums.proofs.Completeness.{honest-file}
 use Rattle.prove_sums.proofs.Files.{AreNodes}
 use Rattle.prove_sums.proofs.SizeBits.{sizes-moved}
 use Rattle.prove_sums.proofs.SumSteps.{number-at}
@@ -44,8 +45,10 @@ returns g c =
     let right_tree =
     sizes-moved (λ (u v : ℕ). IsTableTree hash repr_of u v second.held.columns.items right_root second.held.tree) c.args.bits same right.sized left.sized
     right.tree in
-    let halves =
-    honest-halves honest c.openings_have_one_count.ensures hash _ _ left.tree.over right_tree.over (left.tree.depth ∙ sym right_tree.depth) in
+    let right_table = subst (λ (v : ℕ). IsTable c.args.field repr_of c.args.right.now v second.elements.items) same right.table in
+    let right_commits =
+    sizes-moved (λ (u v : ℕ). IsTableRoot hash repr_of u v second.elements.items second.held.columns.items right_root) c.args.bits same right.sized
+    left.sized right.root in
     let left_size : length c.in_ok-shape.left_root ≡ 32 = search rules in
     let right_size : length right_root ≡ 32 = search rules in
     let sized = subst (λ (l : List (List ℕ)). AreNodes l) c.as_slice-nodes.ensures.value c.in_ok-bytes.ensures.sized in
@@ -66,17 +69,16 @@ returns g c =
         nodes = sent.nodes.items;
         sized = left.sized;
         left_table = left.table;
-        right_table = subst (λ (v : ℕ). IsTable c.args.field repr_of c.args.right.now v second.elements.items) same right.table;
+        right_table = right_table;
         left_root = left.root;
-        right_root =
-            sizes-moved (λ (u v : ℕ). IsTableRoot hash repr_of u v second.elements.items second.held.columns.items right_root) c.args.bits same
-            right.sized left.sized right.root;
+        right_root = right_commits;
         left_tree = left.tree;
         right_tree = right_tree;
         file = record {
           may_be =
-              honest-file honest c.in_ok-shape.left_root right_root c.in_ok-shape.shape.some_queries c.in_ok-shape.shape.few_queries
-              c.in_ok-shape.shape.few left_size right_size sized halves;
+              honest-file c.openings_have_one_count.ensures hash (table-held left.table left.root left.tree)
+              (table-held right_table right_commits right_tree) honest c.in_ok-shape.left_root right_root c.in_ok-shape.shape.some_queries
+              c.in_ok-shape.shape.few_queries c.in_ok-shape.shape.few left_size right_size sized;
           written =
               c.in_ok-bytes.ensures.bytes
               ∙ ap₂ (λ (l : List _) (ns : List (List ℕ)). file_bytes c.args.field m n c.in_ok-shape.left_root right_root (joined_bytes 16 repr_of l) ns)

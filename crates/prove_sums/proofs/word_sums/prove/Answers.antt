@@ -2,7 +2,7 @@ use Rattle.std.proofs.Common.{[], refl}
 use Rattle.field_element.specs.Element.{repr_of}
 use Rattle.transcript_elements.specs.Challengers.{state_of}
 use Rattle.prove_sums.specs.ProofFiles.{file_bytes}
-use Rattle.prove_sums.specs.Verdicts.{word_times}
+use Rattle.prove_sums.specs.Verdicts.{word_times, word_vector}
 use Rattle.prove_sums.proofs.StateRuns.{honest-on_states}
 use Rattle.prove_sums.proofs.word_sums.prove.Goals as goal
 
@@ -14,7 +14,7 @@ returns g c =
     let right = c.args.right.now in
     let sent = c.in_ok-sent.sent in
     honest-on_states state_of _ _ _ _ (λ old x new is. is) (λ old x new is. (x.in_range, is)) _ _ _ _ _ _ (λ old bits witness. refl)
-    (λ old bits witness new is. is) (λ old bits number new is. is) repr_of repr_of shape.queries shape.rounds sent.elements.items 128 word_times
+    (λ old bits witness new is. is) (λ old bits number new is. is) repr_of repr_of shape.queries shape.rounds sent.elements.items 16 128 word_times word_vector
     left.elements.items right.elements.items left.held.columns.items right.held.columns.items left.held.tree right.held.tree sent.nodes.items
     c.in_ok-challenger.challenger (c.args.hasher.now, file_bytes roots.field shape.queries shape.rounds roots.left roots.right [] [], [])
     c.in_ok-challenger.ensures.state c.in_ok-sent.ensures

@@ -19,7 +19,7 @@ returns-then-bits-most_bits-2-clause-reached c =
     let eight = c.new-then-bits-most_bits-2.ensures.queries in (
       subst (λ (q : ℕ). HaveSoundBits q n c.args.bits) (sym eight)
           (bits-reached 8 n c.args.bits c.most_bits-2.result c.if-bits-most_bits-2.true c.most_bits-2.ensures),
-      inr (eight, bits-missed 7 n c.args.bits c.most_bits.result above c.requires.few_bits c.most_bits.ensures),
+      inr (eight, bits-missed 7 n c.args.bits c.most_bits.result above c.most_bits.ensures),
     )
 
 pub returns-clause-refused : goal.returns-clause-refused
@@ -27,6 +27,6 @@ returns-clause-refused c =
     let n = c.args.rounds in
     let above : c.most_bits.result < c.args.bits = omega (arith, c.if-bits-most_bits.false) in
     let over : c.most_bits-2.result < c.args.bits = omega (arith, c.if-bits-most_bits-2.false) in (
-      bits-missed 7 n c.args.bits c.most_bits.result above c.requires.few_bits c.most_bits.ensures,
-      bits-missed 8 n c.args.bits c.most_bits-2.result over c.requires.few_bits c.most_bits-2.ensures,
+      bits-missed 7 n c.args.bits c.most_bits.result above c.most_bits.ensures,
+      bits-missed 8 n c.args.bits c.most_bits-2.result over c.most_bits-2.ensures,
     )
