@@ -657,6 +657,8 @@ def empty_cases():
             status = "BF_CODE" if name.startswith(refusing) else "BF_REDUCIBLE" if reducible else "BF_LENGTH"
             if name.startswith("secret_combine") and counts[0]:
                 status = "BF_TOO_FEW_SHARDS"
+            if name.startswith("field_next_"):
+                status = "BF_UNSOLVABLE"
             if own in EMPTY and EMPTY[own](*counts) and not reducible:
                 status = "BF_OK"
             left = iter(counts)
