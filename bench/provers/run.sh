@@ -3,13 +3,11 @@
 #
 # The program stands here as text, in src/ and proofs/, and not among the crates: it is for timing alone, and the gate has nothing to gain
 # from it. It is proved, built and run in a copy of the crates, beside the program prove_sums: COPY names a folder outside of any
-# repository that is kept, so that a later run proves only what changed. UNDER is what each is run under, as `chrt -f 5`. SIZES are the words of the
-# tables of prove_sums.
+# repository that is kept, so that a later run proves only what changed. UNDER is what each is run under, as `chrt -f 5`.
 set -eu
 here=$(cd "$(dirname "$0")" && pwd)
 . "$here/../common.sh"
 rounds=${1:-5}
-sizes=${SIZES:-"4096 65536"}
 work=$(mktemp -d)
 trap 'rm -rf "$work"' EXIT
 copy=${COPY:-$work/copy}
@@ -29,15 +27,6 @@ told() {
     echo "prove_sums $call $((($(date +%s%N) - before) * 1000))"
 }
 
-# peak CALL COMMAND ..: the most memory that a command had at once, in bytes.
-peak() {
-    call=$1
-    shift
-    python3 -c 'import resource, subprocess, sys
-subprocess.run(sys.argv[2:], check=True, stdout=subprocess.DEVNULL)
-print("prove_sums", sys.argv[1], 1024000 * resource.getrusage(resource.RUSAGE_CHILDREN).ru_maxrss)' "$call" "$@"
-}
-
 # time_files WORDS: one round of the program prove_sums over two tables of so many words of 16 bytes, which repeat short texts.
 time_files() {
     yes "the table on the left" | head -c "$((16 * $1))" > "$work/left"
@@ -47,14 +36,6 @@ time_files() {
     right=$("$program" commit --bits 80 "$work/right")
     told "prove_$1" "$program" prove --bits 80 "$work/left" "$work/right" "$work/proof"
     told "verify_$1" "$program" verify --bits 80 "$work/proof" "$left" "$right"
-    echo "prove_sums proof_bytes_$1 $((1000 * $(wc -c < "$work/proof")))"
-}
-
-# weigh_files WORDS: the memory of each command over the tables of the last round.
-weigh_files() {
-    peak "commit_memory_$1" "$program" commit --bits 80 "$work/left"
-    peak "prove_memory_$1" "$program" prove --bits 80 "$work/left" "$work/right" "$work/proof"
-    peak "verify_memory_$1" "$program" verify --bits 80 "$work/proof" "$left" "$right"
 }
 
 print_machine ""
@@ -68,12 +49,9 @@ in_copy run
     round=0
     while [ "$round" -lt "$rounds" ]; do
         told start "$program" --version
-        for words in $sizes; do time_files "$words"; done
+        time_files 4096
+        time_files 65536
         round=$((round + 1))
-    done
-    for words in $sizes; do
-        time_files "$words"
-        weigh_files "$words"
     done
 } | awk '
     { key = $1 " " $2; if (!(key in least) || $3 < least[key]) least[key] = $3; if (!(key in order)) { order[key] = ++n; keys[n] = key } }
