@@ -12,10 +12,11 @@ use Rattle.additive_transforms.specs.Units.{AreUnwoven}
 unfoldable pub lane_twiddle : ℕ → ℕ → ℕ
 lane_twiddle bits l = sum_below (λ b. bit_at l b * cantor_vector (suc b)) bits
 
--- the lower and the upper result of the butterfly in each lane, where the scalar of lane l is t l
+-- the lower result of the butterfly in each lane, where the scalar of lane l is t l
 abbrev pub lower_lane : (ℕ → ℕ → ℕ) → (ℕ → ℕ) → (ℕ → ℕ) → (ℕ → ℕ) → ℕ → ℕ
 lower_lane times t low high l = add_multiple times (t l) (low l) (high l)
 
+-- and the upper one
 abbrev pub upper_lane : (ℕ → ℕ → ℕ) → (ℕ → ℕ) → (ℕ → ℕ) → (ℕ → ℕ) → ℕ → ℕ
 upper_lane times t low high l = bit_xor (high l) (lower_lane times t low high l)
 

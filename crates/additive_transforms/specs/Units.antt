@@ -27,11 +27,12 @@ pub record ArePut (d size start n : ℕ) (units : ℕ → ℕ) (old new : List �
   pub fit : (k : ℕ) → start ≤ k → k * 2 ^ size < start * 2 ^ size + n * 2 ^ d → slice_index new k < 256 ^ 2 ^ size
   pub kept : (k : ℕ) → (k < start) ⊎ (start * 2 ^ size + n * 2 ^ d ≤ k * 2 ^ size) → slice_index new k ≡ slice_index old k
 
--- n of one sequence, and then those of another
+-- n of one sequence, and then those of another: at a place before the n, or behind
 abbrev pub joint_at : (n : ℕ) (x y : ℕ → ℕ) (p : ℕ) → (p < n) ⊎ (n ≤ p) → ℕ
 joint_at n x y p (inl before) = x p
 joint_at n x y p (inr past) = y (p - n)
 
+-- and at any place
 abbrev pub joint : ℕ → (ℕ → ℕ) → (ℕ → ℕ) → ℕ → ℕ
 joint n x y p = joint_at n x y p (cases_lt p n)
 
