@@ -1,7 +1,7 @@
 -- Openings of tables at several points: what an honest prover leaves, what accepted ones show, and two verdicts on one.
-use Rattle.std.proofs.Common.{◌≡◌, ◌≢◌, ◌⊎◌, inl, inr, ℕ, ◌+◌, ◌-◌, ◌*◌, ◌/◌, ◌%◌, ◌^◌, ◌<◌, ◌≤◌, Bool, true, List, [], ◌∷◌, ◌++◌, length, map, take, drop, get_or, refl}
+use Rattle.std.proofs.Common.{◌≡◌, ◌⊎◌, inl, inr, ℕ, ◌+◌, ◌-◌, ◌*◌, ◌/◌, ◌%◌, ◌^◌, ◌<◌, ◌≤◌, Bool, true, List, [], ◌++◌, length, map, take, drop, get_or, refl}
 use Rattle.std.proofs.Common.{sym, ◌∙◌, ap, ap₂, subst, arith}
-use Rattle.std.specs.Prelude.{◌↔◌, IsTrue, bit_xor, slice_index}
+use Rattle.std.specs.Prelude.{IsTrue, slice_index}
 use Rattle.std.specs.List.{AllZip, range_with_len}
 use Rattle.std.proofs.Math.Nat.{mul_comm}
 use Rattle.std.proofs.lemmas.Bool.Decides.{eqb_tells}
@@ -9,7 +9,6 @@ use Rattle.std.proofs.lemmas.Grind.{same_number_lists}
 use Rattle.std.proofs.lemmas.List.{get_or-map, length-map, map-append, take-append-drop}
 use Rattle.std.proofs.lemmas.List.FromFn.{length-map-range_with_len}
 use Rattle.std.proofs.lemmas.Nat.{div-mul-add, mod-mul-add, mul-add-lt}
-use Rattle.std.proofs.lemmas.Slice.Zip.{AllZip-long}
 use Rattle.field_base.specs.Field.{IsField}
 use Rattle.field_base.proofs.Places.{numbers-lt}
 use Rattle.field_slices.specs.Multilinear.{eq_corner, multilinear_value}
@@ -19,9 +18,9 @@ use Rattle.transcripts.specs.States.{GivesByState, LeadsByState}
 use Rattle.merkle_trees.specs.Commitments.{root_of, row_at}
 use Rattle.merkle_trees.specs.declared.merkle_tree.MerkleTree.{MerkleTree}
 use Rattle.sum_checks.specs.Sumcheck.{IsRunOf, messages_of}
-use Rattle.sum_checks.specs.SumcheckClaims.{AreHonestMessages, AreMessages, FalseClaimsNeedLuck, HonestReduces, IsSaved, reduced_claim}
+use Rattle.sum_checks.specs.SumcheckClaims.{AreHonestMessages, AreMessages, FalseClaimsNeedLuck, HonestReduces, reduced_claim}
 use Rattle.sum_checks.specs.Terms.{cube_sum}
-use Rattle.sum_checks.specs.ZeroCheck.{IsRootAt, ZeroNeedsRoot, eq_point}
+use Rattle.sum_checks.specs.ZeroCheck.{IsRootAt, ZeroNeedsRoot}
 use Rattle.sum_checks.proofs.Runs.{messages-length}
 use Rattle.protocols.specs.CommitmentScheme.{HoldsColumns, matrix_rows, row_levels, value_columns, word_levels}
 use Rattle.protocols.specs.JointTables.{AcceptedTables, AreTablesCombined, HoldTables, IsHonestOpeningOf, IsLeastCube, ShowsTables, TablesAreBound, VerifiesTables, table_at}

@@ -3,7 +3,7 @@
 -- points to weights w, where w(x) is the combination of eq(point, x): the sum of f(x) w(x) over the cube is the combination of the values.
 -- Sum-check leaves one point, at which all tables are opened (JointTables.antt). Points of n coordinates stand one after the other, and so
 -- do the values at each point; of so many tables, those at point j are row j.
-use Rattle.std.specs.Prelude.{◌≡◌, ◌⊎◌, ◌↔◌, ℕ, ◌+◌, ◌*◌, ◌^◌, ◌<◌, ◌≤◌, Bool, true, List, [], ◌++◌, length, map, take, drop, get_or, bit_xor}
+use Rattle.std.specs.Prelude.{◌≡◌, ◌⊎◌, ◌↔◌, ℕ, ◌+◌, ◌*◌, ◌^◌, ◌<◌, ◌≤◌, Bool, true, List, [], ◌++◌, length, map, take, get_or, bit_xor}
 use Rattle.std.specs.Prelude.{IsTrue, slice_index}
 use Rattle.std.specs.List.{AllZip, range_with_len}
 use Rattle.field_base.specs.Field.{IsField}

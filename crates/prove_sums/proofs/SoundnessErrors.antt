@@ -34,7 +34,6 @@ use Rattle.protocols.specs.CodeDistances.{point_generator}
 use Rattle.protocols.specs.CommitmentScheme.{block_places, matrix_rows, place_bits, place_count, row_levels, word_levels}
 use Rattle.protocols.specs.OpenedTables.{AreColumnsOf, CommitsTo, column_symbol}
 use Rattle.protocols.specs.SoundnessErrors.{sent_messages}
-use Rattle.protocols.specs.Tables.{AgreesAt}
 use Rattle.protocols.proofs.JointTables.{part-commits}
 use Rattle.protocols.proofs.OpenedTables.{code-distance, code-word-of, commits, row-value, row-values, table}
 use Rattle.protocols.proofs.SoundnessErrors.{MissesFew, at-most-one, few_runs_save, seldom-or-near}

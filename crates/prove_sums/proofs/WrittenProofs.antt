@@ -1,5 +1,5 @@
 -- What the program writes for two tables is accepted.
-use Rattle.std.proofs.Common.{◌≡◌, ◌⊎◌, inl, inr, ℕ, ◌*◌, ◌%◌, ◌^◌, ◌<◌, Bool, true, false, Ok, Result, List, [], ◌∷◌, length}
+use Rattle.std.proofs.Common.{◌≡◌, inl, inr, ℕ, ◌*◌, ◌%◌, ◌^◌, ◌<◌, Bool, true, false, Ok, Result, List, [], length}
 use Rattle.std.proofs.Common.{refl, sym, ◌∙◌, ap, subst, lit≤, lit<}
 use Rattle.std.specs.Prelude.{IfOk, None, Option, Some, slice_index}
 use Rattle.hex.specs.Hex.{decode_sized}

@@ -1,10 +1,7 @@
-use Rattle.std.proofs.Common.{◌≡◌, ◌*◌, ◌≤◌, ◌^◌, ℕ, List, length, map, sym, ◌∙◌, ap, subst, arith}
-use Rattle.std.specs.List.{range_with_len}
-use Rattle.std.proofs.lemmas.List.{length-map}
+use Rattle.std.proofs.Common.{◌≡◌, ◌≤◌, ◌^◌, ℕ, List, length, map, sym, ◌∙◌, ap, subst, arith}
 use Rattle.field_slices.specs.Multilinear.{multilinear_value}
 use Rattle.field_slices.proofs.PowerLists.{pushed}
 use Rattle.merkle_trees.specs.Commitments.{row_at}
-use Rattle.protocols.specs.ManyPoints.{point_values}
 use Rattle.protocols.proofs.HonestOpenings.{row-counted}
 use Rattle.protocols.proofs.OpenedColumns.{column-long}
 use Rattle.protocols.proofs.ScaledTables.{row-inside}

@@ -1,4 +1,4 @@
-use Rattle.std.proofs.Common.{◌∙◌, ℕ, length, sym, ap, subst, arith}
+use Rattle.std.proofs.Common.{◌∙◌, ℕ, sym, ap, subst, arith}
 use Rattle.sum_checks.specs.Refusals.{error_of_call}
 use Rattle.protocols.specs.JointTables.{IsLeastCube}
 use Rattle.protocols.proofs.SchemeRuns.{memory-alone}

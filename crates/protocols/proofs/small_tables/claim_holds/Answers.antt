@@ -1,4 +1,4 @@
-use Rattle.std.proofs.Common.{◌≡◌, ℕ, List, length, map, refl, ◌∙◌, ap}
+use Rattle.std.proofs.Common.{ℕ, List, length, map, refl, ◌∙◌, ap}
 use Rattle.field_slices.specs.Multilinear.{multilinear_value}
 use Rattle.protocols.specs.SmallTables.{mixed_weights}
 use Rattle.protocols.proofs.SchemeRuns.{decided}

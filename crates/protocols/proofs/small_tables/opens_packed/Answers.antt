@@ -1,4 +1,4 @@
-use Rattle.std.proofs.Common.{◌≡◌, ℕ, List, length, ◌∙◌, ap, subst}
+use Rattle.std.proofs.Common.{ℕ, List, length, ◌∙◌, ap, subst}
 use Rattle.std.specs.Prelude.{IfOk}
 use Rattle.protocols.specs.CommitmentScheme.{VerifiesValue}
 use Rattle.protocols.proofs.small_tables.opens_packed.Goals as goal

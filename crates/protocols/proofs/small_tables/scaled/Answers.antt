@@ -1,4 +1,4 @@
-use Rattle.std.proofs.Common.{◌≡◌, sym, ◌∙◌, ap}
+use Rattle.std.proofs.Common.{sym, ◌∙◌, ap}
 use Rattle.field_base.proofs.PowerLemmas.{times-one}
 use Rattle.field_base.proofs.RingLemmas.{times-mod, times-zero}
 use Rattle.protocols.proofs.small_tables.scaled.Goals as goal
