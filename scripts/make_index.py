@@ -50,7 +50,7 @@ def first_text(path):
 def sentence(path):
     """The first sentence of a file."""
     text = " ".join(first_text(path).split("\n\n")[0].split())
-    found = re.match(r".*?[.:](?= [A-Z`]|$)", text)
+    found = re.match(r".*?(?<!\b[A-Z])[.:](?= [A-Z`]|$)", text)  # a capital alone is an initial
     sentence = (found[0] if found else text).removesuffix(":").removesuffix(".").replace("|", "\\|")
     return sentence[0].upper() + sentence[1:]
 
