@@ -2195,35 +2195,36 @@ uint32_t bf_code_correct_interleaved(uint64_t modulus, size_t symbols, size_t da
  * functions above. */
 
 /* Writes the symbols behind the data of each word, so that it is a word of the code; what stood there is not read.
- * BF_REDUCIBLE unless field is what bf_field_init made. BF_CODE if the field has more than 65536 elements, data is 0
- * or not below symbols, symbols is above 65535, root is 0 or no element, or a power of it with an exponent from 1 to
- * symbols - 1 is 1. BF_LENGTH unless words has a multiple of symbols, and space symbols - data + 1.
- * BF_NOT_AN_ELEMENT unless each symbol of data is an element. */
+ * BF_REDUCIBLE unless field names a field, as what bf_field_init made does. BF_CODE if the field has more than 65536
+ * elements, data is 0 or not below symbols, symbols is above 65535, root is 0 or no element, or a power of it with
+ * an exponent from 1 to symbols - 1 is 1. BF_LENGTH unless words has a multiple of symbols, and space symbols - data
+ * + 1. BF_NOT_AN_ELEMENT unless each symbol of data is an element. */
 uint32_t bf_field_code_encode(const bf_field *field, size_t symbols, size_t data, uint64_t first_root, uint64_t root,
     uint16_t *words, size_t words_length, uint16_t *space, size_t space_length) BF_CHECKED BF_NONNULL(1);
 
 /* syndromes: the values of each word at the roots, that at the first root first; symbols - data of them a word.
- * BF_REDUCIBLE unless field is what bf_field_init made. BF_CODE if the field has more than 65536 elements, data is 0
- * or not below symbols, symbols is above 65535, root is 0 or no element, or a power of it with an exponent from 1 to
- * symbols - 1 is 1. BF_LENGTH unless words has a multiple of symbols, and syndromes symbols - data for each word.
- * BF_NOT_AN_ELEMENT unless each symbol is an element. */
+ * BF_REDUCIBLE unless field names a field, as what bf_field_init made does. BF_CODE if the field has more than 65536
+ * elements, data is 0 or not below symbols, symbols is above 65535, root is 0 or no element, or a power of it with
+ * an exponent from 1 to symbols - 1 is 1. BF_LENGTH unless words has a multiple of symbols, and syndromes symbols -
+ * data for each word. BF_NOT_AN_ELEMENT unless each symbol is an element. */
 uint32_t bf_field_code_syndromes(const bf_field *field, size_t symbols, size_t data, uint64_t first_root, uint64_t root,
     const uint16_t *words, size_t words_length, uint16_t *syndromes, size_t syndromes_length) BF_CHECKED BF_NONNULL(1);
 
-/* flags: 1 for each word that is one of the code, 0 for each other. BF_REDUCIBLE unless field is what bf_field_init
- * made. BF_CODE if the field has more than 65536 elements, data is 0 or not below symbols, symbols is above 65535,
- * root is 0 or no element, or a power of it with an exponent from 1 to symbols - 1 is 1. BF_LENGTH unless words has
- * a multiple of symbols, and flags one for each word. BF_NOT_AN_ELEMENT unless each symbol is an element. */
+/* flags: 1 for each word that is one of the code, 0 for each other. BF_REDUCIBLE unless field names a field, as what
+ * bf_field_init made does. BF_CODE if the field has more than 65536 elements, data is 0 or not below symbols,
+ * symbols is above 65535, root is 0 or no element, or a power of it with an exponent from 1 to symbols - 1 is 1.
+ * BF_LENGTH unless words has a multiple of symbols, and flags one for each word. BF_NOT_AN_ELEMENT unless each
+ * symbol is an element. */
 uint32_t bf_field_code_are_words(const bf_field *field, size_t symbols, size_t data, uint64_t first_root, uint64_t root,
     const uint16_t *words, size_t words_length, uint8_t *flags, size_t flags_length) BF_CHECKED BF_NONNULL(1);
 
 /* Corrects each word as bf_code_correct does, and writes how many of its symbols changed, or 65535 where it is near
- * to no word of the code. A bool is the byte 0 or 1, before the call too. BF_REDUCIBLE unless field is what
- * bf_field_init made. BF_CODE if the field has more than 65536 elements, data is 0 or not below symbols, symbols is
- * above 65535, root is 0 or no element, or a power of it with an exponent from 1 to symbols - 1 is 1. BF_LENGTH
- * unless words has a multiple of symbols, erasures as many bytes or none, corrected one for each word, space 2 *
- * symbols + 5 * (symbols - data) + 3, marks 2 * symbols, and places symbols. BF_NOT_AN_ELEMENT unless each symbol is
- * an element. */
+ * to no word of the code. A bool is the byte 0 or 1, before the call too. BF_REDUCIBLE unless field names a field,
+ * as what bf_field_init made does. BF_CODE if the field has more than 65536 elements, data is 0 or not below
+ * symbols, symbols is above 65535, root is 0 or no element, or a power of it with an exponent from 1 to symbols - 1
+ * is 1. BF_LENGTH unless words has a multiple of symbols, erasures as many bytes or none, corrected one for each
+ * word, space 2 * symbols + 5 * (symbols - data) + 3, marks 2 * symbols, and places symbols. BF_NOT_AN_ELEMENT
+ * unless each symbol is an element. */
 uint32_t bf_field_code_correct(const bf_field *field, size_t symbols, size_t data, uint64_t first_root, uint64_t root,
     uint16_t *words, size_t words_length, const uint8_t *erasures, size_t erasures_length,
     uint16_t *corrected, size_t corrected_length, uint16_t *space, size_t space_length,

@@ -173,7 +173,7 @@ def matrix_statuses(name):
 
 def field_code_statuses(name, parameters):
     """Those of a code over such a field."""
-    yield "BF_REDUCIBLE", "field is what bf_field_init made"
+    yield "BF_REDUCIBLE", "field names a field, as what bf_field_init made does"
     yield "BF_CODE", (
         "the field has more than 65536 elements, data is 0 or not below symbols, symbols is above 65535, root is 0 or no element, or a power of it with an "
         "exponent from 1 to symbols - 1 is 1"

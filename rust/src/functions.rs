@@ -3623,10 +3623,10 @@ unsafe extern "C" {
         corrected_length: usize,
     ) -> u32;
     /// Writes the symbols behind the data of each word, so that it is a word of the code; what stood there is not
-    /// read. BF_REDUCIBLE unless field is what bf_field_init made. BF_CODE if the field has more than 65536 elements,
-    /// data is 0 or not below symbols, symbols is above 65535, root is 0 or no element, or a power of it with an
-    /// exponent from 1 to symbols - 1 is 1. BF_LENGTH unless words has a multiple of symbols, and space symbols -
-    /// data + 1. BF_NOT_AN_ELEMENT unless each symbol of data is an element.
+    /// read. BF_REDUCIBLE unless field names a field, as what bf_field_init made does. BF_CODE if the field has more
+    /// than 65536 elements, data is 0 or not below symbols, symbols is above 65535, root is 0 or no element, or a
+    /// power of it with an exponent from 1 to symbols - 1 is 1. BF_LENGTH unless words has a multiple of symbols, and
+    /// space symbols - data + 1. BF_NOT_AN_ELEMENT unless each symbol of data is an element.
     pub fn bf_field_code_encode(
         field: *const [u64; 5],
         symbols: usize,
@@ -3639,10 +3639,10 @@ unsafe extern "C" {
         space_length: usize,
     ) -> u32;
     /// syndromes: the values of each word at the roots, that at the first root first; symbols - data of them a word.
-    /// BF_REDUCIBLE unless field is what bf_field_init made. BF_CODE if the field has more than 65536 elements, data
-    /// is 0 or not below symbols, symbols is above 65535, root is 0 or no element, or a power of it with an exponent
-    /// from 1 to symbols - 1 is 1. BF_LENGTH unless words has a multiple of symbols, and syndromes symbols - data for
-    /// each word. BF_NOT_AN_ELEMENT unless each symbol is an element.
+    /// BF_REDUCIBLE unless field names a field, as what bf_field_init made does. BF_CODE if the field has more than
+    /// 65536 elements, data is 0 or not below symbols, symbols is above 65535, root is 0 or no element, or a power of
+    /// it with an exponent from 1 to symbols - 1 is 1. BF_LENGTH unless words has a multiple of symbols, and
+    /// syndromes symbols - data for each word. BF_NOT_AN_ELEMENT unless each symbol is an element.
     pub fn bf_field_code_syndromes(
         field: *const [u64; 5],
         symbols: usize,
@@ -3654,11 +3654,11 @@ unsafe extern "C" {
         syndromes: *mut u16,
         syndromes_length: usize,
     ) -> u32;
-    /// flags: 1 for each word that is one of the code, 0 for each other. BF_REDUCIBLE unless field is what
-    /// bf_field_init made. BF_CODE if the field has more than 65536 elements, data is 0 or not below symbols, symbols
-    /// is above 65535, root is 0 or no element, or a power of it with an exponent from 1 to symbols - 1 is 1.
-    /// BF_LENGTH unless words has a multiple of symbols, and flags one for each word. BF_NOT_AN_ELEMENT unless each
-    /// symbol is an element.
+    /// flags: 1 for each word that is one of the code, 0 for each other. BF_REDUCIBLE unless field names a field, as
+    /// what bf_field_init made does. BF_CODE if the field has more than 65536 elements, data is 0 or not below
+    /// symbols, symbols is above 65535, root is 0 or no element, or a power of it with an exponent from 1 to symbols
+    /// - 1 is 1. BF_LENGTH unless words has a multiple of symbols, and flags one for each word. BF_NOT_AN_ELEMENT
+    /// unless each symbol is an element.
     pub fn bf_field_code_are_words(
         field: *const [u64; 5],
         symbols: usize,
@@ -3671,12 +3671,12 @@ unsafe extern "C" {
         flags_length: usize,
     ) -> u32;
     /// Corrects each word as bf_code_correct does, and writes how many of its symbols changed, or 65535 where it is
-    /// near to no word of the code. A bool is the byte 0 or 1, before the call too. BF_REDUCIBLE unless field is what
-    /// bf_field_init made. BF_CODE if the field has more than 65536 elements, data is 0 or not below symbols, symbols
-    /// is above 65535, root is 0 or no element, or a power of it with an exponent from 1 to symbols - 1 is 1.
-    /// BF_LENGTH unless words has a multiple of symbols, erasures as many bytes or none, corrected one for each word,
-    /// space 2 * symbols + 5 * (symbols - data) + 3, marks 2 * symbols, and places symbols. BF_NOT_AN_ELEMENT unless
-    /// each symbol is an element.
+    /// near to no word of the code. A bool is the byte 0 or 1, before the call too. BF_REDUCIBLE unless field names a
+    /// field, as what bf_field_init made does. BF_CODE if the field has more than 65536 elements, data is 0 or not
+    /// below symbols, symbols is above 65535, root is 0 or no element, or a power of it with an exponent from 1 to
+    /// symbols - 1 is 1. BF_LENGTH unless words has a multiple of symbols, erasures as many bytes or none, corrected
+    /// one for each word, space 2 * symbols + 5 * (symbols - data) + 3, marks 2 * symbols, and places symbols.
+    /// BF_NOT_AN_ELEMENT unless each symbol is an element.
     pub fn bf_field_code_correct(
         field: *const [u64; 5],
         symbols: usize,
