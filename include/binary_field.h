@@ -1746,9 +1746,9 @@ uint32_t bf_field_evaluate(const bf_field *field, const bf_u128 *coefficients, s
 uint32_t bf_field_primitive_element(const bf_field *field, bf_u128 *element) BF_CHECKED BF_NONNULL(1) BF_NONNULL(2);
 
 /* logarithms: the logarithm of each element to the base: the least exponent to which the power of the base is the
- * element, found in as many steps as the greatest prime factor of the order of the base is. BF_UNSOLVABLE unless
- * each element is a power of the base. BF_LENGTH unless values and logarithms have one length. BF_NOT_AN_ELEMENT
- * unless each word that is read is below 2^degree. */
+ * element, found in as many steps as the greatest prime factor of the order of the base is. BF_LENGTH unless values
+ * and logarithms have one length. BF_NOT_AN_ELEMENT unless each word that is read is below 2^degree. BF_UNSOLVABLE
+ * unless each element is a power of the base. */
 uint32_t bf_field_logarithm(const bf_field *field, const bf_u128 *values, size_t values_length, const bf_u128 *base,
     bf_u128 *logarithms, size_t logarithms_length) BF_CHECKED BF_NONNULL(1) BF_NONNULL(4);
 

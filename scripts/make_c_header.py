@@ -186,8 +186,6 @@ def field_statuses(name, parameters):
     """Those of a function over a field that the caller chooses."""
     if name == "field_primitive_element":
         yield "BF_UNSOLVABLE", "there is one below 65536, as in every field that has been looked at"
-    if name == "field_logarithm":
-        yield "BF_UNSOLVABLE", "each element is a power of the base"
     if name in ("field_trace_to", "field_norm_to"):
         yield "BF_UNSOLVABLE", "subfield_degree divides the degree of the field"
     if name == "field_minimal_polynomial":
@@ -200,6 +198,8 @@ def field_statuses(name, parameters):
         yield "BF_LENGTH", lengths
     if any(it[0] in ("in", "inout") for it in parameters):
         yield "BF_NOT_AN_ELEMENT", "each word that is read is below 2^degree"
+    if name == "field_logarithm":
+        yield "BF_UNSOLVABLE", "each element is a power of the base"
     yield from matrix_statuses(name)
 
 

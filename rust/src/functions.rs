@@ -2968,9 +2968,9 @@ unsafe extern "C" {
         element: *mut [u64; 2],
     ) -> u32;
     /// logarithms: the logarithm of each element to the base: the least exponent to which the power of the base is
-    /// the element, found in as many steps as the greatest prime factor of the order of the base is. BF_UNSOLVABLE
-    /// unless each element is a power of the base. BF_LENGTH unless values and logarithms have one length.
-    /// BF_NOT_AN_ELEMENT unless each word that is read is below 2^degree.
+    /// the element, found in as many steps as the greatest prime factor of the order of the base is. BF_LENGTH unless
+    /// values and logarithms have one length. BF_NOT_AN_ELEMENT unless each word that is read is below 2^degree.
+    /// BF_UNSOLVABLE unless each element is a power of the base.
     pub fn bf_field_logarithm(
         field: *const [u64; 5],
         values: *const [u64; 2],
