@@ -156,8 +156,8 @@ uint32_t bf_gf2_square(const uint8_t *values, size_t values_length, uint8_t *squ
 uint32_t bf_gf2_inverse(const uint8_t *values, size_t values_length,
     uint8_t *inverses, size_t inverses_length) BF_CHECKED;
 
-/* inverses: the same as inverse; of few elements of p64 and g128 by one inverse and three products an element.
- * BF_LENGTH unless values and inverses have one length. BF_NOT_AN_ELEMENT unless each word that is read is below 2. */
+/* inverses: the same as inverse. BF_LENGTH unless values and inverses have one length. BF_NOT_AN_ELEMENT unless each
+ * word that is read is below 2. */
 uint32_t bf_gf2_batch_inverse(const uint8_t *values, size_t values_length,
     uint8_t *inverses, size_t inverses_length) BF_CHECKED;
 
@@ -245,8 +245,8 @@ uint32_t bf_t2_square(const uint8_t *values, size_t values_length, uint8_t *squa
 uint32_t bf_t2_inverse(const uint8_t *values, size_t values_length,
     uint8_t *inverses, size_t inverses_length) BF_CHECKED;
 
-/* inverses: the same as inverse; of few elements of p64 and g128 by one inverse and three products an element.
- * BF_LENGTH unless values and inverses have one length. BF_NOT_AN_ELEMENT unless each word that is read is below 4. */
+/* inverses: the same as inverse. BF_LENGTH unless values and inverses have one length. BF_NOT_AN_ELEMENT unless each
+ * word that is read is below 4. */
 uint32_t bf_t2_batch_inverse(const uint8_t *values, size_t values_length,
     uint8_t *inverses, size_t inverses_length) BF_CHECKED;
 
@@ -333,8 +333,8 @@ uint32_t bf_t4_square(const uint8_t *values, size_t values_length, uint8_t *squa
 uint32_t bf_t4_inverse(const uint8_t *values, size_t values_length,
     uint8_t *inverses, size_t inverses_length) BF_CHECKED;
 
-/* inverses: the same as inverse; of few elements of p64 and g128 by one inverse and three products an element.
- * BF_LENGTH unless values and inverses have one length. BF_NOT_AN_ELEMENT unless each word that is read is below 16. */
+/* inverses: the same as inverse. BF_LENGTH unless values and inverses have one length. BF_NOT_AN_ELEMENT unless each
+ * word that is read is below 16. */
 uint32_t bf_t4_batch_inverse(const uint8_t *values, size_t values_length,
     uint8_t *inverses, size_t inverses_length) BF_CHECKED;
 
@@ -416,8 +416,7 @@ uint32_t bf_t8_square(const uint8_t *values, size_t values_length, uint8_t *squa
 uint32_t bf_t8_inverse(const uint8_t *values, size_t values_length,
     uint8_t *inverses, size_t inverses_length) BF_CHECKED;
 
-/* inverses: the same as inverse; of few elements of p64 and g128 by one inverse and three products an element.
- * BF_LENGTH unless values and inverses have one length. */
+/* inverses: the same as inverse. BF_LENGTH unless values and inverses have one length. */
 uint32_t bf_t8_batch_inverse(const uint8_t *values, size_t values_length,
     uint8_t *inverses, size_t inverses_length) BF_CHECKED;
 
@@ -495,8 +494,7 @@ uint32_t bf_t16_square(const uint16_t *values, size_t values_length,
 uint32_t bf_t16_inverse(const uint16_t *values, size_t values_length,
     uint16_t *inverses, size_t inverses_length) BF_CHECKED;
 
-/* inverses: the same as inverse; of few elements of p64 and g128 by one inverse and three products an element.
- * BF_LENGTH unless values and inverses have one length. */
+/* inverses: the same as inverse. BF_LENGTH unless values and inverses have one length. */
 uint32_t bf_t16_batch_inverse(const uint16_t *values, size_t values_length,
     uint16_t *inverses, size_t inverses_length) BF_CHECKED;
 
@@ -576,8 +574,7 @@ uint32_t bf_t32_square(const uint32_t *values, size_t values_length,
 uint32_t bf_t32_inverse(const uint32_t *values, size_t values_length,
     uint32_t *inverses, size_t inverses_length) BF_CHECKED;
 
-/* inverses: the same as inverse; of few elements of p64 and g128 by one inverse and three products an element.
- * BF_LENGTH unless values and inverses have one length. */
+/* inverses: the same as inverse. BF_LENGTH unless values and inverses have one length. */
 uint32_t bf_t32_batch_inverse(const uint32_t *values, size_t values_length,
     uint32_t *inverses, size_t inverses_length) BF_CHECKED;
 
@@ -657,8 +654,7 @@ uint32_t bf_t64_square(const uint64_t *values, size_t values_length,
 uint32_t bf_t64_inverse(const uint64_t *values, size_t values_length,
     uint64_t *inverses, size_t inverses_length) BF_CHECKED;
 
-/* inverses: the same as inverse; of few elements of p64 and g128 by one inverse and three products an element.
- * BF_LENGTH unless values and inverses have one length. */
+/* inverses: the same as inverse. BF_LENGTH unless values and inverses have one length. */
 uint32_t bf_t64_batch_inverse(const uint64_t *values, size_t values_length,
     uint64_t *inverses, size_t inverses_length) BF_CHECKED;
 
@@ -738,8 +734,7 @@ uint32_t bf_t128_square(const bf_u128 *values, size_t values_length,
 uint32_t bf_t128_inverse(const bf_u128 *values, size_t values_length,
     bf_u128 *inverses, size_t inverses_length) BF_CHECKED;
 
-/* inverses: the same as inverse; of few elements of p64 and g128 by one inverse and three products an element.
- * BF_LENGTH unless values and inverses have one length. */
+/* inverses: the same as inverse. BF_LENGTH unless values and inverses have one length. */
 uint32_t bf_t128_batch_inverse(const bf_u128 *values, size_t values_length,
     bf_u128 *inverses, size_t inverses_length) BF_CHECKED;
 
@@ -819,8 +814,7 @@ uint32_t bf_r8_square(const uint8_t *values, size_t values_length, uint8_t *squa
 uint32_t bf_r8_inverse(const uint8_t *values, size_t values_length,
     uint8_t *inverses, size_t inverses_length) BF_CHECKED;
 
-/* inverses: the same as inverse; of few elements of p64 and g128 by one inverse and three products an element.
- * BF_LENGTH unless values and inverses have one length. */
+/* inverses: the same as inverse. BF_LENGTH unless values and inverses have one length. */
 uint32_t bf_r8_batch_inverse(const uint8_t *values, size_t values_length,
     uint8_t *inverses, size_t inverses_length) BF_CHECKED;
 
@@ -898,8 +892,7 @@ uint32_t bf_p64_square(const uint64_t *values, size_t values_length,
 uint32_t bf_p64_inverse(const uint64_t *values, size_t values_length,
     uint64_t *inverses, size_t inverses_length) BF_CHECKED;
 
-/* inverses: the same as inverse; of few elements of p64 and g128 by one inverse and three products an element.
- * BF_LENGTH unless values and inverses have one length. */
+/* inverses: the same as inverse. BF_LENGTH unless values and inverses have one length. */
 uint32_t bf_p64_batch_inverse(const uint64_t *values, size_t values_length,
     uint64_t *inverses, size_t inverses_length) BF_CHECKED;
 
@@ -980,8 +973,7 @@ uint32_t bf_g128_square(const bf_u128 *values, size_t values_length,
 uint32_t bf_g128_inverse(const bf_u128 *values, size_t values_length,
     bf_u128 *inverses, size_t inverses_length) BF_CHECKED;
 
-/* inverses: the same as inverse; of few elements of p64 and g128 by one inverse and three products an element.
- * BF_LENGTH unless values and inverses have one length. */
+/* inverses: the same as inverse. BF_LENGTH unless values and inverses have one length. */
 uint32_t bf_g128_batch_inverse(const bf_u128 *values, size_t values_length,
     bf_u128 *inverses, size_t inverses_length) BF_CHECKED;
 
@@ -1062,8 +1054,7 @@ uint32_t bf_p192_square(const bf_u192 *values, size_t values_length,
 uint32_t bf_p192_inverse(const bf_u192 *values, size_t values_length,
     bf_u192 *inverses, size_t inverses_length) BF_CHECKED;
 
-/* inverses: the same as inverse; of few elements of p64 and g128 by one inverse and three products an element.
- * BF_LENGTH unless values and inverses have one length. */
+/* inverses: the same as inverse. BF_LENGTH unless values and inverses have one length. */
 uint32_t bf_p192_batch_inverse(const bf_u192 *values, size_t values_length,
     bf_u192 *inverses, size_t inverses_length) BF_CHECKED;
 
@@ -1968,8 +1959,8 @@ uint32_t bf_tag_gcm_ghash_final(bf_ghash_state *state, size_t associated_length,
     uint8_t *hash, size_t hash_length) BF_CHECKED BF_NONNULL(1);
 
 /* equal: 1 where the two have the same bytes, else 0. What a compiler made of it was looked at: all bytes are read
- * whatever they are, and one test comes at the end; unlike lengths return at once. No other function was looked at
- * for its timing. */
+ * whatever they are, and one test comes at the end; unlike lengths return at once. docs/TIMING.md says what was
+ * looked at of other functions. */
 uint32_t bf_tags_are_equal(const uint8_t *left, size_t left_length, const uint8_t *right, size_t right_length,
     uint8_t *equal) BF_CHECKED BF_NONNULL(5);
 

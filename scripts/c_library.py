@@ -49,7 +49,7 @@ FIELD_FUNCTIONS = [
     ("add_scaled", [("inout", "sums"), ("scalar", "scalar"), ("in", "values")], "adds to each element of sums the scalar times the value at its place"),
     ("square", [("in", "values"), ("out", "squares")], "the square of each element"),
     ("inverse", [("in", "values"), ("out", "inverses")], "the inverse of each element, and 0 for 0"),
-    ("batch_inverse", [("in", "values"), ("out", "inverses")], "the same as inverse; of few elements of p64 and g128 by one inverse and three products an element"),
+    ("batch_inverse", [("in", "values"), ("out", "inverses")], "the same as inverse"),
     ("square_root", [("in", "values"), ("out", "roots")], "the square root of each element"),
     ("power", [("in", "values"), ("number", "exponent"), ("out", "powers")], "each element to the power of the exponent; to the power 0 it is 1"),
     ("product", [("in", "values"), ("result", "product")], "the product of all elements, 1 of none"),
@@ -236,7 +236,7 @@ OTHER_FUNCTIONS = [
      "in bytes, each below 2^61; the message is then empty, under the same key; hash has 16 bytes"),
     ("tags_are_equal", [("in", "left", "u8"), ("in", "right", "u8"), ("result", "equal", "u8")],
      "1 where the two have the same bytes, else 0. What a compiler made of it was looked at: all bytes are read whatever they are, and one test "
-     "comes at the end; unlike lengths return at once. No other function was looked at for its timing"),
+     "comes at the end; unlike lengths return at once. docs/TIMING.md says what was looked at of other functions"),
     ("rs_encode", [("count", "data"), ("count", "parity"), ("inout", "shards", "u8")],
      "writes the shards of parity, which stand behind those of data; all shards stand one after the other and have one size"),
     ("rs_verify", [("count", "data"), ("count", "parity"), ("in", "shards", "u8"), ("result", "whole", "u8")],

@@ -82,9 +82,8 @@ unsafe extern "C" {
         inverses: *mut u8,
         inverses_length: usize,
     ) -> u32;
-    /// inverses: the same as inverse; of few elements of p64 and g128 by one inverse and three products an element.
-    /// BF_LENGTH unless values and inverses have one length. BF_NOT_AN_ELEMENT unless each word that is read is below
-    /// 2.
+    /// inverses: the same as inverse. BF_LENGTH unless values and inverses have one length. BF_NOT_AN_ELEMENT unless
+    /// each word that is read is below 2.
     pub fn bf_gf2_batch_inverse(
         values: *const u8,
         values_length: usize,
@@ -232,9 +231,8 @@ unsafe extern "C" {
         inverses: *mut u8,
         inverses_length: usize,
     ) -> u32;
-    /// inverses: the same as inverse; of few elements of p64 and g128 by one inverse and three products an element.
-    /// BF_LENGTH unless values and inverses have one length. BF_NOT_AN_ELEMENT unless each word that is read is below
-    /// 4.
+    /// inverses: the same as inverse. BF_LENGTH unless values and inverses have one length. BF_NOT_AN_ELEMENT unless
+    /// each word that is read is below 4.
     pub fn bf_t2_batch_inverse(
         values: *const u8,
         values_length: usize,
@@ -382,9 +380,8 @@ unsafe extern "C" {
         inverses: *mut u8,
         inverses_length: usize,
     ) -> u32;
-    /// inverses: the same as inverse; of few elements of p64 and g128 by one inverse and three products an element.
-    /// BF_LENGTH unless values and inverses have one length. BF_NOT_AN_ELEMENT unless each word that is read is below
-    /// 16.
+    /// inverses: the same as inverse. BF_LENGTH unless values and inverses have one length. BF_NOT_AN_ELEMENT unless
+    /// each word that is read is below 16.
     pub fn bf_t4_batch_inverse(
         values: *const u8,
         values_length: usize,
@@ -528,8 +525,7 @@ unsafe extern "C" {
         inverses: *mut u8,
         inverses_length: usize,
     ) -> u32;
-    /// inverses: the same as inverse; of few elements of p64 and g128 by one inverse and three products an element.
-    /// BF_LENGTH unless values and inverses have one length.
+    /// inverses: the same as inverse. BF_LENGTH unless values and inverses have one length.
     pub fn bf_t8_batch_inverse(
         values: *const u8,
         values_length: usize,
@@ -668,8 +664,7 @@ unsafe extern "C" {
         inverses: *mut u16,
         inverses_length: usize,
     ) -> u32;
-    /// inverses: the same as inverse; of few elements of p64 and g128 by one inverse and three products an element.
-    /// BF_LENGTH unless values and inverses have one length.
+    /// inverses: the same as inverse. BF_LENGTH unless values and inverses have one length.
     pub fn bf_t16_batch_inverse(
         values: *const u16,
         values_length: usize,
@@ -808,8 +803,7 @@ unsafe extern "C" {
         inverses: *mut u32,
         inverses_length: usize,
     ) -> u32;
-    /// inverses: the same as inverse; of few elements of p64 and g128 by one inverse and three products an element.
-    /// BF_LENGTH unless values and inverses have one length.
+    /// inverses: the same as inverse. BF_LENGTH unless values and inverses have one length.
     pub fn bf_t32_batch_inverse(
         values: *const u32,
         values_length: usize,
@@ -948,8 +942,7 @@ unsafe extern "C" {
         inverses: *mut u64,
         inverses_length: usize,
     ) -> u32;
-    /// inverses: the same as inverse; of few elements of p64 and g128 by one inverse and three products an element.
-    /// BF_LENGTH unless values and inverses have one length.
+    /// inverses: the same as inverse. BF_LENGTH unless values and inverses have one length.
     pub fn bf_t64_batch_inverse(
         values: *const u64,
         values_length: usize,
@@ -1088,8 +1081,7 @@ unsafe extern "C" {
         inverses: *mut [u64; 2],
         inverses_length: usize,
     ) -> u32;
-    /// inverses: the same as inverse; of few elements of p64 and g128 by one inverse and three products an element.
-    /// BF_LENGTH unless values and inverses have one length.
+    /// inverses: the same as inverse. BF_LENGTH unless values and inverses have one length.
     pub fn bf_t128_batch_inverse(
         values: *const [u64; 2],
         values_length: usize,
@@ -1228,8 +1220,7 @@ unsafe extern "C" {
         inverses: *mut u8,
         inverses_length: usize,
     ) -> u32;
-    /// inverses: the same as inverse; of few elements of p64 and g128 by one inverse and three products an element.
-    /// BF_LENGTH unless values and inverses have one length.
+    /// inverses: the same as inverse. BF_LENGTH unless values and inverses have one length.
     pub fn bf_r8_batch_inverse(
         values: *const u8,
         values_length: usize,
@@ -1368,8 +1359,7 @@ unsafe extern "C" {
         inverses: *mut u64,
         inverses_length: usize,
     ) -> u32;
-    /// inverses: the same as inverse; of few elements of p64 and g128 by one inverse and three products an element.
-    /// BF_LENGTH unless values and inverses have one length.
+    /// inverses: the same as inverse. BF_LENGTH unless values and inverses have one length.
     pub fn bf_p64_batch_inverse(
         values: *const u64,
         values_length: usize,
@@ -1508,8 +1498,7 @@ unsafe extern "C" {
         inverses: *mut [u64; 2],
         inverses_length: usize,
     ) -> u32;
-    /// inverses: the same as inverse; of few elements of p64 and g128 by one inverse and three products an element.
-    /// BF_LENGTH unless values and inverses have one length.
+    /// inverses: the same as inverse. BF_LENGTH unless values and inverses have one length.
     pub fn bf_g128_batch_inverse(
         values: *const [u64; 2],
         values_length: usize,
@@ -1648,8 +1637,7 @@ unsafe extern "C" {
         inverses: *mut [u64; 3],
         inverses_length: usize,
     ) -> u32;
-    /// inverses: the same as inverse; of few elements of p64 and g128 by one inverse and three products an element.
-    /// BF_LENGTH unless values and inverses have one length.
+    /// inverses: the same as inverse. BF_LENGTH unless values and inverses have one length.
     pub fn bf_p192_batch_inverse(
         values: *const [u64; 3],
         values_length: usize,
@@ -3338,8 +3326,8 @@ unsafe extern "C" {
         hash_length: usize,
     ) -> u32;
     /// equal: 1 where the two have the same bytes, else 0. What a compiler made of it was looked at: all bytes are
-    /// read whatever they are, and one test comes at the end; unlike lengths return at once. No other function was
-    /// looked at for its timing.
+    /// read whatever they are, and one test comes at the end; unlike lengths return at once. docs/TIMING.md says what
+    /// was looked at of other functions.
     pub fn bf_tags_are_equal(
         left: *const u8,
         left_length: usize,

@@ -62,7 +62,7 @@ pub extern "C" fn bf_p192_inverse(values: &[Cubic], inverses: &mut [Cubic]) -> u
     c_calls::invert::<Triple, Cubic, CubicKernel, u64x2>(values, inverses)
 }
 
-/// The same as inverse; of few elements of p64 and g128 by one inverse and three products an element.
+/// The same as inverse.
 #[unsafe(no_mangle)]
 pub extern "C" fn bf_p192_batch_inverse(values: &[Cubic], inverses: &mut [Cubic]) -> u32
     ensures { Inverts cubic_field values.now inverses.old inverses.new result }

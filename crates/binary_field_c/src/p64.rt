@@ -58,7 +58,7 @@ pub extern "C" fn bf_p64_inverse(values: &[u64], inverses: &mut [u64]) -> u32
     c_calls::invert::<u64, u64, Poly64Kernel, u64x2>(values, inverses)
 }
 
-/// The same as inverse; of few elements of p64 and g128 by one inverse and three products an element.
+/// The same as inverse.
 #[unsafe(no_mangle)]
 pub extern "C" fn bf_p64_batch_inverse(values: &[u64], inverses: &mut [u64]) -> u32
     ensures { Inverts poly64_field values.now inverses.old inverses.new result }

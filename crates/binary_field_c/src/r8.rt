@@ -58,7 +58,7 @@ pub extern "C" fn bf_r8_inverse(values: &[u8], inverses: &mut [u8]) -> u32
     c_calls::invert::<u8, u8, RijndaelKernel, u64x2>(values, inverses)
 }
 
-/// The same as inverse; of few elements of p64 and g128 by one inverse and three products an element.
+/// The same as inverse.
 #[unsafe(no_mangle)]
 pub extern "C" fn bf_r8_batch_inverse(values: &[u8], inverses: &mut [u8]) -> u32
     ensures { Inverts rijndael_field values.now inverses.old inverses.new result }

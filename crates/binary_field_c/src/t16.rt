@@ -58,7 +58,7 @@ pub extern "C" fn bf_t16_inverse(values: &[u16], inverses: &mut [u16]) -> u32
     c_calls::invert::<u16, u16, Tower<Bits16>, u64x2>(values, inverses)
 }
 
-/// The same as inverse; of few elements of p64 and g128 by one inverse and three products an element.
+/// The same as inverse.
 #[unsafe(no_mangle)]
 pub extern "C" fn bf_t16_batch_inverse(values: &[u16], inverses: &mut [u16]) -> u32
     ensures { Inverts (level_field 4) values.now inverses.old inverses.new result }

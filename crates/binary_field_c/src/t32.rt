@@ -58,7 +58,7 @@ pub extern "C" fn bf_t32_inverse(values: &[u32], inverses: &mut [u32]) -> u32
     c_calls::invert::<u32, u32, Tower<Bits32>, u64x2>(values, inverses)
 }
 
-/// The same as inverse; of few elements of p64 and g128 by one inverse and three products an element.
+/// The same as inverse.
 #[unsafe(no_mangle)]
 pub extern "C" fn bf_t32_batch_inverse(values: &[u32], inverses: &mut [u32]) -> u32
     ensures { Inverts (level_field 5) values.now inverses.old inverses.new result }

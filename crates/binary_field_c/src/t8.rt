@@ -58,7 +58,7 @@ pub extern "C" fn bf_t8_inverse(values: &[u8], inverses: &mut [u8]) -> u32
     c_calls::invert::<u8, u8, Tower<Bits8>, u64x2>(values, inverses)
 }
 
-/// The same as inverse; of few elements of p64 and g128 by one inverse and three products an element.
+/// The same as inverse.
 #[unsafe(no_mangle)]
 pub extern "C" fn bf_t8_batch_inverse(values: &[u8], inverses: &mut [u8]) -> u32
     ensures { Inverts (level_field 3) values.now inverses.old inverses.new result }

@@ -13,7 +13,8 @@ use crate::wide::Wide;
 use any_field::BinaryExtension;
 use field_base::{Holds, Reads};
 
-/// Writes the order of each element, the least exponent above 0 to which its power is 1, and 0 for 0, which has none.
+/// Writes the order of each element, and 0 for 0, which has none: an exponent above 0 to which its power is 1, the least one where the
+/// numbers of the table of primes are prime.
 pub fn order(field: ChosenField, words: &[Wide], orders: &mut [Wide]) -> u32
     ensures { OverField field (TakesOrders (chosen_field field) words.now orders.old orders.new result) orders.old orders.new result }
 {

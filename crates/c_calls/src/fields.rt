@@ -361,8 +361,8 @@ fn write_primitive(field: BinaryExtension, element: &mut Wide) -> u32
     }
 }
 
-/// Writes the logarithm of each element to the base: an exponent to which the power of the base is the element, the least one. `UNSOLVABLE`
-/// exactly where an element is no power of the base.
+/// Writes the logarithm of each element to the base: an exponent to which the power of the base is the element, the least one where the
+/// numbers of the table of primes are prime. `UNSOLVABLE` exactly where an element is no power of the base.
 pub fn logarithm(field: ChosenField, words: &[Wide], base: Wide, logarithms: &mut [Wide]) -> u32
     ensures { OverField field (TakesLogarithms (chosen_field field) base words.now logarithms.old logarithms.new result)
         logarithms.old logarithms.new result }

@@ -25,6 +25,7 @@ pub fn irreducible(degree: u64, tail: Wide, next: &mut Wide) -> u32
 }
 
 /// Writes the least tail from `tail` on with which x^degree + tail is primitive, of degree 1 to 128; `UNSOLVABLE` exactly where there is none.
+/// What is found is irreducible, and primitive where the numbers of the table of primes are prime; nothing primitive is passed over.
 pub fn primitive(degree: u64, tail: Wide, next: &mut Wide) -> u32
     ensures { FindsPrimitive degree (wide_number tail) next.old next.new result }
 {

@@ -1,5 +1,5 @@
-//! What joins protocols over any field: the low-degree extension of a message by an additive transform, tables whose columns are committed
-//! to and opened, and proofs as bytes. It passes on sum-checks and Merkle trees.
+//! What joins protocols over any field: the low-degree extension of a message by an additive transform, commitments to tables of large and
+//! of small elements whose values are opened at points, sums of products, and proofs as bytes. It passes on sum-checks and Merkle trees.
 #![tactic(auto)]
 
 pub mod commitment_scheme;

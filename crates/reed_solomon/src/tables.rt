@@ -1,4 +1,4 @@
-// The tables of the factors of up to four rows, by which shards are written four at once.
+// The tables of the factors of up to four rows, by which up to four shards are written from one look at the data, two at a time.
 ghost use Rattle.std.specs.Prelude.{◌≡◌, ◌≢◌, ◌+◌, ◌*◌, ◌/◌, ◌%◌, ◌<◌, ◌≤◌, ℕ, length, slice_index};
 ghost use Rattle.std.specs.Simd.Lanes.{chunk};
 ghost use Rattle.reed_solomon.specs.Tables.{HasRow, IsEntry};

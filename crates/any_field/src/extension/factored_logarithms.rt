@@ -21,10 +21,9 @@ pub struct Logarithms {
 }
 
 impl BinaryExtension {
-    /// The logarithm of an element: an exponent to which the power of `base` is `x`, below the order of `base` where that is not 0. `None`
-    /// exactly where no power is. It takes about as many products as the greatest prime factor of the order is, so that it is for fields where
-    /// 2^degree - 1 has small factors alone, as of 32, 48 or 64 bits. That no lower exponent is one rests on the table of primes, as `order`
-    /// does.
+    /// The logarithm of an element: an exponent to which the power of `base` is `x`. `None` exactly where no power is. It takes about as many
+    /// products as the greatest prime factor of the order is, so that it is for fields where 2^degree - 1 has small factors alone, as of 32, 48
+    /// or 64 bits. That no lower exponent is one rests on the table of primes, as `order` does.
     pub fn logarithm_by_factors(self, x: u128, base: u128) -> Option<u128>
         ensures found { IfSome result (λ e. power 1 (field_product self.degree self.tail) base e ≡ x % 2 ^ self.degree) }
         ensures least { IfSome result (λ e. TableIsPrime → (k : ℕ) → k < e
@@ -91,9 +90,9 @@ impl BinaryExtension {
 }
 
 impl Logarithms {
-    /// The logarithm of an element: an exponent to which the power of the base is `x`, below the order of the base where that is not 0. `None`
-    /// exactly where no power is. It takes about as many products as the greatest prime factor of the order is. That no lower exponent is one
-    /// rests on the table of primes, as `BinaryExtension::order` does.
+    /// The logarithm of an element: an exponent to which the power of the base is `x`. `None` exactly where no power is. It takes about as many
+    /// products as the greatest prime factor of the order is. That no lower exponent is one rests on the table of primes, as
+    /// `BinaryExtension::order` does.
     pub fn of(self, x: u128) -> Option<u128>
         ensures found { IfSome result
             (λ e. power 1 (field_product self.field.degree self.field.tail) self.base e ≡ x % 2 ^ self.field.degree) }
