@@ -160,6 +160,18 @@ module _ (level : ℕ) (low : level ≤ 7) {W : Type 0} (number : W → ℕ) (ni
             let behind : 1 * 2 ^ j + p ≡ 2 ^ j + p = omega arith in
             ap (λ (y : ℕ). at y p) (next_is ∙ ap (at z) once) ∙ point-joined cantor_vector j 1 p less (2 ^ level) z ∙ ap (at z) behind
 
+    at_place : HoldWordValues element level z columns c first lower → HoldWordValues element level next columns c second upper → (p : ℕ)
+        → p < 2 ^ suc j → element (get_or old (p * columns + c) nil) ≡ polynomial_value times (suc j) a (at z p)
+    at_place lower_is upper_is p within =
+        elim (cases_lt p (2 ^ j)) [
+          | inl early ↦ in_lower lower_is p early
+          | inr late ↦
+              let twice = two-pow-succ j in
+              let back : 2 ^ j + (p - 2 ^ j) ≡ p = omega (arith, late) in
+              subst (λ (q : ℕ). element (get_or old (q * columns + c) nil) ≡ polynomial_value times (suc j) a (at z q)) back
+              (in_upper upper_is (p - 2 ^ j) (omega (arith, within, late, twice)))
+        ]
+
     -- so the coefficients of both halves, and a transform of them as two rows, leave those of all
     pub known_step : suc j ≤ 40 → HoldWordValues element level z columns c first lower → HoldWordValues element level next columns c second upper
         → AreWordCoefficients element level z columns c old new
@@ -169,13 +181,6 @@ module _ (level : ℕ) (low : level ≤ 7) {W : Type 0} (number : W → ℕ) (ni
         hold m long p below =
             let stages : suc j ≡ m = one_exponent (suc j) m (sym (column_long element nil level (suc j) columns c inside new whole) ∙ long) in
             let within : p < 2 ^ suc j = subst (λ (e : ℕ). p < 2 ^ e) (sym stages) below in
-            let twice = two-pow-succ j in
             column_word element nil level (suc j) columns c inside old count p within
-            ∙ elim (cases_lt p (2 ^ j)) [
-              | inl early ↦ in_lower lower_is p early
-              | inr late ↦
-                  let back : 2 ^ j + (p - 2 ^ j) ≡ p = omega (arith, late) in
-                  subst (λ (q : ℕ). element (get_or old (q * columns + c) nil) ≡ polynomial_value times (suc j) a (at z q)) back
-                  (in_upper upper_is (p - 2 ^ j) (omega (arith, within, late, twice)))
-            ]
+            ∙ at_place lower_is upper_is p within
             ∙ ap (λ (e : ℕ). polynomial_value times e a (at z p)) stages
