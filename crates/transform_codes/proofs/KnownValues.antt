@@ -1,5 +1,5 @@
 -- Values that are 0 from some row on: their coefficients, by halves of the rows.
-use Rattle.std.proofs.Common.{◌≡◌, ◌⊎◌, inl, inr, ℕ, suc, ◌+◌, ◌-◌, ◌*◌, ◌^◌, ◌<◌, ◌≤◌, List, ◌++◌, length, get_or, map, lit<, refl, sym, ◌∙◌, ap, ap₂, subst, arith}
+use Rattle.std.proofs.Common.{◌≡◌, inl, inr, ℕ, suc, ◌+◌, ◌-◌, ◌*◌, ◌^◌, ◌<◌, ◌≤◌, List, ◌++◌, length, get_or, map, lit<, refl, sym, ◌∙◌, ap, ap₂, subst, arith}
 use Rattle.std.specs.Prelude.{bit_xor, slice_index}
 use Rattle.std.specs.Int.{bit_at}
 use Rattle.std.proofs.Math.Nat.{two-pow-succ}
@@ -27,29 +27,19 @@ use Rattle.transform_codes.specs.Columns.{AreWordCoefficients, HoldWordValues, H
 use Rattle.transform_codes.proofs.CodedColumns.{column_long, column_word, held}
 use Rattle.transform_codes.proofs.FirstValues.{folded, half_coefficient, next_value, scalar_of_first, scalar_of_second}
 
--- point p from z on is z and that from 0 on
-pub point_from : (width : ℕ) (vector : ℕ → ℕ) (z p : ℕ) → bit_xor z (point width vector 0 p) ≡ point width vector z p
+-- the point 2 ^ j places behind z is the sum of z and that behind 0
+pub point_behind : (width : ℕ) (vector : ℕ → ℕ) (z j rows there next : ℕ) → rows ≡ 2 ^ j → there ≡ point width vector 0 rows
+    → next ≡ bit_xor z there → next ≡ point width vector z (2 ^ j)
 unfolding point
-point_from width vector z p =
-    let sum : ℕ = sum_below (λ b. bit_at p b * vector b) width in
-    ap (bit_xor z) (xor_comm 0 sum ∙ xor_zero_r sum)
+point_behind width vector z j rows there next power of_rows is =
+    let sum : ℕ = sum_below (λ b. bit_at (2 ^ j) b * vector b) width in
+    is
+    ∙ ap (bit_xor z) (of_rows ∙ ap (point width vector 0) power)
+    ∙ ap (bit_xor z) (xor_comm 0 sum ∙ xor_zero_r sum)
 
--- ---- rows of zeros
-
+-- rows of zeros of the upper half
 module _ {W : Type 0} (nil : W) (j columns known below : ℕ) (words lower upper : List W) (parts : words ≡ lower ++ upper)
     (long : length lower ≡ 2 ^ j * columns) (zeros : HoldZeros nil columns known (2 ^ suc j) words) where
-  -- those of the lower half
-  pub lower_zeros : (rows : ℕ) → rows ≡ 2 ^ j → (below ≡ known) ⊎ (below ≡ rows) → HoldZeros nil columns below (2 ^ j) lower
-  lower_zeros rows half either i c past less inside =
-      let twice = two-pow-succ j in
-      let here = digits_lt less inside in
-      let behind : known ≤ i = elim either [ inl all ↦ omega (arith, all, past) | inr full ↦ omega (arith, full, half, past, less) ] in
-      sym
-      (ap (λ (l : List W). get_or l (i * columns + c) nil) parts
-      ∙ get_or_append_left lower upper nil (i * columns + c) (omega (arith, here, long)))
-      ∙ zeros i c behind (omega (arith, less, twice)) inside
-
-  -- and of the upper one
   pub upper_zeros : (rows : ℕ) → rows ≡ 2 ^ j → below ≤ rows → HoldZeros nil columns (known - below) (2 ^ j) upper
   upper_zeros rows half most i c past less inside =
       let twice = two-pow-succ j in
@@ -110,7 +100,7 @@ module _ (level : ℕ) (low : level ≤ 7) {W : Type 0} (number : W → ℕ) (ni
       (first_long : length first ≡ half) (second_long : length second ≡ half) (whole : length new ≡ 2 ^ suc j * columns)
       (same : length (first ++ second) ≡ length new)
       (holds : (i : ℕ) → i < half → HoldWordValues element level t half i new (first ++ second)) (c : ℕ) (inside : c < columns) where
-    a : ℕ → ℕ
+    abbrev a : ℕ → ℕ
     a = slice_index (column_of columns c (map element new))
 
     is_first : (i : ℕ) → i < half → get_or first i nil ≡ get_or (first ++ second) (0 * half + i) nil
