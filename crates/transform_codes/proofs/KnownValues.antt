@@ -98,7 +98,7 @@ module _ (level : ℕ) (low : level ≤ 7) {W : Type 0} (number : W → ℕ) (ni
       (next_is : next ≡ at z (2 ^ j)) (old lower upper first second new : List W) (count : length old ≡ 2 ^ suc j * columns)
       (old_parts : old ≡ lower ++ upper) (lower_long : length lower ≡ half) (upper_long : length upper ≡ half)
       (first_long : length first ≡ half) (second_long : length second ≡ half) (whole : length new ≡ 2 ^ suc j * columns)
-      (same : length (first ++ second) ≡ length new)
+      (same : length new ≡ length (first ++ second))
       (holds : (i : ℕ) → i < half → HoldWordValues element level t half i new (first ++ second)) (c : ℕ) (inside : c < columns) where
     abbrev a : ℕ → ℕ
     a = slice_index (column_of columns c (map element new))
@@ -124,7 +124,7 @@ module _ (level : ℕ) (low : level ≤ 7) {W : Type 0} (number : W → ℕ) (ni
         ∙ held element nil level j columns c inside z first lower (first_long ∙ half_is) (lower_long ∙ half_is) lower_is p less
         ∙ value-same (2 ^ level) times wide (tower_ring level) j (slice_index (column_of columns c (map element first)))
         (λ k. bit_xor (a k) (times t (a (2 ^ j + k)))) (at z p)
-        (half_coefficient level low number nil j columns half half_is t new (first ++ second) whole same holds 0 (lit< tt) first first_long is_first t
+        (half_coefficient level low number nil j columns half half_is t new (first ++ second) whole (sym same) holds 0 (lit< tt) first first_long is_first t
         (scalar_of_first level low t) c inside)
         ∙ folded level low j a z p t staged less is
 
@@ -138,7 +138,7 @@ module _ (level : ℕ) (low : level ≤ 7) {W : Type 0} (number : W → ℕ) (ni
         ∙ held element nil level j columns c inside next second upper (second_long ∙ half_is) (upper_long ∙ half_is) upper_is p less
         ∙ value-same (2 ^ level) times wide (tower_ring level) j (slice_index (column_of columns c (map element second)))
         (λ k. bit_xor (a k) (times more (a (2 ^ j + k)))) (at next p)
-        (half_coefficient level low number nil j columns half half_is t new (first ++ second) whole same holds 1 (lit< tt) second second_long is_second
+        (half_coefficient level low number nil j columns half half_is t new (first ++ second) whole (sym same) holds 1 (lit< tt) second second_long is_second
         more (scalar_of_second level low t) c inside)
         ∙ folded level low j a next p more staged less
         (ap (λ (s : ℕ). bit_xor s 1) is ∙ sym (next_value level low j z staged) ∙ ap (subspace_value times j) (sym next_is))

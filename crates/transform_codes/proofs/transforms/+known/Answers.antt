@@ -91,13 +91,20 @@ returns-clause-coefficients g t c =
     let count : length old ≡ 2 ^ suc stage * columns = subst (λ (n : ℕ). length old ≡ 2 ^ n * columns) (sym next) c.requires.rows in
     let parts = length-append first second in
     let same : length new ≡ length old =
-    omega (arith, parts, c.inverse_strip-2.ensures.length, c.inverse_known.ensures.length, c.inverse_known-2.ensures.length, halves.ensures.front_len,
-    halves.ensures.back_len) in
+    omega (
+      arith,
+      parts,
+      c.inverse_strip-2.ensures.length,
+      c.inverse_known.ensures.length,
+      c.inverse_known-2.ensures.length,
+      halves.ensures.front_len,
+      halves.ensures.back_len,
+    ) in
     let behind = point_behind (2 ^ level) cantor_vector z stage c.power_of-rows.result (number c.point_of.result) (number c.xor-behind.result)
     c.power_of-rows.ensures.power c.point_of.ensures c.xor-behind.ensures in
     λ k inside.
     known_step level g.L.Level.few number zero stage columns half half_is (omega (arith, c.requires.points, next)) (number c.level_shift.result) z
     (number c.xor-behind.result) c.level_shift.ensures behind old halves.result.0.now halves.result.1.now first second new count halves.ensures.value
     halves.ensures.front_len back (c.inverse_known.ensures.length ∙ halves.ensures.front_len) (c.inverse_known-2.ensures.length ∙ back)
-    (same ∙ count) (sym c.inverse_strip-2.ensures.length) (λ i within. (c.inverse_strip-2.ensures.coefficients i within).have) k inside
+    (same ∙ count) c.inverse_strip-2.ensures.length (λ i within. (c.inverse_strip-2.ensures.coefficients i within).have) k inside
     (omega (arith, c.requires.low, next)) (c.inverse_known.ensures.coefficients k inside).have (c.inverse_known-2.ensures.coefficients k inside).have
