@@ -179,7 +179,8 @@ module _ (level : ℕ) (low : level ≤ 7) where
           column_word element nil level j columns c inside part (long ∙ half_is) k less
           ∙ ap element (is_part (k * columns + c) (omega (arith, here, half_is)))
           ∙ two_rows r few (k * columns + c) (omega (arith, here, half_is))
-          ∙ ap₂ (λ (u p : ℕ). bit_xor (element (get_or old (k * columns + c) nil)) (times u (element (get_or old p nil)))) (sym scalar) behind
+          ∙ ap₂ (λ (u p : ℕ). bit_xor (element (get_or old (k * columns + c) nil)) (times u (element (get_or old p nil)))) (sym scalar)
+          behind
           ∙ ap₂ (λ (u v : ℕ). bit_xor u (times s v))
           (sym (column_word element nil level (suc j) columns c inside old count k (omega (arith, less, twice))))
           (sym (column_word element nil level (suc j) columns c inside old count (2 ^ j + k) (omega (arith, less, twice))))

@@ -62,13 +62,14 @@ module _ (level : ℕ) (low : level ≤ 7) {W : Type 0} (number : W → ℕ) (ni
   wide = pow_pos level
 
   -- coefficients with such values are the only ones
-  are_coefficients : (n columns z : ℕ) (old new : List W) → n ≤ 40 → n ≤ 2 ^ level → length old ≡ 2 ^ n * columns → length new ≡ 2 ^ n * columns
-      → (c : ℕ) → c < columns → HoldWordValues element level z columns c new old → AreWordCoefficients element level z columns c old new
+  are_coefficients : (n columns z : ℕ) (old new : List W) → n ≤ 40 → n ≤ 2 ^ level → length old ≡ 2 ^ n * columns
+      → length new ≡ 2 ^ n * columns → (c : ℕ) → c < columns → HoldWordValues element level z columns c new old → AreWordCoefficients element level z columns c old new
   are_coefficients n columns z old new few staged count same c inside =
       let values = column_long element nil level n columns c inside old count in
-      the_numbers wide (tower_ring level) (level_vectors level low) z (column_of columns c (map element old)) (column_of columns c (map element new))
-      (n, (few, values), staged) (column_long element nil level n columns c inside new same ∙ sym values)
-      (column-fits columns c (map element new) (2 ^ level) (values_fit (2 ^ level) element (λ w. mod-lt (number w) (pow_pos (2 ^ level))) new))
+      the_numbers wide (tower_ring level) (level_vectors level low) z (column_of columns c (map element old))
+      (column_of columns c (map element new)) (n, (few, values), staged) (column_long element nil level n columns c inside new same ∙ sym values)
+      (column-fits columns c (map element new) (2 ^ level)
+      (values_fit (2 ^ level) element (λ w. mod-lt (number w) (pow_pos (2 ^ level))) new))
 
   -- zeros are the values of zeros
   pub zeros_of_zeros : element nil ≡ 0 → (n columns z : ℕ) (words : List W) → n ≤ 40 → n ≤ 2 ^ level → length words ≡ 2 ^ n * columns
@@ -94,8 +95,8 @@ module _ (level : ℕ) (low : level ≤ 7) {W : Type 0} (number : W → ℕ) (ni
 
   -- ---- both halves
 
-  module _ (j columns half : ℕ) (half_is : half ≡ 2 ^ j * columns) (staged : j < 2 ^ level) (t z next : ℕ) (is : t ≡ subspace_value times j z)
-      (next_is : next ≡ at z (2 ^ j)) (old lower upper first second new : List W) (count : length old ≡ 2 ^ suc j * columns)
+  module _ (j columns half : ℕ) (half_is : half ≡ 2 ^ j * columns) (staged : j < 2 ^ level) (t z next : ℕ)
+      (is : t ≡ subspace_value times j z) (next_is : next ≡ at z (2 ^ j)) (old lower upper first second new : List W) (count : length old ≡ 2 ^ suc j * columns)
       (old_parts : old ≡ lower ++ upper) (lower_long : length lower ≡ half) (upper_long : length upper ≡ half)
       (first_long : length first ≡ half) (second_long : length second ≡ half) (whole : length new ≡ 2 ^ suc j * columns)
       (same : length new ≡ length (first ++ second))
@@ -124,8 +125,8 @@ module _ (level : ℕ) (low : level ≤ 7) {W : Type 0} (number : W → ℕ) (ni
         ∙ held element nil level j columns c inside z first lower (first_long ∙ half_is) (lower_long ∙ half_is) lower_is p less
         ∙ value-same (2 ^ level) times wide (tower_ring level) j (slice_index (column_of columns c (map element first)))
         (λ k. bit_xor (a k) (times t (a (2 ^ j + k)))) (at z p)
-        (half_coefficient level low number nil j columns half half_is t new (first ++ second) whole (sym same) holds 0 (lit< tt) first first_long is_first t
-        (scalar_of_first level low t) c inside)
+        (half_coefficient level low number nil j columns half half_is t new (first ++ second) whole (sym same) holds 0 (lit< tt) first first_long
+        is_first t (scalar_of_first level low t) c inside)
         ∙ folded level low j a z p t staged less is
 
     in_upper : HoldWordValues element level next columns c second upper → (p : ℕ) → p < 2 ^ j
@@ -138,8 +139,8 @@ module _ (level : ℕ) (low : level ≤ 7) {W : Type 0} (number : W → ℕ) (ni
         ∙ held element nil level j columns c inside next second upper (second_long ∙ half_is) (upper_long ∙ half_is) upper_is p less
         ∙ value-same (2 ^ level) times wide (tower_ring level) j (slice_index (column_of columns c (map element second)))
         (λ k. bit_xor (a k) (times more (a (2 ^ j + k)))) (at next p)
-        (half_coefficient level low number nil j columns half half_is t new (first ++ second) whole (sym same) holds 1 (lit< tt) second second_long is_second
-        more (scalar_of_second level low t) c inside)
+        (half_coefficient level low number nil j columns half half_is t new (first ++ second) whole (sym same) holds 1 (lit< tt) second second_long
+        is_second more (scalar_of_second level low t) c inside)
         ∙ folded level low j a next p more staged less
         (ap (λ (s : ℕ). bit_xor s 1) is ∙ sym (next_value level low j z staged) ∙ ap (subspace_value times j) (sym next_is))
         ∙ ap (polynomial_value times (suc j) a) next_point
@@ -163,13 +164,15 @@ module _ (level : ℕ) (low : level ≤ 7) {W : Type 0} (number : W → ℕ) (ni
         ]
 
     -- so the coefficients of both halves, and a transform of them as two rows, leave those of all
-    pub known_step : suc j ≤ 40 → HoldWordValues element level z columns c first lower → HoldWordValues element level next columns c second upper
+    pub known_step : suc j ≤ 40 → HoldWordValues element level z columns c first lower
+        → HoldWordValues element level next columns c second upper
         → AreWordCoefficients element level z columns c old new
     known_step few lower_is upper_is = are_coefficients (suc j) columns z old new few (omega (arith, staged)) count whole c inside hold
       where
         hold : HoldWordValues element level z columns c new old
         hold m long p below =
-            let stages : suc j ≡ m = one_exponent (suc j) m (sym (column_long element nil level (suc j) columns c inside new whole) ∙ long) in
+            let stages : suc j ≡ m =
+            one_exponent (suc j) m (sym (column_long element nil level (suc j) columns c inside new whole) ∙ long) in
             let within : p < 2 ^ suc j = subst (λ (e : ℕ). p < 2 ^ e) (sym stages) below in
             column_word element nil level (suc j) columns c inside old count p within
             ∙ at_place lower_is upper_is p within

@@ -65,9 +65,8 @@ pub(crate) fn forward_first<R: StoredBytes, L: Level<R>>(
     forward_first::<R, L>(lower, columns, stage, few, z);
 }
 
-// From the values at the points from `z` on to the coefficients, where the rows from row `known` on hold zeros. Zeros are the values of zeros,
-// so that where the upper half of the rows is zero nothing is done for it. The top stage alone is a transform of two rows, the halves of all
-// words.
+// From the values at the points from `z` on to the coefficients, where the rows from row `known` on hold zeros. Zeros have zeros as their
+// coefficients, so that nothing is done for an upper half of them. The top stage alone is a transform of two rows, the halves of all words.
 #[cycle(known)]
 pub(crate) fn inverse_known<R: StoredBytes, L: Level<R>>(
     words: &mut [R],
@@ -103,7 +102,7 @@ pub(crate) fn inverse_known<R: StoredBytes, L: Level<R>>(
     inverse_strip::<R, L>(words, half, level_shift::<R, L>(z, stage));
 }
 
-// Whether an inverse transform of 2^levels rows, of which so many are known, is done by halves: where a quarter of the rows or more is zero.
+// Whether an inverse transform of 2^levels rows, of which so many are known, is done by halves: where a quarter or more is zero.
 fn is_split(levels: usize, known: usize) -> bool
     requires low { levels ≤ 16 }
     ensures some { result ≡ true → 0 < levels }

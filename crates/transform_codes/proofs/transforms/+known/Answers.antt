@@ -65,10 +65,18 @@ inverse_strip-requires-2 g t c =
     let halves = c.split_at_mut-lower in
     let all : length (c.inverse_known.new.words ++ c.inverse_known-2.new.words) ≡ words =
     let parts = length-append c.inverse_known.new.words c.inverse_known-2.new.words in
-    omega (arith, parts, c.inverse_known.ensures.length, c.inverse_known-2.ensures.length, halves.ensures.front_len, halves.ensures.back_len) in
+    omega (
+      arith,
+      parts,
+      c.inverse_known.ensures.length,
+      c.inverse_known-2.ensures.length,
+      halves.ensures.front_len,
+      halves.ensures.back_len,
+    ) in
     subst (λ (n : ℕ). FitsColumns (2 ^ g.L.Level.LEVEL) (words / 2) n) (sym all)
     (halves_fit (2 ^ g.L.Level.LEVEL) stage columns words (words / 2) c.requires.some (pow_pos g.L.Level.LEVEL)
-    (subst (λ (n : ℕ). words ≡ 2 ^ n * columns) (sym next) c.requires.rows) (half_rows stage c.args.levels columns words next c.requires.rows))
+    (subst (λ (n : ℕ). words ≡ 2 ^ n * columns) (sym next) c.requires.rows)
+    (half_rows stage c.args.levels columns words next c.requires.rows))
 
 pub returns-clause-coefficients : goal.returns-clause-coefficients
 returns-clause-coefficients g t c =
@@ -100,11 +108,12 @@ returns-clause-coefficients g t c =
       halves.ensures.front_len,
       halves.ensures.back_len,
     ) in
-    let behind = point_behind (2 ^ level) cantor_vector z stage c.power_of-rows.result (number c.point_of.result) (number c.xor-behind.result)
-    c.power_of-rows.ensures.power c.point_of.ensures c.xor-behind.ensures in
+    let behind = point_behind (2 ^ level) cantor_vector z stage c.power_of-rows.result (number c.point_of.result)
+    (number c.xor-behind.result) c.power_of-rows.ensures.power c.point_of.ensures c.xor-behind.ensures in
     λ k inside.
-    known_step level g.L.Level.few number zero stage columns half half_is (omega (arith, c.requires.points, next)) (number c.level_shift.result) z
-    (number c.xor-behind.result) c.level_shift.ensures behind old halves.result.0.now halves.result.1.now first second new count halves.ensures.value
-    halves.ensures.front_len back (c.inverse_known.ensures.length ∙ halves.ensures.front_len) (c.inverse_known-2.ensures.length ∙ back)
-    (same ∙ count) c.inverse_strip-2.ensures.length (λ i within. (c.inverse_strip-2.ensures.coefficients i within).have) k inside
-    (omega (arith, c.requires.low, next)) (c.inverse_known.ensures.coefficients k inside).have (c.inverse_known-2.ensures.coefficients k inside).have
+    known_step level g.L.Level.few number zero stage columns half half_is (omega (arith, c.requires.points, next))
+    (number c.level_shift.result) z (number c.xor-behind.result) c.level_shift.ensures behind old halves.result.0.now halves.result.1.now first
+    second new count halves.ensures.value halves.ensures.front_len back (c.inverse_known.ensures.length ∙ halves.ensures.front_len)
+    (c.inverse_known-2.ensures.length ∙ back) (same ∙ count) c.inverse_strip-2.ensures.length
+    (λ i within. (c.inverse_strip-2.ensures.coefficients i within).have) k inside (omega (arith, c.requires.low, next))
+    (c.inverse_known.ensures.coefficients k inside).have (c.inverse_known-2.ensures.coefficients k inside).have
