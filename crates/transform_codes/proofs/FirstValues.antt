@@ -84,6 +84,13 @@ module _ (level : ℕ) (low : level ≤ 7) where
       let some = pow_pos j in
       values_by_bit j z (2 ^ j) staged (omega (arith, some, twice)) ∙ ap (bit_xor (subspace_value times j z)) (bit_at-pow_same j)
 
+  -- the scalars of two rows
+  pub scalar_of_first : (t : ℕ) → t ≡ subspace_value times 0 (at t 0)
+  scalar_of_first t = first_subspace_value (tower_mul level) t ∙ sym (first_values 0 t 0 wide (lit< tt))
+
+  pub scalar_of_second : (t : ℕ) → bit_xor t 1 ≡ subspace_value times 0 (at t 1)
+  scalar_of_second t = ap (λ (s : ℕ). bit_xor s 1) (first_subspace_value (tower_mul level) t) ∙ sym (next_value 0 t wide)
+
   -- so they are the values of half as many coefficients
   pub folded : (j : ℕ) (c : ℕ → ℕ) (z p t : ℕ) → j < 2 ^ level → p < 2 ^ j → t ≡ subspace_value times j z
       → polynomial_value times j (λ k. bit_xor (c k) (times t (c (2 ^ j + k)))) (at z p) ≡ polynomial_value times (suc j) c (at z p)
@@ -138,32 +145,45 @@ module _ (level : ℕ) (low : level ≤ 7) where
           omega (arith, long, twice, half_is)
 
       -- a transform of these two rows adds a multiple of the upper one to the lower one
-      two_rows : (i : ℕ) → i < half → element (get_or mid i nil)
-          ≡ bit_xor (element (get_or old i nil)) (times t (element (get_or old (half + i) nil)))
-      two_rows i within =
-          let first : i ≡ 0 * half + i = omega arith in
+      two_rows : (r : ℕ) → r < 2 ^ 1 → (i : ℕ) → i < half → element (get_or mid (r * half + i) nil)
+          ≡ bit_xor (element (get_or old i nil)) (times (subspace_value times 0 (at t r)) (element (get_or old (half + i) nil)))
+      two_rows r few i within =
+          let first : 0 * half + i ≡ i = omega arith in
           let second : 1 * half + i ≡ half + i = omega arith in
-          let x : ℕ = at t 0 in
+          let x : ℕ = at t r in
           let d : ℕ → ℕ = slice_index (column_of half i (map element old)) in
-          ap (λ (s : ℕ). element (get_or mid s nil)) first
-          ∙ held element nil level 1 half i within t old mid (halves old count) (halves mid (same ∙ count)) (holds i within) 0 (lit< tt)
+          held element nil level 1 half i within t old mid (halves old count) (halves mid (same ∙ count)) (holds i within) r few
           ∙ value-halves (2 ^ level) times wide (tower_ring level) 0 d x
-          ∙ ap₂ bit_xor
-          (value-one (2 ^ level) times wide (tower_ring level) d x (fits i within 0 (lit< tt)) ∙ row i within 0 (lit< tt)
-          ∙ ap (λ (s : ℕ). element (get_or old s nil)) (sym first))
-          (ap₂ times scalar
-          (value-one (2 ^ level) times wide (tower_ring level) (λ n. d (1 + n)) x (fits i within 1 (lit< tt)) ∙ row i within 1 (lit< tt)
-          ∙ ap (λ (s : ℕ). element (get_or old s nil)) second))
+          ∙ ap₂ (λ (u v : ℕ). bit_xor u (times (subspace_value times 0 x) v))
+          (value-one (2 ^ level) times wide (tower_ring level) d x (fits 0 (lit< tt)) ∙ row 0 (lit< tt)
+          ∙ ap (λ (s : ℕ). element (get_or old s nil)) first)
+          (value-one (2 ^ level) times wide (tower_ring level) (λ n. d (1 + n)) x (fits 1 (lit< tt)) ∙ row 1 (lit< tt)
+          ∙ ap (λ (s : ℕ). element (get_or old s nil)) second)
         where
-          row : (i : ℕ) → i < half → (r : ℕ) → r < 2 ^ 1
-              → slice_index (column_of half i (map element old)) r ≡ element (get_or old (r * half + i) nil)
-          row i within r small = column_word element nil level 1 half i within old (halves old count) r small
+          row : (q : ℕ) → q < 2 ^ 1 → slice_index (column_of half i (map element old)) q ≡ element (get_or old (q * half + i) nil)
+          row q small = column_word element nil level 1 half i within old (halves old count) q small
 
-          fits : (i : ℕ) → i < half → (r : ℕ) → r < 2 ^ 1 → slice_index (column_of half i (map element old)) r < 2 ^ 2 ^ level
-          fits i within r small = subst (λ (v : ℕ). v < 2 ^ 2 ^ level) (sym (row i within r small)) (element-lt (get_or old (r * half + i) nil))
+          fits : (q : ℕ) → q < 2 ^ 1 → slice_index (column_of half i (map element old)) q < 2 ^ 2 ^ level
+          fits q small = subst (λ (v : ℕ). v < 2 ^ 2 ^ level) (sym (row q small)) (element-lt (get_or old (q * half + i) nil))
 
-          scalar : subspace_value times 0 (at t 0) ≡ t
-          scalar = first_values 0 t 0 wide (lit< tt) ∙ sym (first_subspace_value (tower_mul level) t)
+      -- in each column a half of the rows has sums of coefficients and multiples
+      pub half_coefficient : (r : ℕ) → r < 2 ^ 1 → (part : List W) → length part ≡ half
+          → ((i : ℕ) → i < half → get_or part i nil ≡ get_or mid (r * half + i) nil) → (s : ℕ) → s ≡ subspace_value times 0 (at t r)
+          → (c : ℕ) → c < columns → (k : ℕ) → k < 2 ^ j → slice_index (column_of columns c (map element part)) k
+          ≡ bit_xor (slice_index (column_of columns c (map element old)) k)
+          (times s (slice_index (column_of columns c (map element old)) (2 ^ j + k)))
+      half_coefficient r few part long is_part s scalar c inside k less =
+          let twice = two-pow-succ j in
+          let here = digits_lt less inside in
+          let behind : half + (k * columns + c) ≡ (2 ^ j + k) * columns + c = omega (arith, half_is) in
+          column_word element nil level j columns c inside part (long ∙ half_is) k less
+          ∙ ap element (is_part (k * columns + c) (omega (arith, here, half_is)))
+          ∙ two_rows r few (k * columns + c) (omega (arith, here, half_is))
+          ∙ ap₂ (λ (u p : ℕ). bit_xor (element (get_or old (k * columns + c) nil)) (times u (element (get_or old p nil)))) (sym scalar)
+          behind
+          ∙ ap₂ (λ (u v : ℕ). bit_xor u (times s v))
+          (sym (column_word element nil level (suc j) columns c inside old count k (omega (arith, less, twice))))
+          (sym (column_word element nil level (suc j) columns c inside old count (2 ^ j + k) (omega (arith, less, twice))))
 
       -- so the values of the polynomials of the lower half are those of the whole
       pub first_step : (few z : ℕ) → few ≤ j → j < 2 ^ level → t ≡ subspace_value times j z → (lower rest new others : List W)
@@ -173,7 +193,8 @@ module _ (level : ℕ) (low : level ≤ 7) where
           ap element (get_or_append_left new others nil (p * columns + c) (omega (arith, place, also, long, half_is)))
           ∙ values p below
           ∙ value-same (2 ^ level) times wide (tower_ring level) j (slice_index (column_of columns c (map element lower)))
-          (λ k. bit_xor (a k) (times t (a (2 ^ j + k)))) (at z p) coefficient
+          (λ k. bit_xor (a k) (times t (a (2 ^ j + k)))) (at z p)
+          (half_coefficient 0 (lit< tt) lower long is_lower t (scalar_of_first t) c inside)
           ∙ folded j a z p t staged small is
         where
           small : p < 2 ^ j
@@ -185,23 +206,11 @@ module _ (level : ℕ) (low : level ≤ 7) where
           a : ℕ → ℕ
           a = slice_index (column_of columns c (map element old))
 
-          of_old : (k : ℕ) → k < 2 ^ suc j → a k ≡ element (get_or old (k * columns + c) nil)
-          of_old k less = column_word element nil level (suc j) columns c inside old count k less
-
-          coefficient : (k : ℕ) → k < 2 ^ j
-              → slice_index (column_of columns c (map element lower)) k ≡ bit_xor (a k) (times t (a (2 ^ j + k)))
-          coefficient k less =
-              let twice = two-pow-succ j in
-              let here = digits_lt less inside in
-              let behind : half + (k * columns + c) ≡ (2 ^ j + k) * columns + c = omega (arith, half_is) in
-              column_word element nil level j columns c inside lower (long ∙ half_is) k less
-              ∙ sym
-              (ap (λ (l : List W). element (get_or l (k * columns + c) nil)) parts
-              ∙ ap element (get_or_append_left lower rest nil (k * columns + c) (omega (arith, here, long, half_is))))
-              ∙ two_rows (k * columns + c) (omega (arith, here, half_is))
-              ∙ ap (λ (s : ℕ). bit_xor (element (get_or old (k * columns + c) nil)) (times t (element (get_or old s nil)))) behind
-              ∙ ap₂ (λ (u v : ℕ). bit_xor u (times t v)) (sym (of_old k (omega (arith, less, twice))))
-              (sym (of_old (2 ^ j + k) (omega (arith, less, twice))))
+          is_lower : (i : ℕ) → i < half → get_or lower i nil ≡ get_or mid (0 * half + i) nil
+          is_lower i within =
+              let first : i ≡ 0 * half + i = omega arith in
+              sym (ap (λ (l : List W). get_or l i nil) parts ∙ get_or_append_left lower rest nil i (omega (arith, within, long)))
+              ∙ ap (λ (s : ℕ). get_or mid s nil) first
 
     -- where no stage is left out
     pub first_all : (n few columns z : ℕ) (old new : List W) → n ≡ few → length old ≡ 2 ^ n * columns → length new ≡ length old

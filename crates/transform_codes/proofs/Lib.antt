@@ -9,6 +9,7 @@ mod DerivedColumns
 mod DerivedValues
 mod FirstValues
 mod KnownSums
+mod KnownValues
 mod LocatorFacts
 mod LostCounts
 mod MendedColumns

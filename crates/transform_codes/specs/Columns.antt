@@ -72,6 +72,11 @@ HoldStrip zero count size start width shards until values =
     → (i < count → slice_index_or values (i * width + c) zero ≡ slice_index_or shards (i * size + (start + c)) zero)
     × (count ≤ i → slice_index_or values (i * width + c) zero ≡ zero)
 
+-- the rows from row `from` on, of so many rows of `columns` words, hold zeros
+abbrev pub HoldZeros : {W : Type 0} → W → ℕ → ℕ → ℕ → List W → Type 0
+HoldZeros zero columns from rows words =
+    (i c : ℕ) → from ≤ i → i < rows → c < columns → slice_index_or words (i * columns + c) zero ≡ zero
+
 -- column c is none of a strip
 abbrev pub IsOutside : ℕ → ℕ → ℕ → Type 0
 IsOutside start width c = (c < start) ⊎ (start + width ≤ c)

@@ -9,7 +9,7 @@ use crate::codec::{TransformCode, levels_of};
 use crate::columns::{gather, scatter};
 use crate::points::point_of;
 use crate::strips::{Strip, columns_at_once, least, strip_at};
-use crate::transforms::{forward_first, inverse_strip};
+use crate::transforms::{forward_first, inverse_known};
 use additive_transforms::StoredBytes;
 use word_tower::Level;
 
@@ -35,7 +35,13 @@ pub(crate) fn interpolate<R: StoredBytes, L: Level<R>>(
         code.data_shards,
         strip,
     );
-    inverse_strip::<R, L>(coefficients, strip.width, R::ZERO);
+    inverse_known::<R, L>(
+        coefficients,
+        strip.width,
+        code.levels,
+        code.data_shards,
+        R::ZERO,
+    );
 }
 
 // Writes the symbols of parity in the columns of a strip, the values of the polynomials of the coefficients, by blocks of as many points as

@@ -12,7 +12,7 @@ use crate::derivatives::derive_first;
 use crate::points::places_to_last;
 use crate::products::multiply_rows;
 use crate::strips::Strip;
-use crate::transforms::{forward_strip, inverse_strip};
+use crate::transforms::{forward_strip, inverse_known};
 use additive_transforms::StoredBytes;
 use field_base::Unsigned;
 use word_tower::Level;
@@ -91,7 +91,10 @@ pub(crate) fn restore_strip<R: StoredBytes, L: Level<R>>(
     let width = strip.width;
     read_strip(values, code, shards, parity, strip);
     multiply_rows::<R, L>(values, count, width, factors, code, present, false);
-    inverse_strip::<R, L>(values, width, R::ZERO);
+    // Behind the points of the parity the product is 0.
+    let first = code.coefficient_count();
+    let known = first + code.parity_shards;
+    inverse_known::<R, L>(values, width, code.all_levels, known, R::ZERO);
     // Up to the last lost symbol.
     let reach = levels_of(places_to_last(code, present));
     let words = derive_first(values, width, code.all_levels, reach);
@@ -106,7 +109,7 @@ pub(crate) fn restore_strip<R: StoredBytes, L: Level<R>>(
         present,
         code.parity_shards,
         strip,
-        code.coefficient_count(),
+        first,
         code.data_shards,
     );
 }

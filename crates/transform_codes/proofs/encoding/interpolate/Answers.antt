@@ -15,13 +15,13 @@ returns-clause-of_data g c =
     let code = c.args.code.now in
     let strip = c.args.strip in
     let values = c.gather.new.values in
-    let words = c.inverse_strip.new.words in
+    let words = c.inverse_known.new.words in
     let long : length values ≡ 2 ^ code.levels * strip.width = c.gather.ensures.long ∙ c.requires.count in
-    let count : length words ≡ 2 ^ code.levels * strip.width = c.inverse_strip.ensures.length ∙ long in
+    let count : length words ≡ 2 ^ code.levels * strip.width = c.inverse_known.ensures.length ∙ long in
     let nothing : number c.ZERO.result ≡ 0 = ap number c.ZERO.ensures ∙ g.R.Stored.zero_number in
     let none : element zero ≡ 0 = ap (λ (x : ℕ). x % 2 ^ 2 ^ level) g.R.Stored.zero_number ∙ mod-eq_of_lt (pow_pos (2 ^ level)) in
     let strip_is = subst (λ (u : ℕ). HoldStrip zero code.data_shards strip.size strip.start strip.width c.args.shards.now u values)
     c.coefficient_count.ensures c.gather.ensures.strip in
     λ k inside.
     of_data element zero level code.levels strip.width k inside code.data_shards strip.size strip.start c.args.shards.now values words
-    (number c.ZERO.result) nothing count long strip_is (c.inverse_strip.ensures.coefficients k inside).have code.padded.enough none
+    (number c.ZERO.result) nothing count long strip_is (c.inverse_known.ensures.coefficients k inside).have code.padded.enough none

@@ -16,8 +16,8 @@ split_at_mut-symbols-requires g c =
     let fewer : c.levels_of-reach.result ≤ r =
     c.levels_of-reach.ensures.padded.least r (omega (arith, c.places_to_last.ensures.few, c.requires.fit.room)) in
     let more : 2 ^ c.levels_of-reach.result * width ≤ 2 ^ r * width = mul-le-mul_right width (pow-le-pow_right (lit< tt) fewer) in
-    let long : length c.inverse_strip.new.words ≡ 2 ^ r * width =
-    c.inverse_strip.ensures.length ∙ c.multiply_rows.ensures.long ∙ c.read_strip.ensures.long ∙ c.requires.rows in
+    let long : length c.inverse_known.new.words ≡ 2 ^ r * width =
+    c.inverse_known.ensures.length ∙ c.multiply_rows.ensures.long ∙ c.read_strip.ensures.long ∙ c.requires.rows in
     omega (arith, c.derive_first-words.ensures.words, c.derive_first-words.ensures.long, long, more)
 
 pub returns-clause-restored : goal.returns-clause-restored
@@ -42,7 +42,7 @@ returns-clause-restored g c =
     let factors = c.args.factors.now in
     let words = c.read_strip.new.values in
     let products = c.multiply_rows.new.values in
-    let first = c.inverse_strip.new.words in
+    let first = c.inverse_known.new.words in
     let reach = c.levels_of-reach.result in
     let halves = c.split_at_mut-symbols in
     let slopes = halves.result.0.now in
@@ -54,7 +54,7 @@ returns-clause-restored g c =
     let fewer : reach ≤ r = c.levels_of-reach.ensures.padded.least r (omega (arith, c.places_to_last.ensures.few, room)) in
     let words_long : length words ≡ 2 ^ r * width = c.read_strip.ensures.long ∙ c.requires.rows in
     let products_long : length products ≡ 2 ^ r * width = c.multiply_rows.ensures.long ∙ words_long in
-    let first_long : length first ≡ 2 ^ r * width = c.inverse_strip.ensures.length ∙ products_long in
+    let first_long : length first ≡ 2 ^ r * width = c.inverse_known.ensures.length ∙ products_long in
     let slopes_long : length slopes ≡ 2 ^ reach * width = halves.ensures.front_len ∙ c.derive_first-words.ensures.words in
     let slopes_are = derived_front number zero r reach width first c.derive_first-words.new.values slopes others c.derive_first-words.ensures.derived
     halves.ensures.value slopes_long in
@@ -68,7 +68,7 @@ returns-clause-restored g c =
     values_long (λ p below. c.read_strip.ensures.words p o below inside)
     (subst (λ (q : ℕ). AreRowProducts number zero level width q lost false factors words products) c.point_count-count.ensures
     c.multiply_rows.ensures.products)
-    (c.inverse_strip.ensures.coefficients o inside).have slopes_are (c.forward_strip.ensures.values o inside)
+    (c.inverse_known.ensures.coefficients o inside).have slopes_are (c.forward_strip.ensures.values o inside)
     (subst (λ (q : ℕ). AreRowProducts number zero level width q lost true factors values symbols) c.power_of-rows.ensures.power
     c.multiply_rows-2.ensures.products)
     (λ p below known.
@@ -83,7 +83,7 @@ returns-clause-restored g c =
       data_restored element zero level n k m size start width o (2 ^ n) present shards parity c.mend.new.shards c.mend-2.new.shards all
           symbol word_parity word strip.inside inside padded (omega arith)
           (λ p within absent. restored p (reached p within absent) absent) data_known c.mend.ensures.mended,
-      parity_restored element zero level n k m size start width o c.coefficient_count.result present shards parity c.mend.new.shards
-          c.mend-2.new.shards all symbol word_parity word strip.inside inside padded c.coefficient_count.ensures
+      parity_restored element zero level n k m size start width o c.coefficient_count-first.result present shards parity c.mend.new.shards
+          c.mend-2.new.shards all symbol word_parity word strip.inside inside padded c.coefficient_count-first.ensures
           (λ p within absent. restored p (reached p within absent) absent) parity_known c.mend-2.ensures.mended,
     )
