@@ -1,6 +1,7 @@
 //! Tests of transcripts and protocols. Challengers of elements: scripts and searches with the answers of the Rust crate p3-binary-field
 //! 0.8.0, doubles that refuse, and memory that is refused. Code words by the transform; openings of Merkle trees, of many rows and of
-//! tables by columns, and provers of sum-check and of zero-checks, honest and cheating. The crate has nothing to call.
+//! tables by columns, at one point and at several; provers of sum-check and of zero-checks, honest and cheating.
+//! The crate has nothing to call.
 #![tactic(auto)]
 
 #[cfg(test)]

@@ -4,6 +4,7 @@ mod code_words;
 mod far_matrices;
 mod honest;
 mod joint;
+mod many_points;
 mod openings;
 mod rows;
 mod tables;
