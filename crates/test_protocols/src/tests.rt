@@ -7,5 +7,6 @@ mod joint;
 mod many_points;
 mod openings;
 mod rows;
+mod small;
 mod tables;
 mod zeros;

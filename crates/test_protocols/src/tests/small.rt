@@ -1,0 +1,208 @@
+// Openings of tables of bits and of bytes, which four elements of 32 bits pack, over SHA-256: what is opened is accepted, and is refused
+// where one element of it was changed. A verifier is refused memory in turn.
+ghost use Rattle.std.specs.Prelude.{◌≡◌, ◌^◌, ◌≤◌};
+
+use field_base::traits::PrimeCharacteristicRing;
+use field_bytes::ShortElement;
+use field_element::{BinaryField8, BinaryField32};
+use field_space::BasedVectorSpace;
+use linked_list_allocator::LocalHeap;
+use protocols::ProtocolError;
+use protocols::commitment_scheme::{ClaimedValue, Parameters, ValueOpening, commit};
+use protocols::small_tables::{OpenedSmall, SmallField, SmallOpening, open_small, verify_small};
+use std::alloc::{AllocError, Allocator, Global};
+use test_support::{Ending, Growing, Rest, is_refused_in_turn};
+use transcript_elements::{BinaryChallenger, ByteLevel};
+use transcripts::{HashChallenger, Sha256Hasher};
+
+// A challenger over SHA-256.
+type Hashed<F, A> = BinaryChallenger<F, HashChallenger<Sha256Hasher, A>>;
+
+// What is changed between the prover and the verifier. To change it once more gives it back.
+#[derive(Clone, Copy)]
+enum Change {
+    Value,
+    Part,
+    Message,
+    Packed,
+    Row,
+}
+
+static CHANGES: [Change; 5] = [
+    Change::Value,
+    Change::Part,
+    Change::Message,
+    Change::Packed,
+    Change::Row,
+];
+
+// What is opened of a table of small elements, and where.
+#[derive(Drop)]
+struct Opening<F: ShortElement> {
+    small: SmallField<F>,
+    root: [u8; 32],
+    point: Vec<F>,
+    sent: OpenedSmall<F, Global>,
+}
+
+// Elements of which each is the one before times the generator, and 1.
+fn elements_from<F: ByteLevel>(
+    alloc: Global,
+    first: F,
+    count: usize,
+) -> Result<Vec<F>, AllocError> {
+    let mut elements = Vec::new(alloc);
+    let mut element = first;
+    for _ in 0..count {
+        elements.push(element)?;
+        element = element * F::GENERATOR + F::ONE;
+    }
+    Ok(elements)
+}
+
+// A challenger that has observed nothing.
+fn challenger<F: ByteLevel, A: Allocator + Copy>(alloc: A) -> Hashed<F, A> {
+    BinaryChallenger::from_hasher(Vec::new(alloc), Sha256Hasher)
+}
+
+// The opening of a table of four packed elements.
+fn made_opening<F: ByteLevel + BasedVectorSpace<F>>(
+    alloc: Global,
+    small: SmallField<F>,
+) -> Result<Opening<F>, ProtocolError>
+    requires { 26 ≤ F.width }
+{
+    let sizes = Parameters::new(2, 2);
+    let coordinates = 2 + small.levels;
+    let table = elements_from(alloc, F::GENERATOR, 4)?;
+    let point = elements_from(alloc, F::ONE + F::GENERATOR, coordinates)?;
+    if table.len() != 4 || point.len() != coordinates {
+        return Err(ProtocolError::Shape);
+    }
+    let held = commit(alloc, &Sha256Hasher, &sizes, table.as_slice())?;
+    let root = held.tree.commitment().root;
+    let mut prover = challenger::<F, Global>(alloc);
+    let (packed, at) = (table.as_slice(), point.as_slice());
+    let sent = open_small(alloc, &mut prover, &sizes, &small, &held, packed, at)?;
+    Ok(Opening {
+        small,
+        root,
+        point,
+        sent,
+    })
+}
+
+// Whether an opening is accepted by a new verifier. Its field has to have 26 bits or more.
+fn is_accepted<F: ByteLevel + BasedVectorSpace<F>, A: Allocator + Copy>(
+    alloc: A,
+    opening: &Opening<F>,
+) -> Result<bool, ProtocolError> {
+    let sizes = Parameters::new(2, 2);
+    let (small, sent, point) = (&opening.small, &opening.sent, opening.point.as_slice());
+    if F::bits() < 26 || point.len() != 2 + small.levels {
+        return Err(ProtocolError::Shape);
+    }
+    let value = sent.value;
+    let claim = ClaimedValue { point, value };
+    let packed = &sent.packed;
+    let proof = SmallOpening {
+        parts: sent.parts.as_slice(),
+        messages: sent.messages.as_slice(),
+        value: packed.value,
+        packed: ValueOpening {
+            row: packed.row.as_slice(),
+            witness: packed.witness,
+            columns: packed.columns.as_slice(),
+            nodes: packed.nodes.as_slice(),
+        },
+    };
+    let (hasher, root) = (&Sha256Hasher, opening.root);
+    let mut verifier = challenger::<F, A>(alloc);
+    verify_small(
+        alloc,
+        hasher,
+        &mut verifier,
+        &sizes,
+        small,
+        root,
+        &claim,
+        &proof,
+    )
+}
+
+// Adds 1 to the element at a place, if there is one.
+fn increment<F: ByteLevel>(elements: &mut [F], place: usize) {
+    if let Some(element) = elements.get_mut(place) {
+        *element = *element + F::ONE;
+    }
+}
+
+fn apply<F: ByteLevel>(sent: &mut OpenedSmall<F, Global>, change: Change) {
+    match change {
+        Change::Value => sent.value = sent.value + F::ONE,
+        Change::Part => increment(sent.parts.as_mut_slice(), 1),
+        Change::Message => increment(sent.messages.as_mut_slice(), 2),
+        Change::Packed => sent.packed.value = sent.packed.value + F::ONE,
+        Change::Row => increment(sent.packed.row.as_mut_slice(), 0),
+    }
+}
+
+impl<F: ByteLevel + BasedVectorSpace<F>> Growing for Opening<F> {
+    fn run<'a>(&self, heap: &'a LocalHeap, rest: Rest<'a>) -> Result<Ending, AllocError> {
+        let accepted = is_accepted(heap, self);
+        drop(rest);
+        Ok(match accepted {
+            Ok(accepted) => Ending::of(true, accepted),
+            Err(ProtocolError::Memory) => Ending::Refused,
+            Err(_) => Ending::Wrong,
+        })
+    }
+}
+
+// Whether a table over a small field is opened, what is opened is accepted exactly as it was sent, and a verifier may be refused memory.
+fn is_opened<F: ByteLevel + BasedVectorSpace<F>>(
+    alloc: Global,
+    small: SmallField<F>,
+) -> Result<bool, ProtocolError>
+    requires { 26 ≤ F.width }
+{
+    let mut opening = made_opening(alloc, small)?;
+    let mut told = true;
+    for it in CHANGES {
+        apply(&mut opening.sent, it);
+        let accepted = is_accepted(alloc, &opening)?;
+        told = told && !accepted;
+        apply(&mut opening.sent, it);
+    }
+    Ok(told && is_accepted(alloc, &opening)? && is_refused_in_turn(alloc, &opening, true))
+}
+
+// The same of bits.
+fn are_bits_opened<F: ByteLevel + BasedVectorSpace<F>>(alloc: Global) -> Result<bool, ProtocolError>
+    requires { F.width ≡ 2 ^ 5 }
+{
+    is_opened(alloc, SmallField::<F>::bits(5))
+}
+
+// The same of bytes.
+fn are_bytes_opened<
+    F: ByteLevel + BasedVectorSpace<F> + BasedVectorSpace<S>,
+    S: PrimeCharacteristicRing,
+>(alloc: Global) -> Result<bool, ProtocolError>
+    requires points { 26 ≤ F.width }
+    requires bits { S.width ≡ 8 }
+    requires dimension { F.BasedVectorSpace-2.DIMENSION ≡ 2 ^ 2 }
+{
+    is_opened(alloc, SmallField::<F>::of::<S>(8, 2))
+}
+
+#[test]
+fn tables_of_bits_are_opened(rt: HostRuntime) {
+    assert!(rt; matches!(are_bits_opened::<BinaryField32>(rt.alloc()), Ok(true)));
+}
+
+#[test]
+fn tables_of_bytes_are_opened(rt: HostRuntime) {
+    let told = are_bytes_opened::<BinaryField32, BinaryField8>(rt.alloc());
+    assert!(rt; matches!(told, Ok(true)));
+}
