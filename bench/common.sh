@@ -31,7 +31,7 @@ copy_crates() {
 
 # copy_texts FROM TO: copies src/ and proofs/ of a crate that stands as text.
 copy_texts() {
-    (cd "$1" && find src proofs -name '*.txt') | while read -r text; do
+    (cd "$1" && for part in src proofs; do if [ -d $part ]; then find $part -name '*.txt'; fi; done) | while read -r text; do
         case $text in src/*) end=rt ;; *) end=antt ;; esac
         mkdir -p "$2/$(dirname "$text")"
         cp "$1/$text" "$2/${text%.txt}.$end"
