@@ -69,8 +69,7 @@ uint32_t bf_hw_g128_square(
 uint32_t bf_hw_g128_inverse(
     const bf_u128 *values, size_t values_length, bf_u128 *inverses, size_t inverses_length) BF_CHECKED;
 
-/* As bf_g128_batch_inverse. inverses: the same as inverse; of few elements of p64 and g128 by one inverse and
- * three products an element. */
+/* As bf_g128_batch_inverse. inverses: the same as inverse. */
 uint32_t bf_hw_g128_batch_inverse(
     const bf_u128 *values, size_t values_length, bf_u128 *inverses, size_t inverses_length) BF_CHECKED;
 
@@ -161,8 +160,7 @@ uint32_t bf_hw_p64_square(
 uint32_t bf_hw_p64_inverse(
     const uint64_t *values, size_t values_length, uint64_t *inverses, size_t inverses_length) BF_CHECKED;
 
-/* As bf_p64_batch_inverse. inverses: the same as inverse; of few elements of p64 and g128 by one inverse and three
- * products an element. */
+/* As bf_p64_batch_inverse. inverses: the same as inverse. */
 uint32_t bf_hw_p64_batch_inverse(
     const uint64_t *values, size_t values_length, uint64_t *inverses, size_t inverses_length) BF_CHECKED;
 

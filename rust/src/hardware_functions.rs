@@ -55,8 +55,7 @@ unsafe extern "C" {
         inverses: *mut [u64; 2],
         inverses_length: usize,
     ) -> u32;
-    /// As bf_g128_batch_inverse. inverses: the same as inverse; of few elements of p64 and g128 by one inverse and
-    /// three products an element.
+    /// As bf_g128_batch_inverse. inverses: the same as inverse.
     pub fn bf_hw_g128_batch_inverse(
         values: *const [u64; 2],
         values_length: usize,
@@ -198,8 +197,7 @@ unsafe extern "C" {
         inverses: *mut u64,
         inverses_length: usize,
     ) -> u32;
-    /// As bf_p64_batch_inverse. inverses: the same as inverse; of few elements of p64 and g128 by one inverse and
-    /// three products an element.
+    /// As bf_p64_batch_inverse. inverses: the same as inverse.
     pub fn bf_hw_p64_batch_inverse(
         values: *const u64,
         values_length: usize,
