@@ -6,6 +6,7 @@ ghost use Rattle.any_field.proofs.ContextFields.{field-at};
 ghost use Rattle.error_codes.specs.ByteFields.{byte_times};
 ghost use Rattle.error_codes.specs.FieldCodes.{AreSymbols};
 ghost use Rattle.error_codes.specs.ByteFieldLemmas.{bytes-narrow, bytes-wide, bytes_are_fields};
+ghost use Rattle.error_codes.specs.declared.error.CodeError.TheVariants.{TooLong};
 
 use crate::byte_field::{self, ByteField};
 use crate::error::CodeError;
@@ -49,6 +50,7 @@ impl WordField {
     pub fn new(field: BinaryExtension) -> Result<WordField, CodeError>
         ensures made { IfOk result (λ words. words.field ≡ field) }
         ensures refused { IfErr result (λ error. 16 < field.degree) }
+        ensures long { IfErr result (λ error. error ≡ TooLong) }
     {
         if field.degree() > 16 {
             return Err(CodeError::TooLong);

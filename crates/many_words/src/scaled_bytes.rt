@@ -14,7 +14,10 @@ use std::simd::prelude::*;
 use word_tables::{entry_sums, map_bytes};
 
 /// The least number of bytes that are mapped.
-pub(crate) const LEAST_MAPPED: usize = 32;
+pub(crate) const LEAST_MAPPED: usize = 16;
+
+// The bytes of a block.
+const BLOCK: usize = 32;
 
 /// Multiplies each byte by the scalar.
 pub(crate) fn multiply_all<K: FieldKernel<u8>>(bytes: &mut [u8], scalar: u8)
@@ -33,6 +36,9 @@ pub(crate) fn write_all<K: FieldKernel<u8>>(bytes: &[u8], scalar: u8, products: 
     if products.len() < LEAST_MAPPED {
         products.copy_from_slice(bytes);
         multiply_each_by::<u8, u8, K>(products, scalar);
+    } else if products.len() < BLOCK {
+        products.copy_from_slice(bytes);
+        multiply_all::<K>(products, scalar);
     } else {
         write_mapped::<K>(bytes, scalar, products);
     }
@@ -74,8 +80,26 @@ pub(crate) fn add_all<K: FieldKernel<u8>>(sums: &mut [u8], bytes: &[u8], scalar:
 {
     if sums.len() < LEAST_MAPPED {
         change_all_by::<u8, u8, K, ScaledSum<u8>>(sums, bytes, &ScaledSum { scalar });
+    } else if sums.len() < BLOCK {
+        add_few::<K>(sums, bytes, scalar);
     } else {
         add_mapped::<K>(sums, bytes, scalar);
+    }
+}
+
+// The same of at most a block.
+fn add_few<K: FieldKernel<u8>>(sums: &mut [u8], bytes: &[u8], scalar: u8)
+    requires same { length bytes.now ≡ length sums.old }
+    requires block { length sums.old ≤ 32 }
+    ensures { EachOfTwo (field_of itself K.width K.product K.generator) (λ sum x next. next ≡ bit_xor sum (K.product scalar x)) sums.old
+        bytes.now sums.new }
+{
+    let mut products = [0; BLOCK];
+    let (products, _rest) = products.split_at_mut(bytes.len());
+    products.copy_from_slice(bytes);
+    multiply_all::<K>(products, scalar);
+    for place in 0..sums.len() {
+        sums[place] ^= products[place];
     }
 }
 
