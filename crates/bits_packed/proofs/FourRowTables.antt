@@ -23,7 +23,7 @@ use Rattle.bits_packed.specs.BitMatrices.{HasEntries, HasTables, IsKeptOutside, 
 -- ---- sums
 
 -- one term more
-sum_next : (f : ℕ → ℕ) (n : ℕ) → sum_below f (n + 1) ≡ bit_xor (sum_below f n) (f n)
+pub sum_next : (f : ℕ → ℕ) (n : ℕ) → sum_below f (n + 1) ≡ bit_xor (sum_below f n) (f n)
 unfolding sum_below
 sum_next f n = let e : n + 1 ≡ suc n = omega arith in ap (sum_below f) e
 
@@ -243,21 +243,16 @@ row_from inner words row k place values v is =
           ∙ row_behind inner words values inner v (le_refl inner) ∙ sym (row_behind inner words values (row + k) v past)
     ]
 
--- bits of the words of the product
-pub product_bits : (rows inner left_words words : ℕ) (left right now : List ℕ) → left_words ≡ words_for inner
-    → ((i v : ℕ) → i < rows → v < words → word_of words now i v ≡ partial_word inner left_words words left right (64 * left_words) i v)
-    → IsMatrixProduct (tower_mul 0) rows inner (64 * words) (bit_entry left_words left) (bit_entry words right) (bit_entry words now)
-product_bits rows inner left_words words left right now is total i j inside within =
-    ap (λ (x : ℕ). bit_at x (j % 64)) (total i (j / 64) inside (omega (arith, within)))
-    ∙ bit_of_sum (λ k. bit_entry left_words left i k * row_word inner words right k (j / 64)) (j % 64) (64 * left_words)
+-- a bit of a word of the product
+pub partial_bits : (inner left_words words : ℕ) (left right : List ℕ) (i j : ℕ) → left_words ≡ words_for inner
+    → bit_at (partial_word inner left_words words left right (64 * left_words) i (j / 64)) (j % 64)
+    ≡ sum_below (λ k. bit_entry left_words left i k * bit_entry words right k j) inner
+partial_bits inner left_words words left right i j is =
+    bit_of_sum (λ k. bit_entry left_words left i k * row_word inner words right k (j / 64)) (j % 64) (64 * left_words)
     ∙ ap (sum_below terms) split ∙ sum_below-add terms inner (64 * left_words - inner)
     ∙ ap₂ bit_xor (sum_below-same terms (λ k. bit_entry left_words left i k * bit_entry words right k j) inner here)
     (sum_zero (λ k. terms (inner + k)) (64 * left_words - inner) behind)
     ∙ xor_zero_r (sum_below (λ k. bit_entry left_words left i k * bit_entry words right k j) inner)
-    ∙ sum_below-same (λ k. bit_entry left_words left i k * bit_entry words right k j)
-    (λ k. tower_mul 0 (bit_entry left_words left i k) (bit_entry words right k j)) inner
-    (λ k _. sym (bit_times (bit_entry left_words left i k) (bit_entry words right k j)
-    (bit_at-lt (word_of left_words left i (k / 64)) (k % 64)) (bit_at-lt (word_of words right k (j / 64)) (j % 64))))
   where
     terms : ℕ → ℕ
     terms k = bit_at (bit_entry left_words left i k * row_word inner words right k (j / 64)) (j % 64)
@@ -280,3 +275,15 @@ product_bits rows inner left_words words left right now is total i j inside with
     behind k =
         ap (λ (x : ℕ). bit_at (bit_entry left_words left i (inner + k) * x) (j % 64)) (row_behind inner words right (inner + k) (j / 64) (omega arith))
         ∙ ap (λ (x : ℕ). bit_at x (j % 64)) (zeros (bit_entry left_words left i (inner + k))) ∙ bit_at-zero (j % 64)
+
+-- bits of the words of the product
+pub product_bits : (rows inner left_words words : ℕ) (left right now : List ℕ) → left_words ≡ words_for inner
+    → ((i v : ℕ) → i < rows → v < words → word_of words now i v ≡ partial_word inner left_words words left right (64 * left_words) i v)
+    → IsMatrixProduct (tower_mul 0) rows inner (64 * words) (bit_entry left_words left) (bit_entry words right) (bit_entry words now)
+product_bits rows inner left_words words left right now is total i j inside within =
+    ap (λ (x : ℕ). bit_at x (j % 64)) (total i (j / 64) inside (omega (arith, within)))
+    ∙ partial_bits inner left_words words left right i j is
+    ∙ sum_below-same (λ k. bit_entry left_words left i k * bit_entry words right k j)
+    (λ k. tower_mul 0 (bit_entry left_words left i k) (bit_entry words right k j)) inner
+    (λ k _. sym (bit_times (bit_entry left_words left i k) (bit_entry words right k j)
+    (bit_at-lt (word_of left_words left i (k / 64)) (k % 64)) (bit_at-lt (word_of words right k (j / 64)) (j % 64))))

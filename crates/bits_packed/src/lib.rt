@@ -1,7 +1,9 @@
 //! Packed bits: 8 to 512 lanes of GF(2) in one value, which is a ring, and square matrices of them, transposed; and in the module `matrices`,
-//! matrices over GF(2) of any shape, in memory of the caller.
+//! matrices over GF(2) of any shape, in memory of the caller, and products of matrices of bytes by them.
 #![tactic(auto)]
 
+mod byte_products;
+mod byte_sums;
 mod draws;
 mod identities;
 mod inverses;

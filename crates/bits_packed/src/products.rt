@@ -68,7 +68,7 @@ fn multiply_words(
 }
 
 // Adds the product to a strip: 64 rows of the right matrix after the other.
-fn multiply_strip(
+pub(crate) fn multiply_strip(
     target: &mut [u64],
     left: &[u64],
     right: &[u64],
