@@ -4,8 +4,8 @@
  *
  * The first line names the processor whose form of the library is called; BINARY_FIELD_PROCESSOR=x86-64-v2 in the environment lowers it.
  * A number is processor time in nanoseconds divided by n^3, the least of the samples; a row ends before a size whose sample would take
- * more than SECONDS. M4RIE has other polynomials, and fields of up to 16 bits: its product, and for the inverse its reduced row echelon
- * form of the matrix. FLINT and NTL are timed by bench/matrices.cpp.
+ * more than SECONDS. M4RIE has other polynomials, and fields of up to 16 bits: its product, its reduced row echelon forms of the matrix and
+ * of the matrix beside the identity, and its inverse by Newton-John tables. FLINT and NTL are timed by bench/matrices.cpp.
  */
 #include <m4rie/m4rie.h>
 #include <stdint.h>
@@ -33,7 +33,7 @@ CALLS(g128, wide)
 
 enum { MOST = 2048 };
 
-static const size_t sizes[] = {8, 64, 256, 512, MOST};
+static const size_t sizes[] = {8, 16, 31, 32, 64, 128, 256, 512, 1024, MOST};
 static int samples = 5;
 static double seconds = 30;
 static void *left, *right, *made, *space;
@@ -83,12 +83,22 @@ static void checked(uint32_t status) {
     ROW(#name " product", , checked(bf_##name##_matrix_multiply(left, n * n, right, n * n, made, n * n, n, n, n)));                          \
     ROW(#name " inverse", , checked(bf_##name##_matrix_inverse(left, n * n, n, made, n * n, space, 2 * n * n, places, n)))
 
-static void rows_of_m4rie(const char *product, const char *echelon, word polynomial) {
+static void rows_of_m4rie(word polynomial) {
     gf2e *field = gf2e_init(polynomial);
     mzed_t *a = NULL, *b = NULL, *c = NULL;
-    ROW(product, (a = mzed_init(field, n, n), b = mzed_init(field, n, n), c = mzed_init(field, n, n), mzed_randomize(a), mzed_randomize(b)),
+    char name[4][32];
+    static const char *const of[] = {"product", "echelon", "beside", "inverse"};
+    for (int at = 0; at < 4; at++) {
+        snprintf(name[at], sizeof name[at], "M4RIE %d %s", (int)field->degree, of[at]);
+    }
+    ROW(name[0], (a = mzed_init(field, n, n), b = mzed_init(field, n, n), c = mzed_init(field, n, n), mzed_randomize(a), mzed_randomize(b)),
         mzed_mul(c, a, b));
-    ROW(echelon, (a = mzed_init(field, n, n), c = mzed_init(field, n, n), mzed_randomize(a)), (mzed_copy(c, a), mzed_echelonize(c, 1)));
+    ROW(name[1], (a = mzed_init(field, n, n), c = mzed_init(field, n, n), mzed_randomize(a)), (mzed_copy(c, a), mzed_echelonize(c, 1)));
+    ROW(name[2],
+        (a = mzed_init(field, n, n), b = mzed_init(field, n, n), mzed_randomize(a), mzed_set_ui(b, 1), a = mzed_concat(NULL, a, b),
+         c = mzed_init(field, n, 2 * n)),
+        (mzed_copy(c, a), mzed_echelonize(c, 1)));
+    ROW(name[3], (a = mzed_init(field, n, n), c = mzed_init(field, n, n), mzed_randomize(a)), mzed_invert_newton_john(c, a));
 }
 
 int main(int arguments, char **argument) {
@@ -108,9 +118,9 @@ int main(int arguments, char **argument) {
     printf("\n");
     ROWS(t8);
     ROWS(r8);
-    rows_of_m4rie("M4RIE 8, product", "M4RIE 8, echelon", 0x11d);
+    rows_of_m4rie(0x11d);
     ROWS(t16);
-    rows_of_m4rie("M4RIE 16, product", "M4RIE 16, echelon", 0x1100b);
+    rows_of_m4rie(0x1100b);
     ROWS(t32);
     ROWS(t64);
     ROWS(p64);

@@ -1243,7 +1243,8 @@ uint32_t bf_t4_matrix_solve(const uint8_t *matrix, size_t matrix_length, size_t 
 /* Matrices over t8. */
 
 /* product: the product of left, of rows rows of inner elements, and right, of inner rows of columns elements.
- * BF_LENGTH unless left has rows * inner elements, right inner * columns, and product rows * columns. */
+ * BF_LENGTH unless left has rows * inner elements, right inner * columns, and product rows * columns. It takes 64
+ * KiB of the stack. */
 uint32_t bf_t8_matrix_multiply(const uint8_t *left, size_t left_length, const uint8_t *right, size_t right_length,
     uint8_t *product, size_t product_length, size_t rows, size_t inner, size_t columns) BF_CHECKED;
 
@@ -1443,7 +1444,8 @@ uint32_t bf_t128_matrix_solve(const bf_u128 *matrix, size_t matrix_length, size_
 /* Matrices over r8. */
 
 /* product: the product of left, of rows rows of inner elements, and right, of inner rows of columns elements.
- * BF_LENGTH unless left has rows * inner elements, right inner * columns, and product rows * columns. */
+ * BF_LENGTH unless left has rows * inner elements, right inner * columns, and product rows * columns. It takes 64
+ * KiB of the stack. */
 uint32_t bf_r8_matrix_multiply(const uint8_t *left, size_t left_length, const uint8_t *right, size_t right_length,
     uint8_t *product, size_t product_length, size_t rows, size_t inner, size_t columns) BF_CHECKED;
 

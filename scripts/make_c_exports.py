@@ -409,8 +409,10 @@ def matrix_function(field, name, parameters, text, vector=NARROW):
     own = name.removesuffix("_wide")
     words = f"{called_over(field, 'Words', f', {vector}')}::new()"
     named = f"({field.contract})" if " " in field.contract else field.contract
-    called = f"c_calls::matrices::{own.removeprefix('matrix_')}"
-    return function(f"{field.name}_{name}", parameters, text, called, MATRIX_CALLS[own].format(named), first=[words])
+    called, first = f"c_calls::matrices::{own.removeprefix('matrix_')}", [words]
+    if own == "matrix_multiply" and field.bits == 8:
+        called, first = f"c_calls::byte_matrices::multiply::<{field.kernel}, {vector}>", []
+    return function(f"{field.name}_{name}", parameters, text, called, MATRIX_CALLS[own].format(named), first=first)
 
 
 def change_of_basis(name, parameters, text):

@@ -94,7 +94,11 @@ LENGTHS = {
 }
 
 # What a function takes of the stack, where it is much.
-STACK = {"erasure_reconstruct": "It takes 64 KiB of the stack, for the flags of the shards."}
+STACK = {
+    "erasure_reconstruct": "It takes 64 KiB of the stack, for the flags of the shards.",
+    "t8_matrix_multiply": "It takes 64 KiB of the stack.",
+    "r8_matrix_multiply": "It takes 64 KiB of the stack.",
+}
 
 
 def lengths_of(name, parameters):

@@ -1985,7 +1985,8 @@ unsafe extern "C" {
         places_length: usize,
     ) -> u32;
     /// product: the product of left, of rows rows of inner elements, and right, of inner rows of columns elements.
-    /// BF_LENGTH unless left has rows * inner elements, right inner * columns, and product rows * columns.
+    /// BF_LENGTH unless left has rows * inner elements, right inner * columns, and product rows * columns. It takes
+    /// 64 KiB of the stack.
     pub fn bf_t8_matrix_multiply(
         left: *const u8,
         left_length: usize,
@@ -2390,7 +2391,8 @@ unsafe extern "C" {
         places_length: usize,
     ) -> u32;
     /// product: the product of left, of rows rows of inner elements, and right, of inner rows of columns elements.
-    /// BF_LENGTH unless left has rows * inner elements, right inner * columns, and product rows * columns.
+    /// BF_LENGTH unless left has rows * inner elements, right inner * columns, and product rows * columns. It takes
+    /// 64 KiB of the stack.
     pub fn bf_r8_matrix_multiply(
         left: *const u8,
         left_length: usize,

@@ -182,14 +182,8 @@ pub extern "C" fn bf_r8_matrix_multiply(
 ) -> u32
     ensures { MultipliesMatrices rijndael_field rows inner columns left.now right.now product.old product.new result }
 {
-    c_calls::matrices::multiply(
-        Words::<u8, u8, RijndaelKernel, u64x2>::new(),
-        left,
-        right,
-        product,
-        rows,
-        inner,
-        columns,
+    c_calls::byte_matrices::multiply::<RijndaelKernel, u64x2>(
+        left, right, product, rows, inner, columns,
     )
 }
 

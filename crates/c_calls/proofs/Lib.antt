@@ -1,4 +1,5 @@
 mod BinaryCalls
+mod ByteMatrices
 mod Calls
 mod ChosenCalls
 mod ChosenScalars

@@ -1,5 +1,6 @@
 pub mod BinaryCodes
 pub mod BitMatrices
+pub mod ByteFormLemmas
 pub mod Bytes
 pub mod Calls
 pub mod ChosenCodes

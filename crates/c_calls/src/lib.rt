@@ -8,6 +8,7 @@
 
 pub mod binary_codes;
 pub mod bit_matrices;
+pub mod byte_matrices;
 mod chosen_words;
 pub mod codes;
 mod erasure;
