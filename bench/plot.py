@@ -134,7 +134,6 @@ def section(name, table):
     yield f"## {table['title']}"
     yield ""
     yield from textwrap.wrap(f"{table['unit'][0].upper()}{table['unit'][1:]}. {'; '.join(table['measured'])}.", WIDTH)
-    yield ""
     yield f"![{table['title']}: {', '.join(table['bars'])}](pictures/{name}.svg)"
     yield ""
     yield from lines_of_table(table)
