@@ -139,9 +139,7 @@ pub fn multiply<K: ByteForms, V: Width + Vector>(
     status::OK
 }
 
-// Whether the product takes less time than sums of rows: matrices over GF(2) are multiplied by strips of 512 columns, of which a third at most
-// may stand for none.
+// Whether the product takes less time than sums of rows, by measure: strips of 512 columns are multiplied over GF(2), whatever fills them.
 fn pays(rows: u64, inner: u64, columns: u64) -> bool {
-    let unused = (512 - columns % 512) % 512;
-    rows >= 256 && inner >= 256 && 2 * unused <= columns
+    rows >= 256 && inner >= 256 && columns >= 342
 }
