@@ -7,7 +7,7 @@ ghost use Rattle.c_calls.specs.Matrices.{MultipliesMatrices};
 ghost use Rattle.c_calls.specs.declared.byte_matrices.TheConstants.{RIJNDAEL_FORMS, TOWER_FORMS};
 ghost use Rattle.c_calls.specs.ByteFormLemmas.{rijndael-forms, tower-forms};
 
-use crate::shapes::has_shape;
+use crate::shapes::have_product_shapes;
 use crate::{Words, matrices, status};
 use bit_slices::Vector;
 use bits_packed::matrices::multiply_bytes_into;
@@ -129,10 +129,7 @@ pub fn multiply<K: ByteForms, V: Width + Vector>(
         return matrices::multiply(field, left, right, product, rows, inner, columns);
     }
     let (rows, inner, columns) = (rows as usize, inner as usize, columns as usize);
-    if !has_shape(left.len(), rows, inner)
-        || !has_shape(right.len(), inner, columns)
-        || !has_shape(product.len(), rows, columns)
-    {
+    if !have_product_shapes(left.len(), right.len(), product.len(), rows, inner, columns) {
         return status::LENGTH;
     }
     multiply_bytes_into(&K::FORMS, product, left, right, rows, inner, columns);

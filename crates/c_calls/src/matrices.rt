@@ -5,7 +5,7 @@ ghost use Rattle.many_words.specs.Words.{AreElements};
 ghost use Rattle.c_calls.specs.Matrices.{HaveEquationLengths, InvertsMatrix, MultipliesMatrices, ReducesRows, SolvesEquations};
 ghost use Rattle.c_calls.specs.Matrices.{TakesDeterminant, TakesRank};
 
-use crate::shapes::has_shape;
+use crate::shapes::{has_shape, have_product_shapes};
 use crate::{ScalarWords, status};
 use field_slices::matrices::{
     ColumnCopy, copy_columns, invert_beside, multiply_into, solve_augmented,
@@ -25,10 +25,7 @@ pub fn multiply<S: ScalarWords>(
         right.now product.old product.new result }
 {
     let (rows, inner, columns) = (rows as usize, inner as usize, columns as usize);
-    if !has_shape(left.len(), rows, inner)
-        || !has_shape(right.len(), inner, columns)
-        || !has_shape(product.len(), rows, columns)
-    {
+    if !have_product_shapes(left.len(), right.len(), product.len(), rows, inner, columns) {
         return status::LENGTH;
     }
     if !are_both_elements(field, left, right) {

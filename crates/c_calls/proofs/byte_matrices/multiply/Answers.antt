@@ -7,29 +7,19 @@ use Rattle.many_words.specs.Fields.{field_of, itself}
 use Rattle.c_calls.proofs.ByteMatrices.{bytes-are, bytes-product, product-by-forms}
 use Rattle.c_calls.proofs.Endings.{call_done, call_misfit, refuted}
 use Rattle.c_calls.proofs.byte_matrices.multiply.Goals as goal
-use Rattle.c_calls.proofs.byte_matrices.multiply.Goals.{then-not-has_shape-via-then-not-has_shape, then-not-has_shape-via-else-not-has_shape+then-not-has_shape-2}
-use Rattle.c_calls.proofs.byte_matrices.multiply.Goals.{then-not-has_shape-via-else-not-has_shape+else-not-has_shape-2+then-not-has_shape-3}
 
 pub multiply_bytes_into-requires-clause-left : goal.multiply_bytes_into-requires-clause-left
-multiply_bytes_into-requires-clause-left g c = c.has_shape.ensures.0 c.if-not-has_shape.false
+multiply_bytes_into-requires-clause-left g c = (c.have_product_shapes.ensures.0 c.if-not-have_product_shapes.false).0
 
 pub multiply_bytes_into-requires-clause-right : goal.multiply_bytes_into-requires-clause-right
-multiply_bytes_into-requires-clause-right g c = c.has_shape-else-not-has_shape.ensures.0 c.if-not-has_shape-2.false
+multiply_bytes_into-requires-clause-right g c = (c.have_product_shapes.ensures.0 c.if-not-have_product_shapes.false).1
 
 pub multiply_bytes_into-requires-clause-shape : goal.multiply_bytes_into-requires-clause-shape
-multiply_bytes_into-requires-clause-shape g c = c.has_shape-else-not-has_shape-2.ensures.0 c.if-not-has_shape-3.false
+multiply_bytes_into-requires-clause-shape g c = (c.have_product_shapes.ensures.0 c.if-not-have_product_shapes.false).2
 
-pub returns-then-not-has_shape : goal.returns-then-not-has_shape
-returns-then-not-has_shape g c =
-    call_misfit
-    (λ fit.
-    elim c.then-not-has_shape.branch [
-      | then-not-has_shape-via-then-not-has_shape w ↦ refuted w.if-not-has_shape.true (c.has_shape.ensures.1 fit.0)
-      | then-not-has_shape-via-else-not-has_shape+then-not-has_shape-2 w ↦
-          refuted w.if-not-has_shape-2.true (w.has_shape-else-not-has_shape.ensures.1 fit.1)
-      | then-not-has_shape-via-else-not-has_shape+else-not-has_shape-2+then-not-has_shape-3 w ↦
-          refuted w.if-not-has_shape-3.true (w.has_shape-else-not-has_shape-2.ensures.1 fit.2)
-    ])
+pub returns-then-not-have_product_shapes : goal.returns-then-not-have_product_shapes
+returns-then-not-have_product_shapes g c =
+    call_misfit (λ fit. refuted c.if-not-have_product_shapes.true (c.have_product_shapes.ensures.1 fit))
 
 pub returns : goal.returns
 returns g c =
@@ -43,11 +33,7 @@ returns g c =
     let target = c.multiply_bytes_into.new.target in
     let lefts : (p : ℕ) → slice_index left p < 2 ^ 8 = λ p. (c.type_inv.left p).fits in
     let rights : (p : ℕ) → slice_index right p < 2 ^ 8 = λ p. (c.type_inv.right p).fits in
-    call_done (
-      c.has_shape.ensures.0 c.if-not-has_shape.false,
-      c.has_shape-else-not-has_shape.ensures.0 c.if-not-has_shape-2.false,
-      c.has_shape-else-not-has_shape-2.ensures.0 c.if-not-has_shape-3.false,
-    )
+    call_done (c.have_product_shapes.ensures.0 c.if-not-have_product_shapes.false)
     (bytes-are field left g.met.K.ByteForms.bytes_law (λ x. refl) lefts, bytes-are field right g.met.K.ByteForms.bytes_law (λ x. refl) rights)
     (bytes-product times rows inner columns left right target
     (product-by-forms times g.K.ByteForms.FORMS rows inner columns left right target g.met.K.ByteForms.forms_law lefts rights
