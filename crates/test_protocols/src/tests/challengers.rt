@@ -1,4 +1,4 @@
-mod asked;
+pub(crate) mod asked;
 mod grinding;
 mod heaps;
 mod lists;

@@ -5,6 +5,7 @@
 //   at one corner; terms of which one coefficient differs; a proof that is replayed in another transcript: refused.
 // - Over a field of 256 elements, a message for a false sum whose challenge is a root of what it differs by from the honest one: accepted,
 //   as about one message of 256 is. No claim of a sum over that field is turned away unread.
+use super::challengers::asked::hashed;
 use field_base::traits::{PrimeCharacteristicRing, TowerLevel};
 use field_element::{BinaryField8, BinaryField128};
 use field_slices::evaluate_multilinear;
@@ -13,14 +14,10 @@ use protocols::sumcheck::{prove, verify};
 use protocols::terms::{Term, are_within, cube_sum, terms_at};
 use std::alloc::{AllocError, Global};
 use std::test::Fail;
-use transcript_elements::BinaryChallenger;
-use transcripts::{HashChallenger, Sha256Hasher};
 
 type Wide = BinaryField128;
 
 type Byte = BinaryField8;
-
-type Hashed<F> = BinaryChallenger<F, HashChallenger<Sha256Hasher>>;
 
 // What the verifier has that the prover had not.
 #[derive(Clone, Copy)]
@@ -69,7 +66,7 @@ fn honest(alloc: Global, terms: &[Term<Wide>]) -> Result<(Wide, Vec<Wide>), Prot
     }
     let mut rows = rows();
     let claim = cube_sum(terms, &rows, 4, 3);
-    let mut prover: Hashed<Wide> = BinaryChallenger::from_hasher(Vec::new(alloc), Sha256Hasher);
+    let mut prover = hashed::<Wide, Global>(Vec::new(alloc));
     let proven = prove(alloc, &mut prover, &mut rows, 3, 4, terms, claim)?;
     Ok((claim, proven.messages))
 }
@@ -99,7 +96,7 @@ fn is_accepted(
         return Err(ProtocolError::Shape);
     }
     let bytes = Vec::from_slice(alloc, front)?;
-    let mut verifier: Hashed<Wide> = BinaryChallenger::from_hasher(bytes, Sha256Hasher);
+    let mut verifier = hashed::<Wide, Global>(bytes);
     let reduced = verify(alloc, &mut verifier, 3, 4, terms, claim, messages)?;
     let point = reduced.point.as_slice();
     let values = [
@@ -162,7 +159,7 @@ fn is_saved(
     claim: u8,
     first: u8,
 ) -> Result<bool, ProtocolError> {
-    let mut verifier: Hashed<Byte> = BinaryChallenger::from_hasher(Vec::new(alloc), Sha256Hasher);
+    let mut verifier = hashed::<Byte, Global>(Vec::new(alloc));
     let (claim, first) = (Byte::from_repr(claim), Byte::from_repr(first));
     let reduced = verify(alloc, &mut verifier, 1, 1, terms, claim, &[first])?;
     let point = reduced.point.as_slice();

@@ -2,6 +2,7 @@
 // 8 elements. They are refused in turn, and accepted where there is memory. What acceptance says the contracts do.
 ghost use Rattle.transcripts.specs.Grinding.{MayGrind};
 
+use super::challengers::asked::Hashed;
 use field_base::LevelKernel;
 use field_base::traits::TowerLevel;
 use field_bytes::ShortWord;
@@ -14,11 +15,8 @@ use protocols::{ProtocolError, commitment, sumcheck};
 use std::alloc::{AllocError, Allocator};
 use test_support::{Ending, Growing, Rest, is_refused_in_turn};
 use transcript_elements::{BinaryChallenger, ByteLevel};
-use transcripts::{GrindError, HashChallenger, Sha256Hasher};
+use transcripts::{GrindError, Sha256Hasher};
 use word_tower::{Bits64, Tower};
-
-// A challenger over SHA-256.
-type Hashed<F, A> = BinaryChallenger<F, HashChallenger<Sha256Hasher, A>>;
 
 // Whether an opening of the tree over these 2^depth words is accepted.
 fn is_opened<R: ShortWord, K: LevelKernel<R> + HasPacking<R>, A: Allocator + Copy>(

@@ -1,6 +1,7 @@
 // Three tables of 64 elements that are opened together over a field of 32 bits, and what a cheating prover sends of them. The tables and the
 // point are drawn from the seeds 20261129 to 20261132. A verifier is refused memory in turn.
-use additive_transforms::element_point;
+use super::challengers::asked::{Hashed, hashed};
+use super::tables::{drawn, increment};
 use field_base::traits::PrimeCharacteristicRing;
 use field_element::BinaryField32;
 use linked_list_allocator::LocalHeap;
@@ -9,14 +10,10 @@ use protocols::commitment_scheme::{Parameters, commit};
 use protocols::joint_tables::{OpenedTables, open_tables, verify_tables};
 use std::alloc::{AllocError, Allocator, Global};
 use std::test::Fail;
-use test_support::{Ending, Growing, Rest, is_refused_in_turn, next_word};
-use transcript_elements::BinaryChallenger;
-use transcripts::{CanSample, HashChallenger, Sha256Hasher};
+use test_support::{Ending, Growing, Rest, is_refused_in_turn};
+use transcripts::{CanSample, Sha256Hasher};
 
 type Wide = BinaryField32;
-
-// A challenger over SHA-256.
-type Hashed<A> = BinaryChallenger<Wide, HashChallenger<Sha256Hasher, A>>;
 
 // What is changed between the prover and the verifier. To change it once more gives it back.
 #[derive(Clone, Copy)]
@@ -36,23 +33,11 @@ struct Opening {
     opened: OpenedTables<Wide, Global>,
 }
 
-// Elements drawn from a seed.
-fn drawn(alloc: Global, seed: u64, count: usize) -> Result<Vec<Wide>, AllocError> {
-    let mut state = seed;
-    let mut elements = Vec::new(alloc);
-    for _ in 0..count {
-        elements.push(element_point(Wide::ONE, next_word(&mut state) as u128))?;
-    }
-    Ok(elements)
-}
-
-// A challenger that has observed nothing.
-fn challenger<A: Allocator + Copy>(alloc: A) -> Hashed<A> {
-    BinaryChallenger::from_hasher(Vec::new(alloc), Sha256Hasher)
-}
-
 // Eight places of three tables are opened, of two rows each. The challenger ends where the opening does.
-fn made_opening(alloc: Global, prover: &mut Hashed<Global>) -> Result<Opening, ProtocolError> {
+fn made_opening(
+    alloc: Global,
+    prover: &mut Hashed<Wide, Global>,
+) -> Result<Opening, ProtocolError> {
     let sizes = Parameters::new(6, 3);
     let one = drawn(alloc, 20261129, 64)?;
     let other = drawn(alloc, 20261130, 64)?;
@@ -79,7 +64,7 @@ fn made_opening(alloc: Global, prover: &mut Hashed<Global>) -> Result<Opening, P
 // Whether an opening of these roots at this point is accepted. The challenger ends where the verdict does.
 fn is_accepted<A: Allocator + Copy>(
     alloc: A,
-    verifier: &mut Hashed<A>,
+    verifier: &mut Hashed<Wide, A>,
     roots: &[[u8; 32]],
     point: &[Wide],
     opened: &OpenedTables<Wide, Global>,
@@ -89,13 +74,6 @@ fn is_accepted<A: Allocator + Copy>(
         return Ok(false);
     }
     verify_tables(alloc, &Sha256Hasher, verifier, &sizes, roots, point, opened)
-}
-
-// Adds 1 to the element at a place, if there is one.
-fn increment(elements: &mut [Wide], place: usize) {
-    if let Some(element) = elements.get_mut(place) {
-        *element = *element + Wide::ONE;
-    }
 }
 
 fn apply(opened: &mut OpenedTables<Wide, Global>, change: Change) {
@@ -139,13 +117,13 @@ fn holds(
     point: &[Wide],
     opened: &OpenedTables<Wide, Global>,
 ) -> Result<bool, ProtocolError> {
-    let mut verifier = challenger(alloc);
+    let mut verifier = hashed(Vec::new(alloc));
     is_accepted(alloc, &mut verifier, roots, point, opened)
 }
 
 // Whether an opening is refused after each change of what is sent, and accepted after the same change once more.
 fn each_change_is_refused(alloc: Global) -> Result<bool, ProtocolError> {
-    let mut prover = challenger(alloc);
+    let mut prover = hashed(Vec::new(alloc));
     let mut sent = made_opening(alloc, &mut prover)?;
     let [a, b, c] = sent.roots;
     for it in CHANGES {
@@ -169,7 +147,7 @@ fn a_changed_opening_of_tables_is_refused(rt: HostRuntime) {
 
 // Whether an opening is refused of other roots and at another point.
 fn each_claim_is_bound(alloc: Global) -> Result<bool, ProtocolError> {
-    let mut prover = challenger(alloc);
+    let mut prover = hashed(Vec::new(alloc));
     let mut sent = made_opening(alloc, &mut prover)?;
     let [a, b, c] = sent.roots;
     let opened = &sent.opened;
@@ -192,7 +170,7 @@ fn tables_of_other_roots_and_at_other_points_are_refused(rt: HostRuntime) {
 
 // Whether an opening is accepted, and both transcripts give the same challenge behind it.
 fn transcripts_go_on(alloc: Global) -> Result<bool, ProtocolError> {
-    let (mut prover, mut verifier) = (challenger(alloc), challenger(alloc));
+    let (mut prover, mut verifier) = (hashed(Vec::new(alloc)), hashed(Vec::new(alloc)));
     let sent = made_opening(alloc, &mut prover)?;
     let point = sent.point.as_slice();
     let accepted = is_accepted(alloc, &mut verifier, &sent.roots, point, &sent.opened)?;
@@ -208,7 +186,7 @@ fn transcripts_go_on_behind_an_opening(rt: HostRuntime) {
 
 impl Growing for Opening {
     fn run<'a>(&self, heap: &'a LocalHeap, rest: Rest<'a>) -> Result<Ending, AllocError> {
-        let mut verifier = challenger(heap);
+        let mut verifier = hashed(Vec::new(heap));
         let point = self.point.as_slice();
         let accepted = is_accepted(heap, &mut verifier, &self.roots, point, &self.opened);
         drop(verifier);
@@ -223,7 +201,7 @@ impl Growing for Opening {
 
 #[test]
 fn a_verifier_of_tables_is_refused_memory(rt: HostRuntime) -> Result<(), Fail> {
-    let mut prover = challenger(rt.alloc());
+    let mut prover = hashed(Vec::new(rt.alloc()));
     let sent = made_opening(rt.alloc(), &mut prover)?;
     assert!(rt; is_refused_in_turn(rt.alloc(), &sent, true));
     Ok(())

@@ -1,23 +1,19 @@
 // Two tables of 64 elements that are opened at three points over a field of 32 bits: what is sent is accepted, and is refused where anything
 // of it was changed. The tables and the points are drawn from the seeds 20261130 to 20261132. A verifier is refused memory in turn.
-use additive_transforms::element_point;
+use super::challengers::asked::{Hashed, hashed};
+use super::tables::{drawn, increment};
 use field_base::traits::PrimeCharacteristicRing;
 use field_element::BinaryField32;
-use field_slices::evaluate_multilinear;
 use linked_list_allocator::LocalHeap;
 use protocols::ProtocolError;
 use protocols::commitment_scheme::{Parameters, commit};
 use protocols::many_points::{OpenedPoints, open_points, verify_points};
 use std::alloc::{AllocError, Allocator, Global};
 use std::test::Fail;
-use test_support::{Ending, Growing, Rest, is_refused_in_turn, next_word};
-use transcript_elements::BinaryChallenger;
-use transcripts::{CanSample, HashChallenger, Sha256Hasher};
+use test_support::{Ending, Growing, Rest, is_refused_in_turn};
+use transcripts::{CanSample, Sha256Hasher};
 
 type Wide = BinaryField32;
-
-// A challenger over SHA-256.
-type Hashed<A> = BinaryChallenger<Wide, HashChallenger<Sha256Hasher, A>>;
 
 // What is changed between the prover and the verifier. To change it once more gives it back.
 #[derive(Clone, Copy)]
@@ -51,23 +47,11 @@ struct Opening {
     opened: OpenedPoints<Wide, Global>,
 }
 
-// Elements drawn from a seed.
-fn drawn(alloc: Global, seed: u64, count: usize) -> Result<Vec<Wide>, AllocError> {
-    let mut state = seed;
-    let mut elements = Vec::new(alloc);
-    for _ in 0..count {
-        elements.push(element_point(Wide::ONE, next_word(&mut state) as u128))?;
-    }
-    Ok(elements)
-}
-
-// A challenger that has observed nothing.
-fn challenger<A: Allocator + Copy>(alloc: A) -> Hashed<A> {
-    BinaryChallenger::from_hasher(Vec::new(alloc), Sha256Hasher)
-}
-
 // Eight places of two tables are opened, of two rows each, for three points. The challenger ends where the opening does.
-fn made_opening(alloc: Global, prover: &mut Hashed<Global>) -> Result<Opening, ProtocolError> {
+fn made_opening(
+    alloc: Global,
+    prover: &mut Hashed<Wide, Global>,
+) -> Result<Opening, ProtocolError> {
     let sizes = Parameters::new(6, 3);
     let one = drawn(alloc, 20261130, 64)?;
     let other = drawn(alloc, 20261131, 64)?;
@@ -93,7 +77,7 @@ fn made_opening(alloc: Global, prover: &mut Hashed<Global>) -> Result<Opening, P
 // Whether an opening at three points is accepted. The challenger ends where the verdict does.
 fn is_accepted<A: Allocator + Copy>(
     alloc: A,
-    verifier: &mut Hashed<A>,
+    verifier: &mut Hashed<Wide, A>,
     sent: &Opening,
 ) -> Result<bool, ProtocolError> {
     let sizes = Parameters::new(6, 3);
@@ -103,13 +87,6 @@ fn is_accepted<A: Allocator + Copy>(
     }
     let hasher = &Sha256Hasher;
     verify_points(alloc, hasher, verifier, &sizes, roots, points, 3, opened)
-}
-
-// Adds 1 to the element at a place, if there is one.
-fn increment(elements: &mut [Wide], place: usize) {
-    if let Some(element) = elements.get_mut(place) {
-        *element = *element + Wide::ONE;
-    }
 }
 
 fn apply(sent: &mut Opening, change: Change) {
@@ -126,7 +103,7 @@ fn apply(sent: &mut Opening, change: Change) {
 
 // Whether it is accepted by a new verifier.
 fn holds(alloc: Global, sent: &Opening) -> Result<bool, ProtocolError> {
-    let mut verifier = challenger(alloc);
+    let mut verifier = hashed(Vec::new(alloc));
     is_accepted(alloc, &mut verifier, sent)
 }
 
@@ -162,24 +139,13 @@ fn lengths_are_told(alloc: Global, sent: &mut Opening) -> Result<bool, ProtocolE
     Ok(fewer_values && fewer_messages)
 }
 
-// Whether the fourth value is that of the second table at the second point.
-fn values_are_of_points(alloc: Global, sent: &Opening) -> Result<bool, ProtocolError> {
-    let other = drawn(alloc, 20261131, 64)?;
-    let points = sent.points.as_slice();
-    if other.len() != 64 || points.len() != 18 {
-        return Ok(false);
-    }
-    let value = evaluate_multilinear(other.as_slice(), &points[6..12]);
-    Ok(sent.opened.values.as_slice().get(3) == Some(&value))
-}
-
 // Whether an opening is accepted, and both transcripts give the same challenge behind it.
 fn transcripts_go_on(
     alloc: Global,
-    prover: &mut Hashed<Global>,
+    prover: &mut Hashed<Wide, Global>,
     sent: &Opening,
 ) -> Result<bool, ProtocolError> {
-    let mut verifier = challenger(alloc);
+    let mut verifier = hashed(Vec::new(alloc));
     let accepted = is_accepted(alloc, &mut verifier, sent)?;
     let one: Wide = prover.sample()?;
     let other: Wide = verifier.sample()?;
@@ -188,9 +154,8 @@ fn transcripts_go_on(
 
 #[test]
 fn tables_are_opened_at_points(rt: HostRuntime) -> Result<(), Fail> {
-    let mut prover = challenger(rt.alloc());
+    let mut prover = hashed(Vec::new(rt.alloc()));
     let mut sent = made_opening(rt.alloc(), &mut prover)?;
-    assert!(rt; values_are_of_points(rt.alloc(), &sent)?);
     assert!(rt; transcripts_go_on(rt.alloc(), &mut prover, &sent)?);
     assert!(rt; each_change_is_refused(rt.alloc(), &mut sent)?);
     assert!(rt; lengths_are_told(rt.alloc(), &mut sent)?);
@@ -199,7 +164,7 @@ fn tables_are_opened_at_points(rt: HostRuntime) -> Result<(), Fail> {
 
 impl Growing for Opening {
     fn run<'a>(&self, heap: &'a LocalHeap, rest: Rest<'a>) -> Result<Ending, AllocError> {
-        let mut verifier = challenger(heap);
+        let mut verifier = hashed(Vec::new(heap));
         let accepted = is_accepted(heap, &mut verifier, self);
         drop(verifier);
         drop(rest);
@@ -213,7 +178,7 @@ impl Growing for Opening {
 
 #[test]
 fn a_verifier_at_points_is_refused_memory(rt: HostRuntime) -> Result<(), Fail> {
-    let mut prover = challenger(rt.alloc());
+    let mut prover = hashed(Vec::new(rt.alloc()));
     let sent = made_opening(rt.alloc(), &mut prover)?;
     assert!(rt; is_refused_in_turn(rt.alloc(), &sent, true));
     Ok(())

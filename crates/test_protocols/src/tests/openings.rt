@@ -1,6 +1,7 @@
 // Openings of Merkle trees that a cheating prover changed, and paths to caps. Words are drawn from the seed 20261126.
 ghost use Rattle.transcripts.specs.Grinding.{MayGrind};
 
+use super::challengers::asked::hashed;
 use field_base::LevelKernel;
 use field_bytes::ShortWord;
 use field_element::{Element, HasPacking};
@@ -10,7 +11,6 @@ use protocols::merkle_tree::MerkleTree;
 use std::alloc::{AllocError, Global};
 use std::test::Fail;
 use test_support::next_word;
-use transcript_elements::BinaryChallenger;
 use transcripts::{GrindError, MerkleCap, Sha256Hasher};
 use word_tower::{Bits64, Tower};
 
@@ -61,14 +61,8 @@ fn is_accepted<R: ShortWord, K: LevelKernel<R> + HasPacking<R>>(
 {
     let words = words();
     let tree = MerkleTree::new(alloc, &Sha256Hasher, &words, 3)?;
-    let mut prover: BinaryChallenger<Element<R, K>, _> = BinaryChallenger::from_hasher(
-        Vec::new(alloc),
-        Sha256Hasher,
-    );
-    let mut verifier: BinaryChallenger<Element<R, K>, _> = BinaryChallenger::from_hasher(
-        Vec::new(alloc),
-        Sha256Hasher,
-    );
+    let mut prover = hashed::<Element<R, K>, Global>(Vec::new(alloc));
+    let mut verifier = hashed::<Element<R, K>, Global>(Vec::new(alloc));
     let mut opening = prove(alloc, &mut prover, &tree, &words, 8)?;
     let mut commitment = tree.commitment();
     let mut bits = 8;

@@ -2,6 +2,8 @@
 // where one element of it was changed. A verifier is refused memory in turn.
 ghost use Rattle.std.specs.Prelude.{◌≡◌, ◌^◌, ◌≤◌};
 
+use super::challengers::asked::hashed;
+use super::tables::increment;
 use field_base::traits::PrimeCharacteristicRing;
 use field_bytes::ShortElement;
 use field_element::{BinaryField8, BinaryField32};
@@ -12,11 +14,8 @@ use protocols::commitment_scheme::{ClaimedValue, Parameters, ValueOpening, commi
 use protocols::small_tables::{OpenedSmall, SmallField, SmallOpening, open_small, verify_small};
 use std::alloc::{AllocError, Allocator, Global};
 use test_support::{Ending, Growing, Rest, is_refused_in_turn};
-use transcript_elements::{BinaryChallenger, ByteLevel};
-use transcripts::{HashChallenger, Sha256Hasher};
-
-// A challenger over SHA-256.
-type Hashed<F, A> = BinaryChallenger<F, HashChallenger<Sha256Hasher, A>>;
+use transcript_elements::ByteLevel;
+use transcripts::Sha256Hasher;
 
 // What is changed between the prover and the verifier. To change it once more gives it back.
 #[derive(Clone, Copy)]
@@ -60,11 +59,6 @@ fn elements_from<F: ByteLevel>(
     Ok(elements)
 }
 
-// A challenger that has observed nothing.
-fn challenger<F: ByteLevel, A: Allocator + Copy>(alloc: A) -> Hashed<F, A> {
-    BinaryChallenger::from_hasher(Vec::new(alloc), Sha256Hasher)
-}
-
 // The opening of a table of four packed elements.
 fn made_opening<F: ByteLevel + BasedVectorSpace<F>>(
     alloc: Global,
@@ -81,7 +75,7 @@ fn made_opening<F: ByteLevel + BasedVectorSpace<F>>(
     }
     let held = commit(alloc, &Sha256Hasher, &sizes, table.as_slice())?;
     let root = held.tree.commitment().root;
-    let mut prover = challenger::<F, Global>(alloc);
+    let mut prover = hashed::<F, Global>(Vec::new(alloc));
     let (packed, at) = (table.as_slice(), point.as_slice());
     let sent = open_small(alloc, &mut prover, &sizes, &small, &held, packed, at)?;
     Ok(Opening {
@@ -117,7 +111,7 @@ fn is_accepted<F: ByteLevel + BasedVectorSpace<F>, A: Allocator + Copy>(
         },
     };
     let (hasher, root) = (&Sha256Hasher, opening.root);
-    let mut verifier = challenger::<F, A>(alloc);
+    let mut verifier = hashed::<F, A>(Vec::new(alloc));
     verify_small(
         alloc,
         hasher,
@@ -128,13 +122,6 @@ fn is_accepted<F: ByteLevel + BasedVectorSpace<F>, A: Allocator + Copy>(
         &claim,
         &proof,
     )
-}
-
-// Adds 1 to the element at a place, if there is one.
-fn increment<F: ByteLevel>(elements: &mut [F], place: usize) {
-    if let Some(element) = elements.get_mut(place) {
-        *element = *element + F::ONE;
-    }
 }
 
 fn apply<F: ByteLevel>(sent: &mut OpenedSmall<F, Global>, change: Change) {

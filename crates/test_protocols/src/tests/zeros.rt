@@ -1,17 +1,15 @@
 // A zero-check of tables of four values, over SHA-256: the honest proof is accepted, and one of which a message was changed is refused. A
 // proof is accepted if the values of the tables at the challenges meet what `verify_zero` leaves.
+use super::challengers::asked::hashed;
 use field_base::traits::{Field, TowerLevel};
 use field_element::BinaryField128;
 use field_slices::evaluate_multilinear;
 use protocols::ProtocolError;
 use protocols::zero_check::{prove_zero, verify_zero};
 use std::alloc::Global;
-use transcript_elements::BinaryChallenger;
-use transcripts::{CanObserve, CanSample, HashChallenger, Sha256Hasher};
+use transcripts::{CanObserve, CanSample};
 
 type Wide = BinaryField128;
-
-type Hashed = BinaryChallenger<Wide, HashChallenger<Sha256Hasher>>;
 
 // The value of a table of four values at a point, and 0 at one that has not two coordinates.
 fn value_at<F: Field>(table: &[F; 4], point: &[F]) -> F {
@@ -46,8 +44,8 @@ fn is_accepted<F: Field, C: CanObserve<F> + CanSample<F>>(
 
 // Whether what was proved of the tables 1, 7, 19, 200 and 3, 5, 77, 130 is accepted after this is added to the first message.
 fn passes(alloc: Global, change: u128) -> Result<bool, ProtocolError> {
-    let mut prover: Hashed = BinaryChallenger::from_hasher(Vec::new(alloc), Sha256Hasher);
-    let mut verifier: Hashed = BinaryChallenger::from_hasher(Vec::new(alloc), Sha256Hasher);
+    let mut prover = hashed::<Wide, Global>(Vec::new(alloc));
+    let mut verifier = hashed::<Wide, Global>(Vec::new(alloc));
     let a = [
         Wide::from_repr(1),
         Wide::from_repr(7),

@@ -4,7 +4,7 @@
 ghost use Rattle.std.specs.Prelude.{◌<◌};
 
 use field_base::Unsigned;
-use std::alloc::{AllocError, Global};
+use std::alloc::{AllocError, Allocator, Global};
 use transcript_elements::{BinaryChallenger, ByteLevel};
 use transcripts::{
     ByteChallenger, CanObserve, CanSampleBits, CanSampleUniformBits, ChallengerError, GrindError,
@@ -56,10 +56,10 @@ pub(crate) trait Asked {
 }
 
 /// A challenger over SHA-256.
-pub(crate) type Hashed<F> = BinaryChallenger<F, HashChallenger<Sha256Hasher>>;
+pub(crate) type Hashed<F, A> = BinaryChallenger<F, HashChallenger<Sha256Hasher, A>>;
 
 /// A challenger over SHA-256 from this initial state.
-pub(crate) fn hashed<F>(state: Vec<u8>) -> Hashed<F> {
+pub(crate) fn hashed<F, A: Allocator + Clone>(state: Vec<u8, A>) -> Hashed<F, A> {
     BinaryChallenger::from_hasher(state, Sha256Hasher)
 }
 

@@ -7,16 +7,16 @@
 //   of words, of caps lent and given away, `observe_slice`, `sample_element`, `sample_bits`, uniform bits, `check_witness`, `try_clone` and
 //   a sample of the copy), at fields of 16 and 128 bits;
 // - `grind` of 1 to 8 bits over it from 16 initial states.
-use super::asked::{Asked, Row, Said, element};
+use super::asked::{Asked, Hashed, Row, Said, element, hashed};
 use linked_list_allocator::LocalHeap;
 use std::alloc::{AllocError, Allocator, Global};
 use std::marker::PhantomData;
 use test_support::{Ending, Growing, Rest, fill_bytes, is_refused_in_turn, next_number};
-use transcript_elements::{BinaryChallenger, ByteLevel, TranscriptField};
-use transcripts::{ChallengerError, HashChallenger, Recorder, Sha256Hasher};
+use transcript_elements::{ByteLevel, TranscriptField};
+use transcripts::{ChallengerError, Recorder};
 
 /// A challenger over SHA-256 in a heap.
-pub(crate) type InHeap<'a, F> = BinaryChallenger<F, HashChallenger<Sha256Hasher, &'a LocalHeap>>;
+pub(crate) type InHeap<'a, F> = Hashed<F, &'a LocalHeap>;
 
 /// How a call of a challenger that had not failed ended.
 pub(crate) fn ending_of<C: Asked>(
@@ -53,7 +53,7 @@ struct SingleCall<F> {
 impl<F: ByteLevel> Growing for SingleCall<F> {
     fn run<'a>(&self, heap: &'a LocalHeap, rest: Rest<'a>) -> Result<Ending, AllocError> {
         let state = some_bytes(heap, self.len)?;
-        let mut challenger: InHeap<'_, F> = BinaryChallenger::from_hasher(state, Sha256Hasher);
+        let mut challenger: InHeap<'_, F> = hashed(state);
         Ok(ending_of(self.alloc, &mut challenger, &self.row, rest))
     }
 }

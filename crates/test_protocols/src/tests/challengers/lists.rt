@@ -3,15 +3,15 @@
 ghost use Rattle.std.specs.Prelude.{All, IfOk};
 ghost use Rattle.transcript_elements.specs.Calls.{MayCall};
 
-use super::asked::{Row, element};
+use super::asked::{Row, element, hashed};
 use super::heaps::InHeap;
 use super::many_calls::CALLS;
 use linked_list_allocator::LocalHeap;
 use std::alloc::{AllocError, Global};
 use std::marker::PhantomData;
 use test_support::{Ending, Growing, Rest, is_refused_in_turn};
-use transcript_elements::{BinaryChallenger, ByteLevel, Call, run_calls};
-use transcripts::{ChallengerError, Sha256Hasher};
+use transcript_elements::{ByteLevel, Call, run_calls};
+use transcripts::ChallengerError;
 
 // The call of a row.
 fn call_of<F: ByteLevel>(row: &Row) -> Call<F>
@@ -50,10 +50,7 @@ struct List<F> {
 impl<F: ByteLevel> Growing for List<F> {
     fn run<'a>(&self, heap: &'a LocalHeap, rest: Rest<'a>) -> Result<Ending, AllocError> {
         let calls = calls_of_rows::<F>(self.alloc, &CALLS[..self.len.min(257)])?;
-        let mut challenger: InHeap<'_, F> = BinaryChallenger::from_hasher(
-            Vec::new(heap),
-            Sha256Hasher,
-        );
+        let mut challenger: InHeap<'_, F> = hashed(Vec::new(heap));
         let mut replies = Vec::new(heap);
         let answer = run_calls(&mut challenger, calls.as_slice(), &mut replies);
         drop(rest);

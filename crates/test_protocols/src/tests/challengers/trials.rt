@@ -44,7 +44,7 @@ enum Trial<'a> {
 fn script_is_followed<F: TranscriptField>(alloc: Global, state: &[u8], rows: &[Row]) -> bool {
     match Vec::from_slice(alloc, state) {
         Ok(state) => {
-            let mut challenger = hashed::<F>(state);
+            let mut challenger = hashed::<F, _>(state);
             follows(alloc, &mut challenger, rows)
         }
         Err(_) => false,

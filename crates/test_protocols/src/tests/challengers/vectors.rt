@@ -3,7 +3,7 @@
 // challenger has failed, every call says so, and the double sees none of them. Of `sample_vec(4)` the vector and the challenger are in one
 // heap.
 use super::asked::{
-    Asked, EVERY_CALL, Row, Said, error_said, number_of, observed_said, only_fails,
+    Asked, EVERY_CALL, Row, Said, error_said, hashed, number_of, observed_said, only_fails,
 };
 use super::heaps::{InHeap, ending_of};
 use field_space::BasedVectorSpace;
@@ -13,7 +13,7 @@ use std::cell::Cell;
 use std::marker::PhantomData;
 use test_support::{Copies, Double, Ending, Growing, Rest, Seen, is_refused_in_turn};
 use transcript_elements::{BinaryChallenger, ByteLevel, FieldChallenger};
-use transcripts::{ByteChallenger, CanSample, ChallengerError, Sha256Hasher};
+use transcripts::{ByteChallenger, CanSample, ChallengerError};
 
 /// A challenger of a field that is asked for elements of an extension. To the rows of `asked` come 20, which samples an element of
 /// the extension by `sample` and returns the coefficient in the place of the bits, 21, which does so by `sample_algebra_element`, and
@@ -88,7 +88,7 @@ where
     E: BasedVectorSpace<F>,
 {
     fn run<'a>(&self, heap: &'a LocalHeap, rest: Rest<'a>) -> Result<Ending, AllocError> {
-        let challenger: InHeap<'_, F> = BinaryChallenger::from_hasher(Vec::new(heap), Sha256Hasher);
+        let challenger: InHeap<'_, F> = hashed(Vec::new(heap));
         let mut asked = asked_for::<F, E, _>(challenger);
         Ok(ending_of(self.alloc, &mut asked, &self.row, rest))
     }
@@ -103,10 +103,7 @@ struct FourSamples<F> {
 // What is refused is the vector, or a sample.
 impl<F: ByteLevel + BasedVectorSpace<F>> Growing for FourSamples<F> {
     fn run<'a>(&self, heap: &'a LocalHeap, rest: Rest<'a>) -> Result<Ending, AllocError> {
-        let mut challenger: InHeap<'_, F> = BinaryChallenger::from_hasher(
-            Vec::new(heap),
-            Sha256Hasher,
-        );
+        let mut challenger: InHeap<'_, F> = hashed(Vec::new(heap));
         let sampled: Result<Vec<F, &LocalHeap>, ChallengerError> = challenger.sample_vec(heap, 4);
         drop(rest);
         Ok(match sampled {
