@@ -17,7 +17,7 @@ use Rattle.field_base.proofs.BasisSums.{sum_below-same}
 use Rattle.field_base.proofs.Places.{numbers-lt}
 use Rattle.field_base.proofs.RingLemmas.{mod-times}
 use Rattle.field_slices.specs.Multilinear.{eq_corner, multilinear_value}
-use Rattle.sum_checks.specs.Refusals.{CanBeStated, VerifierRefuses}
+use Rattle.sum_checks.specs.Refusals.{CanBeStated, ProverRefuses, VerifierRefuses}
 use Rattle.sum_checks.specs.Sumcheck.{AreTurns, IsRunOf, messages_of, statement_of}
 use Rattle.sum_checks.specs.SumcheckClaims.{AreHonestMessages, AreMessages, IsClaimShape, reduced_claim}
 use Rattle.sum_checks.specs.Terms.{AreWithin, HaveFactors, Product, cube_sum, degree_of, table_value, terms_value}
@@ -146,6 +146,11 @@ messages-are repr width (suc n) range values long = (
 
 -- ---- memory
 
+-- a field of 26 bits has more elements than a table's polynomial has coordinates
+pub rounds-fit : (width rounds : ℕ) → 26 ≤ width → rounds ≤ 39 → rounds < 2 ^ width
+rounds-fit width rounds points few =
+    let large : 2 ^ 26 ≤ 2 ^ width = pow_mono {i = 26} {j = width} points in omega (arith, large, few)
+
 -- the sum of two tables can be stated
 sum-stated : (width rounds : ℕ) → 3 ≤ width → rounds < 2 ^ width → CanBeStated width rounds 2 product_terms
 sum-stated width rounds wide fits =
@@ -154,7 +159,20 @@ sum-stated width rounds wide fits =
     let one : 1 < 2 ^ width = omega (arith, eight) in
     record { field = wide; within = product-within; rounds_fit = fits; count_fits = two; terms_fit = one }
 
--- so that a verifier refuses no messages of two values for each round
+-- so that a prover refuses no values of two for each corner
+pub sum-proved : (width rounds size : ℕ) (terms : List Product) (error : ProtocolError) → terms ≡ product_terms → size ≡ 2 ^ rounds * 2
+    → rounds < 64 → 3 ≤ width → rounds < 2 ^ width → (error ≡ Memory) ⊎ ProverRefuses width rounds 2 terms size error → error ≡ Memory
+sum-proved width rounds size terms error same long few wide fits (inl is) = is
+sum-proved width rounds size terms error same long few wide fits (inr is) =
+    absurd
+    (is.1
+    (record {
+      stated = subst (λ (ts : List Product). CanBeStated width rounds 2 ts) (sym same) (sum-stated width rounds wide fits);
+      few = few;
+      whole = long;
+    }))
+
+-- .. and a verifier no messages of two values for each round
 pub sum-taken : (width rounds size : ℕ) (terms : List Product) (error : ProtocolError) → terms ≡ product_terms → size ≡ 2 * rounds → 3 ≤ width
     → rounds < 2 ^ width → (error ≡ Memory) ⊎ VerifierRefuses width rounds 2 terms size error → error ≡ Memory
 sum-taken width rounds size terms error same long wide fits (inl is) = is

@@ -1,19 +1,38 @@
 -- Draws of places in a transcript, and calls that fail for memory alone.
-use Rattle.std.proofs.Common.{◌≡◌, ◌↔◌, ℕ, Bool, List, length, Result, sym, ◌∙◌, subst}
+use Rattle.std.proofs.Common.{◌≡◌, ◌↔◌, ℕ, Bool, List, length, Result, inl, inr, sym, ◌∙◌, ap, subst}
 use Rattle.std.specs.Prelude.{IfErr, IsErrAnd, IsTrue}
 use Rattle.std.proofs.lemmas.Result.{err_from_is_err_and}
+use Rattle.transcripts.specs.Grinding.{FailsSearch}
 use Rattle.transcripts.specs.Lists.{InTurn}
+use Rattle.transcripts.specs.declared.error.GrindError.{GrindError}
 use Rattle.merkle_trees.specs.Queries.{AreQueries}
+use Rattle.sum_checks.specs.Refusals.{error_of_search}
 use Rattle.sum_checks.specs.declared.error.ProtocolError.{ProtocolError}
 use Rattle.sum_checks.specs.declared.error.ProtocolError.TheVariants.{Memory}
-use Rattle.protocols.specs.CommitmentScheme.{ArePlacesDrawn, block_places, opening_work, place_bits, place_count}
+use Rattle.protocols.specs.CommitmentScheme.{ArePlacesDrawn, StopsOpening, block_places, opening_work, place_bits, place_count}
 
--- an error that is one of memory, since the call within failed with it
+-- an error has a property, since the call within failed with one from which it follows
+pub fails-so : {T : Type 0} {P Q : ProtocolError → Type 0} (result : Result T ProtocolError) → IsErrAnd result Q
+    → ((error : ProtocolError) → Q error → P error) → IfErr result P
+fails-so {T} {P} result fails only =
+    let error = err_from_is_err_and result fails in
+    subst (λ (r : Result T ProtocolError). IfErr r P) (sym error.1) (only error.0 error.2)
+
+-- .. it is that error
+pub fails-as : {T : Type 0} (P : ProtocolError → Type 0) (result : Result T ProtocolError) (error : ProtocolError)
+    → IsErrAnd result (λ e. e ≡ error) → P error → IfErr result P
+fails-as P result error fails is = fails-so result fails (λ e same. subst P (sym same) is)
+
+-- .. it is one of memory
 pub memory-alone : {T : Type 0} {Q : ProtocolError → Type 0} (result : Result T ProtocolError) → IsErrAnd result Q
     → ((error : ProtocolError) → Q error → error ≡ Memory) → IfErr result (λ error. error ≡ Memory)
-memory-alone {T} result fails only =
-    let error = err_from_is_err_and result fails in
-    subst (λ (r : Result T ProtocolError). IfErr r (λ e. e ≡ Memory)) (sym error.1) (only error.0 error.2)
+memory-alone result fails only = fails-so result fails only
+
+-- a search that fails stops a prover
+pub search-stops : {C : Type 0} (passing : C → ℕ → ℕ → Bool) (width : ℕ) (state : C) (refusal : GrindError) (error : ProtocolError)
+    → error ≡ error_of_search refusal → FailsSearch (passing state opening_work) width refusal → StopsOpening passing width error
+search-stops passing width state refusal error is (inl memory) = inl (is ∙ ap error_of_search memory)
+search-stops passing width state refusal error is (inr none) = inr (is ∙ ap error_of_search none.0, (state, none.1))
 
 -- places that are drawn by numbers of `bits` bits, behind what was sent
 pub places-drawn : {C F : Type 0} (observes gives : C → F → C → Type 0) (passing : C → ℕ → ℕ → Bool) (checks gives_bits : C → ℕ → ℕ → C → Type 0)

@@ -16,6 +16,9 @@ use Rattle.proximity.specs.Blocks.{cheats_in_blocks}
 use Rattle.proximity.specs.Codes.{HaveSymbols, IsWordOf}
 use Rattle.proximity.specs.Openings.{IsOpened}
 use Rattle.sum_checks.specs.Sumcheck.{IsTurn}
+use Rattle.sum_checks.specs.declared.error.ProtocolError.{ProtocolError}
+use Rattle.sum_checks.specs.declared.error.ProtocolError.TheVariants.{Memory, NoWitness}
+use Rattle.transcripts.specs.Grinding.{NonePasses, candidate_count}
 use Rattle.protocols.specs.CodeDistances.{point_generator}
 use Rattle.protocols.specs.OpenedTables.{AreColumnsOf, ShowsTable}
 use Rattle.protocols.specs.RootColumns.{HasSent, HaveOtherColumns, SentColumns}
@@ -75,6 +78,12 @@ pub record ArePlacesDrawn {C F : Type 0} (observes gives : C → F → C → Typ
   pub queries : AreQueries passing checks gives_bits turned opening_work witness works (place_bits m n) numbers new
   pub count : length numbers ≡ place_count m n
   pub chosen : places ≡ block_places (place_bits m n) numbers
+
+-- Why a prover stops in a transcript that has not failed, over a field of so many bits: memory was refused, or in some state of the
+-- transcript no candidate is a witness of the work.
+abbrev pub StopsOpening : {C : Type 0} → (C → ℕ → ℕ → Bool) → ℕ → ProtocolError → Type 0
+StopsOpening {C} passing width error =
+    (error ≡ Memory) ⊎ (error ≡ NoWitness) × ((state : C) × NonePasses (passing state opening_work) (candidate_count width))
 
 -- Nodes open the columns at these places under the root, the row's code word agrees with them at the first coordinates of the point, and
 -- the row has the value at the others.

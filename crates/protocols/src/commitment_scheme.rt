@@ -8,7 +8,7 @@ ghost use Rattle.merkle_trees.specs.{Commitments.{row_at}, Openings.{AreAscendin
 ghost use Rattle.transcripts.specs.Grinding.{MayGrind};
 ghost use Rattle.sum_checks.specs.declared.error.ProtocolError.TheVariants.{Memory};
 ghost use Rattle.protocols.specs.CommitmentScheme.{ArePlacesDrawn, HasBits, HasMostBits, HoldsColumns, IsHonestValue, OpensValue};
-ghost use Rattle.protocols.specs.CommitmentScheme.{VerifiesValue};
+ghost use Rattle.protocols.specs.CommitmentScheme.{StopsOpening, VerifiesValue};
 ghost use Rattle.protocols.specs.CommitmentScheme.{block_places, matrix_rows, place_bits, place_count, row_levels, word_levels};
 
 use crate::tables::{
@@ -222,8 +222,8 @@ pub(crate) fn sent_elements<F: Field, A: Allocator>(
 /// may grind 16 bits: over a field of 24 bits or more. The point, the value and the row are observed, a challenge is sampled, the work is
 /// done, and then places are drawn. The caller's transcript begins with its statement, the sizes and the root, and the point is drawn
 /// behind them: of a point that is not drawn, `laws::values_are_bound` allows that its coordinates are lucky. A verifier in a transcript
-/// of the same state accepts what is sent (`laws::verdicts_agree`). It fails where the challenger does, if no witness is found, or if
-/// memory was refused.
+/// of the same state accepts what is sent (`laws::verdicts_agree`). In a transcript that has not failed it fails only if no witness is
+/// found, or if memory was refused.
 pub fn open<
     F: ShortElement,
     C: CanObserve<F> + CanSample<F> + GrindingChallenger<Witness = F> + CanSampleUniformBits<F>,
@@ -247,6 +247,7 @@ pub fn open<
     ensures accepted { IfOk result (λ opened. IsHonestValue C.observes C.gives C.passing C.checks C.gives_bits F.repr F.NUM_BYTES F.width
         F.product (λ i. F.basis (F.cantor i)) parameters.now.queries parameters.now.variables held.now.columns.items held.now.tree point.now
         opened.value opened.row.items (C.number opened.witness) opened.columns.items opened.nodes.items challenger.old) }
+    ensures error { C.has_failed challenger.old ≡ false → IfErr result (StopsOpening C.passing C.witness_bits) }
 {
     let (first, others) = point.split_at(parameters.rows);
     let size = power_of_two(parameters.levels);
@@ -307,8 +308,8 @@ pub fn verify<
 
 /// What a prover draws behind what it has sent, of whatever tables and points that is: what is sent is observed, a challenge is sampled, a
 /// witness of 16 bits of work is searched for, and a place is sampled in each block. It returns the witness, which works, and the places,
-/// which ascend. The challenger may grind 16 bits: over a field of 24 bits or more. It fails where the challenger does, if no witness is
-/// found, or if memory was refused.
+/// which ascend. The challenger may grind 16 bits: over a field of 24 bits or more. In a transcript that has not failed it fails only if
+/// no witness is found, or if memory was refused.
 pub fn grind_places<
     F: ShortElement,
     C: CanObserve<F> + CanSample<F> + GrindingChallenger<Witness = F> + CanSampleUniformBits<F>,
@@ -324,6 +325,7 @@ pub fn grind_places<
         parameters.now.variables sent.now (C.number drawn.0) challenger.old true drawn.1.items challenger.new) }
     ensures ascending { IfOk result (λ drawn. AreAscending (2 ^ word_levels parameters.now.queries parameters.now.variables)
         drawn.1.items) }
+    ensures error { C.has_failed challenger.old ≡ false → IfErr result (StopsOpening C.passing C.witness_bits) }
 {
     challenger.observe_slice(sent)?;
     let _challenge = challenger.sample()?;

@@ -8,7 +8,7 @@ ghost use Rattle.merkle_trees.specs.Commitments.{row_at};
 ghost use Rattle.merkle_trees.specs.Openings.{AreAscending};
 ghost use Rattle.transcripts.specs.Grinding.{MayGrind};
 ghost use Rattle.sum_checks.specs.declared.error.ProtocolError.TheVariants.{Memory};
-ghost use Rattle.protocols.specs.CommitmentScheme.{matrix_rows, row_levels, word_levels};
+ghost use Rattle.protocols.specs.CommitmentScheme.{StopsOpening, matrix_rows, row_levels, word_levels};
 ghost use Rattle.protocols.specs.JointTables.{AreTablesCombined, EachBelow, IsHonestOpeningOf, IsLeastCube, OpensBytes, OpensTables};
 ghost use Rattle.protocols.specs.JointTables.{VerifiesTables, sent_column, sent_tables, stacked};
 ghost use Rattle.protocols.specs.Tables.{AgreesAt, IsHonestOpening};
@@ -255,7 +255,7 @@ fn open_each<F: ShortElement, A: Allocator + Copy>(
 /// are sampled, one for each bit of a table's number, the row of the table that they combine the tables to is observed, and then places are
 /// drawn, at which the columns of all tables are opened. The caller's transcript begins with its statement, the sizes and the roots, and the
 /// point is drawn behind them. A verifier in a transcript of the same state accepts what is sent, and is then in the same state
-/// (`laws::table_verdicts_agree`). It fails where the challenger does, if no witness is found, or if memory was refused.
+/// (`laws::table_verdicts_agree`). In a transcript that has not failed it fails only if no witness is found, or if memory was refused.
 pub fn open_tables<
     F: ShortElement,
     C: CanObserve<F> + CanSample<F> + GrindingChallenger<Witness = F> + CanSampleUniformBits<F>,
@@ -273,11 +273,12 @@ pub fn open_tables<
     requires depth { All (λ held. held.now.tree.depth ≡ word_levels parameters.now.queries parameters.now.variables) tables.now }
     requires count { All (λ held. length held.now.columns.items ≡ 2 ^ 2 * 2 ^ row_levels parameters.now.queries parameters.now.variables
         * 2 ^ matrix_rows parameters.now.queries parameters.now.variables) tables.now }
-    ensures { IfOk result (λ opened. IsHonestOpeningOf C.observes C.gives C.passing C.checks C.gives_bits F.repr F.NUM_BYTES F.width
+    ensures honest { IfOk result (λ opened. IsHonestOpeningOf C.observes C.gives C.passing C.checks C.gives_bits F.repr F.NUM_BYTES F.width
         F.product (λ i. F.basis (F.cantor i)) parameters.now.queries parameters.now.variables
         (map (λ held. (held.now.columns.items, held.now.tree)) tables.now) point.now
         (sent_tables opened.values.items opened.row.items (C.number opened.witness) (map (λ list. list.items) opened.columns.items)
         (map (λ list. list.items) opened.nodes.items)) challenger.old challenger.new) }
+    ensures error { C.has_failed challenger.old ≡ false → IfErr result (StopsOpening C.passing C.witness_bits) }
 {
     let rows = rows_of_tables(alloc, parameters, tables, point)?;
     let lists = rows.as_slice();

@@ -9,7 +9,7 @@ ghost use Rattle.transcripts.specs.Grinding.{MayGrind};
 ghost use Rattle.transcripts.specs.Lists.{InTurn};
 ghost use Rattle.merkle_trees.specs.Commitments.{row_at};
 ghost use Rattle.sum_checks.specs.declared.error.ProtocolError.TheVariants.{Memory};
-ghost use Rattle.protocols.specs.CommitmentScheme.{matrix_rows, row_levels, word_levels};
+ghost use Rattle.protocols.specs.CommitmentScheme.{StopsOpening, matrix_rows, row_levels, word_levels};
 ghost use Rattle.protocols.specs.JointTables.{IsLeastCube, sent_tables};
 ghost use Rattle.protocols.specs.ManyPoints.{IsHonestAtPoints, VerifiesPoints, corner_weights, point_values, point_weights};
 
@@ -200,7 +200,7 @@ pub fn open_points<
     requires depth { All (λ held. held.now.tree.depth ≡ word_levels parameters.now.queries parameters.now.variables) held.now }
     requires columns { All (λ held. length held.now.columns.items ≡ 2 ^ 2 * 2 ^ row_levels parameters.now.queries parameters.now.variables
         * 2 ^ matrix_rows parameters.now.queries parameters.now.variables) held.now }
-    ensures { IfOk result (λ opened. IsHonestAtPoints C.observes C.gives C.passing C.checks C.gives_bits F.repr F.NUM_BYTES F.width
+    ensures honest { IfOk result (λ opened. IsHonestAtPoints C.observes C.gives C.passing C.checks C.gives_bits F.repr F.NUM_BYTES F.width
         F.product (λ i. F.basis (F.cantor i)) parameters.now.queries parameters.now.variables (map (λ table. table.now) tables.now)
         (map (λ held. (held.now.columns.items, held.now.tree)) held.now) count points.now (record {
           values = opened.values.items;
@@ -208,6 +208,7 @@ pub fn open_points<
           tables = sent_tables opened.tables.values.items opened.tables.row.items (C.number opened.tables.witness)
               (map (λ list. list.items) opened.tables.columns.items) (map (λ list. list.items) opened.tables.nodes.items);
         }) challenger.old challenger.new) }
+    ensures error { C.has_failed challenger.old ≡ false → IfErr result (StopsOpening C.passing C.witness_bits) }
 {
     let variables = parameters.variables;
     let values = values_at_points(alloc, tables, points, count, variables)?;

@@ -53,7 +53,8 @@ pub struct Summed<F: Field, A: Allocator> {
 }
 
 /// The sum of the products of two tables of 2^rounds elements, the messages that prove it, and the challenges. The statement and the
-/// messages are observed, and the challenges sampled. It fails as `sumcheck::prove` does.
+/// messages are observed, and the challenges sampled. It fails as `sumcheck::prove` does: where the field has at least 2^3 elements, and
+/// more than there are rounds, in a transcript that has not failed, only if memory was refused.
 pub fn prove_sum<F: Field, C: CanObserve<F> + CanSample<F>, A: Allocator + Copy>(
     alloc: A,
     challenger: &mut C,
@@ -64,8 +65,10 @@ pub fn prove_sum<F: Field, C: CanObserve<F> + CanSample<F>, A: Allocator + Copy>
     requires left { length left.now ≡ 2 ^ rounds }
     requires right { length right.now ≡ 2 ^ rounds }
     requires few { rounds ≤ 39 }
-    ensures { IfOk result (λ summed. IsSummed C.observes C.gives F.repr F.width F.product rounds left.now right.now challenger.old
+    ensures summed { IfOk result (λ summed. IsSummed C.observes C.gives F.repr F.width F.product rounds left.now right.now challenger.old
         summed.sum summed.messages.items summed.point.items challenger.new) }
+    ensures goes_on { OnOk result (C.has_failed challenger.new ≡ false) }
+    ensures memory { 3 ≤ F.width → rounds < 2 ^ F.width → C.has_failed challenger.old ≡ false → IfErr result (λ error. error ≡ Memory) }
 {
     let mut rows = rows(alloc, left, right)?;
     let terms = terms(alloc)?;

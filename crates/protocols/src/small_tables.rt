@@ -8,7 +8,7 @@ ghost use Rattle.field_base.specs.{Basis.{sum_below}, Chunks.{chunk}};
 ghost use Rattle.field_slices.specs.Multilinear.{multilinear_value};
 ghost use Rattle.transcripts.specs.Grinding.{MayGrind};
 ghost use Rattle.sum_checks.specs.declared.error.ProtocolError.TheVariants.{Memory};
-ghost use Rattle.protocols.specs.CommitmentScheme.{VerifiesValue, matrix_rows, row_levels, word_levels};
+ghost use Rattle.protocols.specs.CommitmentScheme.{StopsOpening, VerifiesValue, matrix_rows, row_levels, word_levels};
 ghost use Rattle.protocols.specs.SmallOpenings.{IsHonestSmall, IsPointDrawn, VerifiesSmall};
 ghost use Rattle.protocols.specs.SmallTables.{FalsePartsNeedRoot, IsSpaceOver, MixedSumsAreParts, SmallValuesAreWeighted};
 ghost use Rattle.protocols.specs.SmallTables.{mixed, mixed_sum, mixed_weights, point_scalars};
@@ -331,8 +331,8 @@ pub fn open_small<
     requires depth { held.now.tree.depth ≡ word_levels parameters.now.queries parameters.now.variables }
     requires count { length held.now.columns.items ≡ 2 ^ 2 * 2 ^ row_levels parameters.now.queries parameters.now.variables
         * 2 ^ matrix_rows parameters.now.queries parameters.now.variables }
-    ensures { IfOk result (λ opened. IsHonestSmall C.observes C.gives C.passing C.checks C.gives_bits F.repr F.NUM_BYTES F.width F.product
-        (λ i. F.basis (F.cantor i)) parameters.now.queries parameters.now.variables small.now.width small.now.levels table.now
+    ensures honest { IfOk result (λ opened. IsHonestSmall C.observes C.gives C.passing C.checks C.gives_bits F.repr F.NUM_BYTES F.width
+        F.product (λ i. F.basis (F.cantor i)) parameters.now.queries parameters.now.variables small.now.width small.now.levels table.now
         held.now.columns.items held.now.tree point.now opened.value (record {
           parts = opened.parts.items;
           messages = opened.messages.items;
@@ -342,6 +342,7 @@ pub fn open_small<
           columns = opened.packed.columns.items;
           nodes = opened.packed.nodes.items;
         }) challenger.old) }
+    ensures error { C.has_failed challenger.old ≡ false → IfErr result (StopsOpening C.passing C.witness_bits) }
 {
     let (first, last) = point.split_at(parameters.variables);
     let corners = eq_poly(alloc, first)?;

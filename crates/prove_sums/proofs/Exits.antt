@@ -1,7 +1,6 @@
--- Sizes that fit a field, and what is printed for a file.
-use Rattle.std.proofs.Common.{◌≡◌, ℕ, ◌^◌, ◌<◌, ◌≤◌, Err, Ok, Result, List, sym, ◌∙◌, ap, refl, subst, arith}
+-- What is printed for a file.
+use Rattle.std.proofs.Common.{◌≡◌, ℕ, Err, Ok, Result, List, sym, ◌∙◌, ap, refl, subst}
 use Rattle.std.specs.Prelude.{IfErr, IsErr, IsErrAnd, IsOk, None, Some}
-use Rattle.std.proofs.Math.Pow.{pow_mono}
 use Rattle.std.proofs.lemmas.Result.{err_from_is_err_and}
 use Rattle.field_element.specs.Element.{repr_of}
 use Rattle.prove_sums.specs.ProofFiles.{number_in}
@@ -12,17 +11,6 @@ use Rattle.prove_sums.specs.declared.reports.NoAnswer.{NoAnswer}
 use Rattle.prove_sums.specs.declared.reports.NoAnswer.TheVariants as no_answer
 use Rattle.prove_sums.specs.declared.tables.Table.{Table}
 use Rattle.prove_sums.specs.declared.tables.TableField.{TableField}
-
--- ---- memory
-
--- a field with many bits has more elements than there are rounds
-pub rounds-fit : (width rounds : ℕ) → 40 ≤ width → rounds ≤ 39 → rounds < 2 ^ width
-rounds-fit width rounds wide few =
-    let six : 6 ≤ width = omega (arith, wide) in
-    let many : 64 ≤ 2 ^ width = pow_mono {i = 6} {j = width} six in
-    omega (arith, many, few)
-
--- ---- what is printed
 
 -- a result that is told by another
 pub err-of : {T E : Type 0} (told : Result T E) (error : E) → Err error ≡ told → IsErr told

@@ -1,15 +1,15 @@
 -- Files are cut into the parts of which they are made.
-use Rattle.std.proofs.Common.{◌≡◌, ℕ, zero, suc, ◌+◌, ◌-◌, ◌*◌, ◌/◌, ◌%◌, ◌<◌, ◌≤◌, List, [], ◌∷◌, ◌++◌, length, get_or, take, drop, refl, sym, ◌∙◌, ap, ap₂, subst, arith}
+use Rattle.std.proofs.Common.{◌≡◌, ◌≢◌, ℕ, zero, suc, ◌+◌, ◌-◌, ◌*◌, ◌/◌, ◌%◌, ◌<◌, ◌≤◌, List, [], ◌∷◌, ◌++◌, length, get_or, take, drop, refl, sym, ◌∙◌, ap, ap₂, subst, arith}
 use Rattle.std.specs.Prelude.{IfNone, IfSome, None, Option, Some, cond, nat_eq, slice_index}
 use Rattle.std.specs.List.{flat_map}
 use Rattle.std.specs.Simd.{first_chunks}
 use Rattle.std.proofs.Math.Seq.{drop-append_seam, take-append_seam}
-use Rattle.std.proofs.lemmas.List.{append_assoc, drop-drop, length-append, length-drop, length-take-le, take-append-drop}
+use Rattle.std.proofs.lemmas.List.{append_assoc, drop-drop, get_or-take, length-append, length-drop, length-take-le, take-append-drop}
 use Rattle.std.proofs.lemmas.List.Concat.{flat_map-cons}
 use Rattle.field_bytes.specs.Bytes.{low_bytes}
 use Rattle.field_bytes.specs.Streams.{joined_bytes}
 use Rattle.field_bytes.proofs.Taking.{length-chunks}
-use Rattle.prove_sums.specs.ProofFiles.{file_bytes, head, IsCutTo, IsFile}
+use Rattle.prove_sums.specs.ProofFiles.{file_bytes, head, HasHead, IsCutTo, IsFile}
 use Rattle.prove_sums.specs.Shapes.{element_count}
 use Rattle.prove_sums.specs.Tables.{field_letter}
 use Rattle.prove_sums.specs.declared.tables.TableField.{TableField}
@@ -89,6 +89,13 @@ named-back Tower128 = refl
 -- no two fields have one letter
 pub same-field : (f g : TableField) → field_letter f ≡ field_letter g → f ≡ g
 same-field f g same = sym (named-back f) ∙ ap letter_field same ∙ named-back g
+
+-- bytes with a field's letter begin as a proof over no field does, where they do not over this one
+pub headless : (bytes : List ℕ) (field : TableField) → slice_index bytes 6 ≡ field_letter field → take 8 bytes ≢ head field → HasHead bytes → ⊥
+headless bytes field letter other has =
+    let seventh : slice_index bytes 6 ≡ field_letter has.0 =
+    sym (get_or-take 8 bytes 6 0 (omega arith)) ∙ ap (λ (l : List ℕ). slice_index l 6) has.1 in
+    other (has.1 ∙ ap head (same-field has.0 field (sym seventh ∙ letter)))
 
 -- ---- files
 

@@ -19,7 +19,7 @@ ok-told {X} {R} says told read is has = subst (λ (r : Result X R). IfOk r says)
 
 module _ {F H : Type 0} (digest : H → List ℕ → List ℕ) (hasher : H) (repr : F → ℕ) (bits : ℕ) (field : TableField) (left right bytes : List ℕ) where
   -- bytes that were not read
-  pub unread : (refusal : Refusal) → IsNoFile repr bytes → IsReadRefusal refusal → IsAnswerTo digest hasher repr bits field left right bytes (Some refusal)
+  pub unread : (refusal : Refusal) → IsNoFile repr bytes → IsReadRefusal refusal bytes → IsAnswerTo digest hasher repr bits field left right bytes (Some refusal)
   unread NotAProof none is = none
   unread OtherVersion none is = none
   unread OtherField none is = inl none

@@ -1,17 +1,26 @@
 -- What is stated over a challenger, over its states.
-use Rattle.std.proofs.Common.{◌≡◌, ◌∙◌, ℕ, Bool, true, List, [], ◌∷◌, ◌++◌, ap, subst}
+use Rattle.std.proofs.Common.{◌≡◌, ◌∙◌, ℕ, Bool, true, inl, inr, List, [], ◌∷◌, ◌++◌, ap, subst, sym}
 use Rattle.transcripts.specs.Lists.{InTurn}
 use Rattle.merkle_trees.specs.Commitments.{root_of}
 use Rattle.merkle_trees.specs.Queries.{AreQueries}
 use Rattle.merkle_trees.specs.declared.merkle_tree.MerkleTree.{MerkleTree}
 use Rattle.sum_checks.specs.Sumcheck.{AreTurns, IsRunOf, IsTurn, Statement, messages_of}
-use Rattle.protocols.specs.CommitmentScheme.{ArePlacesDrawn, opening_work, place_bits}
+use Rattle.sum_checks.specs.declared.error.ProtocolError.{ProtocolError}
+use Rattle.protocols.specs.CommitmentScheme.{ArePlacesDrawn, StopsOpening, opening_work, place_bits}
 use Rattle.protocols.specs.JointTables.{SentTables, VerifiesTables, sent_tables}
 use Rattle.protocols.specs.ProductSums.{IsSummed, sum_statement}
 use Rattle.prove_sums.specs.Shapes.{messages_in, sent_in, sum_in}
 use Rattle.prove_sums.specs.Verdicts.{IsHonestProof, IsReducedClaim, VerifiesSum}
 
 module _ {C S : Type 0} (state : C → S) where
+  -- why a prover stops
+  pub stops-on_states : (passing : C → ℕ → ℕ → Bool) (passed : S → ℕ → ℕ → Bool)
+      → ((old : C) (bits witness : ℕ) → passing old bits witness ≡ passed (state old) bits witness) → (width : ℕ) (error : ProtocolError)
+      → StopsOpening passing width error → StopsOpening passed width error
+  stops-on_states passing passed same width error (inl memory) = inl memory
+  stops-on_states passing passed same width error (inr none) =
+      inr (none.0, (state none.1.0, λ witness below. sym (same none.1.0 opening_work witness) ∙ none.1.1 witness below))
+
   -- steps in turn, as steps of the states
   in_turn : {T : Type 0} (step : C → T → C → Type 0) (made : S → T → S → Type 0)
       → ((old : C) (x : T) (new : C) → step old x new → made (state old) x (state new)) → (xs : List T) (old new : C)

@@ -1,15 +1,20 @@
--- Words of tables, and their images in the field of GHASH.
-use Rattle.std.proofs.Common.{◌≡◌, ℕ, ◌+◌, ◌*◌, ◌/◌, ◌%◌, ◌^◌, List, length, map, sym, ◌∙◌, ap, subst, arith}
+-- Words of tables, the elements that they are, and their images in the field of GHASH.
+use Rattle.std.proofs.Common.{◌≡◌, ◌≢◌, ℕ, zero, suc, ◌+◌, ◌*◌, ◌/◌, ◌%◌, ◌^◌, ◌<◌, ◌≤◌, Err, Ok, Result, List, [], ◌∷◌, ◌++◌, drop, get_or, length, map, take, refl, sym, ◌∙◌, ap, ap₂, subst, arith}
+use Rattle.std.specs.Prelude.{IfNone, None, Option, Some}
 use Rattle.std.specs.Int.{bit_at}
 use Rattle.std.specs.List.{range_with_len}
-use Rattle.std.proofs.lemmas.List.{length-map}
+use Rattle.std.specs.Result.{IfOk}
+use Rattle.std.proofs.lemmas.List.{get_or-drop, length-drop, length-map, length-take-le, take-append-drop}
+use Rattle.std.proofs.lemmas.List.Concat.{flat_map-cons}
 use Rattle.std.proofs.lemmas.List.FromFn.{length-map-range_with_len}
 use Rattle.std.proofs.lemmas.Nat.{div-add-mod'}
 use Rattle.std.proofs.lemmas.Simd.{map-map}
 use Rattle.field_base.specs.Basis.{basis_image, bit_image, ghash_images}
 use Rattle.field_base.specs.Remainder.{ghash_modulus}
 use Rattle.field_base.proofs.BasisSums.{bit_at-mod, sum_below-same}
-use Rattle.field_bytes.specs.Bytes.{number_of_bytes}
+use Rattle.field_bytes.specs.Bytes.{low_bytes, number_of_bytes}
+use Rattle.field_bytes.specs.Streams.{joined_bytes}
+use Rattle.field_bytes.proofs.LowBytes.{fits-take, low-number, number-lt}
 use Rattle.merkle_trees.specs.Commitments.{row_at}
 use Rattle.additive_transforms.specs.Images.{tower_image}
 use Rattle.prove_sums.specs.Tables.{AreEmbedded}
@@ -47,3 +52,48 @@ words-embedded repr number size bytes count words elements read images even last
     joined : (quotient all rest n s : ℕ) → quotient * s + rest ≡ all → rest ≡ 0 → n ≡ quotient → all ≡ n * s
     joined quotient all rest n s is none same =
         sym (ap (λ (v : ℕ). v * s) same ∙ omega (arith, is, none))
+
+-- a word of 16 bytes is that of an element, where each number of 128 bits is that of one
+word-there : {F : Type 0} (repr : F → ℕ) → ((n : ℕ) → n < 2 ^ 128 → (x : F) × (repr x ≡ n)) → (bytes : List ℕ) → 16 ≤ length bytes
+    → ((k : ℕ) → get_or bytes k 0 < 256) → (x : F) × (take 16 bytes ≡ low_bytes 16 (repr x))
+word-there {F} repr every bytes enough fits = (
+  first.0,
+  sym (low-number (take 16 bytes) small) ∙ ap (λ (n : ℕ). low_bytes n (number_of_bytes (take 16 bytes))) long
+      ∙ ap (low_bytes 16) (sym first.1),
+)
+  where
+    small : (k : ℕ) → get_or (take 16 bytes) k 0 < 256
+    small = fits-take 16 bytes fits
+
+    long : length (take 16 bytes) ≡ 16
+    long = length-take-le 16 bytes enough
+
+    first : (x : F) × (repr x ≡ number_of_bytes (take 16 bytes))
+    first =
+        every (number_of_bytes (take 16 bytes))
+        (subst (λ (n : ℕ). number_of_bytes (take 16 bytes) < 2 ^ (8 * n)) long (number-lt (take 16 bytes) small))
+
+-- .. and so many words are those of as many elements
+elements-there : {F : Type 0} (repr : F → ℕ) → ((n : ℕ) → n < 2 ^ 128 → (x : F) × (repr x ≡ n)) → (count : ℕ) (bytes : List ℕ)
+    → length bytes ≡ count * 16 → ((k : ℕ) → get_or bytes k 0 < 256) → (elements : List F) × (bytes ≡ joined_bytes 16 repr elements)
+elements-there repr every zero [] whole fits = ([], refl)
+elements-there repr every zero (b ∷ bytes) whole fits = absurd (omega (arith, whole))
+elements-there repr every (suc count) bytes whole fits =
+    let first = word-there repr every bytes (omega (arith, whole)) fits in
+    let others =
+    elements-there repr every count (drop 16 bytes) (omega (arith, whole, length-drop 16 bytes))
+    (λ k. subst (λ (b : ℕ). b < 256) (sym (get_or-drop 16 bytes k 0)) (fits (16 + k))) in (
+      first.0 ∷ others.0,
+      sym (take-append-drop 16 bytes) ∙ ap₂ (λ (a b : List ℕ). a ++ b) first.1 others.1
+          ∙ sym (flat_map-cons (λ x. low_bytes 16 (repr x)) first.0 others.0),
+    )
+
+-- so bytes that are those of no elements end within a word
+pub ends-within : {F V E : Type 0} (repr : F → ℕ) (bytes : List ℕ) (read : Result (Option V) E)
+    → IfOk read (λ found. IfNone found ((elements : List F) → bytes ≢ joined_bytes 16 repr elements))
+    → ((n : ℕ) → n < 2 ^ 128 → (x : F) × (repr x ≡ n)) → ((k : ℕ) → get_or bytes k 0 < 256)
+    → IfOk read (λ found. IfNone found (length bytes % 16 ≢ 0))
+ends-within repr bytes (Ok None) none every fits = λ whole.
+    let there = elements-there repr every (length bytes / 16) bytes (omega (arith, whole)) fits in none there.0 there.1
+ends-within repr bytes (Ok (Some found)) none every fits = tt
+ends-within repr bytes (Err error) none every fits = tt

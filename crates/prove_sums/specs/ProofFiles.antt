@@ -1,5 +1,6 @@
 -- Files of proofs.
-use Rattle.std.specs.Prelude.{◌≡◌, ⊤, ℕ, ◌*◌, ◌%◌, ◌≤◌, ◌<◌, List, [], ◌∷◌, ◌++◌, get_or, length}
+use Rattle.std.specs.Prelude.{◌≡◌, ◌⊎◌, ℕ, ◌*◌, ◌%◌, ◌≤◌, ◌<◌, List, [], ◌∷◌, ◌++◌, codes, get_or, length}
+use Rattle.std.specs.Io.{StartsWith}
 use Rattle.std.specs.List.{flat_map}
 use Rattle.field_bytes.specs.Streams.{joined_bytes}
 use Rattle.field_element.specs.Element.{repr_of}
@@ -65,14 +66,20 @@ number_in items repr = repr
 abbrev pub IsNoWordFile : List ℕ → Type 0
 IsNoWordFile bytes = IsNoFile (number_in (λ (table : Table). table.elements.items) repr_of) bytes
 
--- why bytes are not read as a file: their length, or what they begin with
-abbrev pub IsReadRefusal : Refusal → Type 0
-IsReadRefusal Length = ⊤
-IsReadRefusal NotAProof = ⊤
-IsReadRefusal OtherVersion = ⊤
-IsReadRefusal OtherField = ⊤
-IsReadRefusal OtherParameters = ⊥
-IsReadRefusal TooFewBits = ⊥
-IsReadRefusal OtherLeft = ⊥
-IsReadRefusal OtherRight = ⊥
-IsReadRefusal NotProved = ⊥
+-- bytes begin as a proof over some field does
+abbrev pub HasHead : List ℕ → Type 0
+HasHead bytes = (field : TableField) × StartsWith bytes (head field)
+
+-- Why bytes are not read as a file: their length, where there are fewer than the 74 that stand before the elements, or where they have a
+-- head; and else what they begin with: "sum 4 " is that of this version over another field, "sum " that of another version.
+abbrev pub IsReadRefusal : Refusal → List ℕ → Type 0
+IsReadRefusal Length bytes = (length bytes < 74) ⊎ HasHead bytes
+IsReadRefusal OtherField bytes = (74 ≤ length bytes) × StartsWith bytes (codes "sum 4 ") × (HasHead bytes → ⊥)
+IsReadRefusal OtherVersion bytes =
+    (74 ≤ length bytes) × StartsWith bytes (codes "sum ") × (StartsWith bytes (codes "sum 4 ") → ⊥)
+IsReadRefusal NotAProof bytes = (74 ≤ length bytes) × (StartsWith bytes (codes "sum ") → ⊥)
+IsReadRefusal OtherParameters bytes = ⊥
+IsReadRefusal TooFewBits bytes = ⊥
+IsReadRefusal OtherLeft bytes = ⊥
+IsReadRefusal OtherRight bytes = ⊥
+IsReadRefusal NotProved bytes = ⊥

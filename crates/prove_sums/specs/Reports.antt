@@ -84,7 +84,7 @@ SaysInfo {F} repr bytes line =
 abbrev pub IsInfoReport : List ℕ → List ℕ → ℕ → Type 0
 IsInfoReport bytes line status =
     ((status ≡ 0) × SaysInfo (number_in (λ (table : Table). table.elements.items) repr_of) bytes line)
-    ⊎ ((status ≡ 1) × IsNoWordFile bytes × ((refusal : Refusal) × IsReadRefusal refusal × (line ≡ refusal_line refusal)))
+    ⊎ ((status ≡ 1) × IsNoWordFile bytes × ((refusal : Refusal) × IsReadRefusal refusal bytes × (line ≡ refusal_line refusal)))
 
 -- ---- `commit` and `prove`
 

@@ -1,5 +1,5 @@
 -- Tables of words as bytes, and the elements of the field of GHASH that they are. Elements have numbers by `repr`.
-use Rattle.std.specs.Prelude.{◌≡◌, ℕ, ◌*◌, ◌^◌, ◌≤◌, List, codes, length, map}
+use Rattle.std.specs.Prelude.{◌≡◌, ◌≢◌, ℕ, ◌*◌, ◌%◌, ◌^◌, ◌≤◌, List, codes, length, map}
 use Rattle.std.specs.List.{range_with_len}
 use Rattle.std.specs.declared.option.Option.{Option}
 use Rattle.std.specs.declared.option.Option.TheVariants.{None, Some}
@@ -47,6 +47,11 @@ pub record AreEmbedded {F : Type 0} (size : ℕ) (repr : F → ℕ) (bytes : Lis
 abbrev pub AreTableWords : {F : Type 0} → Option ℕ → (F → ℕ) → List ℕ → List F → Type 0
 AreTableWords None repr bytes elements = bytes ≡ joined_bytes 16 repr elements
 AreTableWords (Some size) repr bytes elements = AreEmbedded size repr bytes elements
+
+-- bytes end within a word of so many bytes, or of 16 where no size is given
+abbrev pub EndWithinWord : Option ℕ → List ℕ → Type 0
+EndWithinWord None bytes = length bytes % 16 ≢ 0
+EndWithinWord (Some size) bytes = length bytes % size ≢ 0
 
 -- bytes are a table of 2 ^ n words of a field
 pub record IsTable {F : Type 0} (field : TableField) (repr : F → ℕ) (bytes : List ℕ) (n : ℕ) (elements : List F) : Type 0 where

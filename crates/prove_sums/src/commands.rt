@@ -1,5 +1,5 @@
 // What the program does.
-ghost use Rattle.std.specs.Prelude.{◌≡◌, ◌⊎◌, ◌≤◌, codes, string_bytes, IfOk, IfSome};
+ghost use Rattle.std.specs.Prelude.{◌≡◌, ◌≢◌, ◌⊎◌, ◌≤◌, codes, string_bytes, IfNone, IfOk, IfSome};
 ghost use Rattle.field_element.specs.Element.{repr_of};
 ghost use Rattle.prove_sums.specs.Bits.{AreFor};
 ghost use Rattle.prove_sums.specs.Reports.{IsCommitReport, IsProveReport};
@@ -147,11 +147,12 @@ fn option_of(before: Options, words: &[String]) -> Result<(Options, &[String])> 
     Ok((Options { bits, field }, &words[2..]))
 }
 
-// The bits of soundness that a word asks for.
+// The bits of soundness that a word asks for, and None where it is none of the three words.
 fn bits_from(word: &str) -> Option<usize>
     ensures few { IfSome result (λ bits. bits ≤ 100) }
     ensures named { IfSome result (λ bits. ((bits ≡ 80) × (word.now ≡ codes "80")) ⊎ ((bits ≡ 96) × (word.now ≡ codes "96"))
         ⊎ ((bits ≡ 100) × (word.now ≡ codes "100"))) }
+    ensures none { IfNone result ((word.now ≢ codes "80") × (word.now ≢ codes "96") × (word.now ≢ codes "100")) }
 {
     match word {
         "80" => Some(80),

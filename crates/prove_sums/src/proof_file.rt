@@ -4,7 +4,7 @@
 ghost use Rattle.std.specs.Prelude.{◌≡◌, ◌≢◌, ◌<◌, ◌≤◌, ℕ, List, [], get_or, length, take, vec_len, IfOk, IfErr};
 ghost use Rattle.field_bytes.specs.Streams.{joined_bytes};
 ghost use Rattle.field_element.specs.Element.{repr_of};
-ghost use Rattle.prove_sums.specs.ProofFiles.{file_bytes, head, IsCutTo, IsFile, IsFileOf, IsNoWordFile, IsOnlyFileOf};
+ghost use Rattle.prove_sums.specs.ProofFiles.{file_bytes, head, HasHead, IsCutTo, IsFile, IsFileOf, IsNoWordFile, IsOnlyFileOf};
 ghost use Rattle.prove_sums.specs.ProofFiles.{IsReadRefusal};
 ghost use Rattle.prove_sums.specs.Shapes.{element_count};
 ghost use Rattle.prove_sums.specs.declared.tables.TableField.{TableField};
@@ -95,7 +95,9 @@ pub fn encode(
 }
 
 /// The proof of which these are the bytes, or why there is none. Bytes that `encode` wrote are accepted, and give what they were written
-/// of; what is accepted is what `encode` writes of the result. It fails if memory was refused.
+/// of; what is accepted is what `encode` writes of the result. Fewer than 74 bytes, and bytes that begin as a proof over some field does,
+/// are refused with `Length`; others by what they begin with: `OtherField` after "sum 4 ", `OtherVersion` after "sum " alone, else
+/// `NotAProof`. It fails if memory was refused.
 pub fn decode(
     alloc: Global,
     bytes: &[u8],
@@ -104,7 +106,7 @@ pub fn decode(
         proof.shape.rounds proof.roots.left proof.roots.right proof.elements.items proof.nodes.now)) }
     ensures own { IfOk result (λ read. IfOk read (λ proof. IsOnlyFileOf repr_of bytes.now proof.roots.field proof.shape.queries
         proof.shape.rounds proof.roots.left proof.roots.right proof.elements.items proof.nodes.now)) }
-    ensures refused { IfOk result (λ read. IfErr read (λ refusal. IsNoWordFile bytes.now × IsReadRefusal refusal)) }
+    ensures refused { IfOk result (λ read. IfErr read (λ refusal. IsNoWordFile bytes.now × IsReadRefusal refusal bytes.now)) }
 {
     let parts = match cut(bytes) {
         Ok(parts) => parts,
@@ -138,14 +140,14 @@ fn field_of(bytes: &[u8]) -> Result<TableField, Refusal>
     ensures named { IfOk result (λ field. take 8 bytes.now ≡ head field) }
     ensures refused { IfErr result (λ _. (field : TableField) (queries rounds : ℕ) (left right body : List ℕ) (nodes : List (List ℕ))
         → IsFile queries rounds left right body nodes → bytes.now ≢ file_bytes field queries rounds left right body nodes) }
-    ensures reason { IfErr result (λ refusal. IsReadRefusal refusal) }
+    ensures reason { IfErr result (λ refusal. IsReadRefusal refusal bytes.now) }
 {
     let Some(field) = TableField::with_letter(bytes[6]) else {
-        return Err(other_head(&bytes[..8]));
+        return Err(other_head(bytes));
     };
     let head = head_of(field);
     if bytes[..8] != head[..] {
-        return Err(other_head(&bytes[..8]));
+        return Err(other_head(bytes));
     }
     Ok(field)
 }
@@ -156,7 +158,7 @@ fn cut(bytes: &[u8]) -> Result<Parts<'_>, Refusal>
         parts.roots.right parts.body.now parts.nodes.now) }
     ensures refused { IfErr result (λ _. (field : TableField) (queries rounds : ℕ) (left right body : List ℕ) (nodes : List (List ℕ))
         → IsFile queries rounds left right body nodes → bytes.now ≢ file_bytes field queries rounds left right body nodes) }
-    ensures reason { IfErr result (λ refusal. IsReadRefusal refusal) }
+    ensures reason { IfErr result (λ refusal. IsReadRefusal refusal bytes.now) }
 {
     if bytes.len() < FRONT {
         return Err(Refusal::Length);
@@ -190,13 +192,13 @@ fn cut(bytes: &[u8]) -> Result<Parts<'_>, Refusal>
     })
 }
 
-// Why a proof that begins with these bytes is refused.
-fn other_head(head: &[u8]) -> Refusal
-    ensures { IsReadRefusal result }
+// Why bytes are refused that begin as a proof over no field does, where there are 74 or more.
+fn other_head(bytes: &[u8]) -> Refusal
+    ensures { 74 ≤ length bytes.now → (HasHead bytes.now → ⊥) → IsReadRefusal result bytes.now }
 {
-    if head.starts_with(b"sum 4 ") {
+    if bytes.starts_with(b"sum 4 ") {
         Refusal::OtherField
-    } else if head.starts_with(b"sum ") {
+    } else if bytes.starts_with(b"sum ") {
         Refusal::OtherVersion
     } else {
         Refusal::NotAProof

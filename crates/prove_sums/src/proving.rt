@@ -1,10 +1,10 @@
 // The prover of a sum of products of two tables, both committed to.
-ghost use Rattle.std.specs.Prelude.{◌≡◌, ◌^◌, ◌≤◌, map, vec_len, IfOk};
+ghost use Rattle.std.specs.Prelude.{◌≡◌, ◌^◌, ◌<◌, ◌≤◌, false, map, vec_len, IfErr, IfOk};
 ghost use Rattle.std.specs.List.{flat_map};
 ghost use Rattle.transcripts.specs.Grinding.{MayGrind};
 ghost use Rattle.field_bytes.specs.Streams.{joined_bytes};
 ghost use Rattle.merkle_trees.specs.Commitments.{IsTreeOver, row_at};
-ghost use Rattle.protocols.specs.CommitmentScheme.{matrix_rows};
+ghost use Rattle.protocols.specs.CommitmentScheme.{StopsOpening, matrix_rows};
 ghost use Rattle.prove_sums.specs.Verdicts.{HoldsTable, IsHonestProof};
 
 use crate::shapes::Shape;
@@ -56,7 +56,8 @@ pub fn commit<F: ByteLevel, H: ByteHasher32>(
     Ok(Committed { elements, held })
 }
 
-/// The proof of the sum of the products of two tables. It fails where the challenger does, or memory is refused.
+/// The proof of the sum of the products of two tables. Where the field has at least 2^3 elements, and more than there are rounds, in a
+/// transcript that has not failed, it fails only if no witness is found, or if memory was refused.
 pub fn prove<
     F: ByteLevel,
     C: FieldChallenger<F> + GrindingChallenger<Witness = F> + CanSampleUniformBits<F>,
@@ -72,10 +73,12 @@ pub fn prove<
         left.now.elements.items left.now.held.columns.items left.now.held.tree }
     requires right { HoldsTable F.repr F.width F.product (λ i. F.basis (F.cantor i)) shape.now.queries shape.now.rounds
         right.now.elements.items right.now.held.columns.items right.now.held.tree }
-    ensures { IfOk result (λ sent. IsHonestProof C.observes C.gives C.passing C.checks C.gives_bits C.number F.repr F.NUM_BYTES F.width
-        F.product (λ i. F.basis (F.cantor i)) shape.now.queries shape.now.rounds left.now.elements.items right.now.elements.items
+    ensures honest { IfOk result (λ sent. IsHonestProof C.observes C.gives C.passing C.checks C.gives_bits C.number F.repr F.NUM_BYTES
+        F.width F.product (λ i. F.basis (F.cantor i)) shape.now.queries shape.now.rounds left.now.elements.items right.now.elements.items
         left.now.held.columns.items right.now.held.columns.items left.now.held.tree right.now.held.tree sent.elements.items
         sent.nodes.items challenger.old) }
+    ensures error { 3 ≤ F.width → shape.now.rounds < 2 ^ F.width → C.has_failed challenger.old ≡ false
+        → IfErr result (StopsOpening C.passing C.witness_bits) }
 {
     let (one, other) = (left.elements.as_slice(), right.elements.as_slice());
     let summed = prove_sum(alloc, challenger, one, other, shape.rounds)?;

@@ -1,7 +1,8 @@
 // Tables of words, as bytes and as elements.
-ghost use Rattle.std.specs.Prelude.{◌≡◌, ◌≢◌, ◌≤◌, ◌<◌, ◌^◌, vec_len, IfNone, IfOk, IfSome};
+ghost use Rattle.std.specs.Prelude.{◌≡◌, ◌≢◌, ◌≤◌, ◌<◌, ◌%◌, ◌^◌, length, vec_len, IfNone, IfOk, IfSome};
 ghost use Rattle.field_element.specs.Element.{repr_of};
-ghost use Rattle.prove_sums.specs.{Bits.{AreFor}, Tables.{field_letter, field_name, tower_bytes, AreEmbedded, AreTableWords}};
+ghost use Rattle.prove_sums.specs.Bits.{AreFor};
+ghost use Rattle.prove_sums.specs.Tables.{field_letter, field_name, tower_bytes, AreEmbedded, AreTableWords, EndWithinWord};
 ghost use Rattle.prove_sums.specs.declared.tables.TableField.{TableField};
 
 use crate::shapes::Shape;
@@ -30,9 +31,10 @@ pub enum TableField {
 }
 
 impl TableField {
-    /// The field of this name: `g128`, or `t8` to `t128`.
+    /// The field of this name: `g128`, or `t8` to `t128`. It is None exactly if no field has the name.
     pub fn named(name: &str) -> Option<TableField>
-        ensures { IfSome result (λ field. name.now ≡ field_name field) }
+        ensures named { IfSome result (λ field. name.now ≡ field_name field) }
+        ensures none { IfNone result ((field : TableField) → name.now ≢ field_name field) }
     {
         match name {
             "g128" => Some(TableField::Ghash),
@@ -143,7 +145,8 @@ fn elements_of(
     field: TableField,
     bytes: &[u8],
 ) -> Result<Option<Vec<Ghash128>>, AllocError>
-    ensures { IfOk result (λ read. IfSome read (λ elements. AreTableWords (tower_bytes field) repr_of bytes.now elements.items)) }
+    ensures words { IfOk result (λ read. IfSome read (λ elements. AreTableWords (tower_bytes field) repr_of bytes.now elements.items)) }
+    ensures none { IfOk result (λ read. IfNone read (EndWithinWord (tower_bytes field) bytes.now)) }
 {
     match field.tower_bytes() {
         None => decode::<Ghash128, Global>(alloc, bytes),
@@ -156,7 +159,8 @@ fn elements_of(
 fn embedded(alloc: Global, size: usize, bytes: &[u8]) -> Result<Option<Vec<Ghash128>>, AllocError>
     requires some { 0 < size }
     requires few { size ≤ 16 }
-    ensures { IfOk result (λ read. IfSome read (λ elements. AreEmbedded size repr_of bytes.now elements.items)) }
+    ensures images { IfOk result (λ read. IfSome read (λ elements. AreEmbedded size repr_of bytes.now elements.items)) }
+    ensures none { IfOk result (λ read. IfNone read (length bytes.now % size ≢ 0)) }
 {
     if bytes.len() % size != 0 {
         return Ok(None);

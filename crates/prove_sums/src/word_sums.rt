@@ -6,9 +6,9 @@ ghost use Rattle.transcripts.specs.HashChallengers.{hash_state};
 ghost use Rattle.transcript_elements.specs.Challengers.{challenger_failed, inner_of};
 ghost use Rattle.sum_checks.specs.declared.error.ProtocolError.TheVariants.{Memory};
 ghost use Rattle.merkle_trees.specs.{Commitments.{IsTreeOver, digest_at, row_at}, MerkleTrees.{rows_root}};
-ghost use Rattle.protocols.specs.CommitmentScheme.{matrix_rows};
+ghost use Rattle.protocols.specs.CommitmentScheme.{StopsOpening, matrix_rows};
 ghost use Rattle.prove_sums.specs.ProofFiles.{file_bytes};
-ghost use Rattle.prove_sums.specs.Verdicts.{word_times, word_vector, HoldsTable, IsHonestSum, IsSumVerdict};
+ghost use Rattle.prove_sums.specs.Verdicts.{passes_number, word_times, word_vector, HoldsTable, IsHonestSum, IsSumVerdict};
 
 use crate::proof_file::{Proof, Roots, encode};
 use crate::proving::{Committed, Sent, commit};
@@ -63,8 +63,8 @@ pub fn root_of(table: &Committed<Ghash128>) -> [u8; 32]
     table.held.tree.commitment().root
 }
 
-/// The proof of the sum of the products of two committed tables of this size, in the transcript that begins with these roots. It fails if
-/// memory was refused.
+/// The proof of the sum of the products of two committed tables of this size, in the transcript that begins with these roots. It fails only
+/// if no witness is found, or if memory was refused.
 pub fn prove<H: ByteHasher32>(
     alloc: Global,
     hasher: &H,
@@ -77,10 +77,11 @@ pub fn prove<H: ByteHasher32>(
         left.now.held.columns.items left.now.held.tree }
     requires right { HoldsTable repr_of 128 word_times word_vector shape.now.queries shape.now.rounds right.now.elements.items
         right.now.held.columns.items right.now.held.tree }
-    ensures { IfOk result (λ sent. IsHonestSum H.digest hasher.now repr_of
+    ensures honest { IfOk result (λ sent. IsHonestSum H.digest hasher.now repr_of
         (file_bytes roots.now.field shape.now.queries shape.now.rounds roots.now.left roots.now.right [] []) shape.now.queries shape.now.rounds
         left.now.elements.items right.now.elements.items left.now.held.columns.items right.now.held.columns.items left.now.held.tree
         right.now.held.tree sent.elements.items sent.nodes.items) }
+    ensures error { IfErr result (StopsOpening (passes_number H.digest) 128) }
 {
     let mut challenger = transcript(alloc, hasher, shape, roots)?;
     let sent = proving::prove(alloc, &mut challenger, shape, left, right)?;

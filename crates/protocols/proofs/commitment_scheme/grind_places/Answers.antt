@@ -1,8 +1,9 @@
-use Rattle.std.proofs.Common.{◌^◌, ℕ, List, length, sym, ◌∙◌, ap, subst}
+use Rattle.std.proofs.Common.{◌^◌, ℕ, List, inl, length, sym, ◌∙◌, ap, subst}
 use Rattle.merkle_trees.specs.Openings.{AreAscending}
+use Rattle.sum_checks.specs.Refusals.{error_of_call}
 use Rattle.protocols.specs.CommitmentScheme.{block_places, place_bits, word_levels}
 use Rattle.protocols.proofs.BlockPlaces.{ascending, blocks-whole}
-use Rattle.protocols.proofs.SchemeRuns.{places-drawn}
+use Rattle.protocols.proofs.SchemeRuns.{fails-so, places-drawn, search-stops}
 use Rattle.protocols.proofs.commitment_scheme.grind_places.Goals as goal
 
 pub places-requires : goal.places-requires
@@ -23,3 +24,19 @@ returns-clause-ascending g c =
     (ascending (place_bits sizes.queries sizes.variables) _ (word_levels sizes.queries sizes.variables)
     (blocks-whole sizes.queries sizes.variables) c.as_slice.result.now
     (ap length c.as_slice.ensures.value ∙ c.in_ok-witness.ensures.count ∙ c.place_count-count.ensures.count))
+
+pub returns-in_err-observe_slice-clause-error : goal.returns-in_err-observe_slice-clause-error
+returns-in_err-observe_slice-clause-error g c going =
+    fails-so _ c.from_residual.ensures.1 (λ error is. inl (is ∙ ap error_of_call (c.in_err-observe_slice.ensures.answer.memory going).0))
+
+pub returns-in_err-_challenge-clause-error : goal.returns-in_err-_challenge-clause-error
+returns-in_err-_challenge-clause-error g c going =
+    fails-so _ c.from_residual-in_err-_challenge.ensures.1
+    (λ error is. inl (is ∙ ap error_of_call (c.in_err-_challenge.ensures.answer.memory c.in_ok-observe_slice.ensures.answer.goes_on).0))
+
+pub returns-in_err-witness-clause-error : goal.returns-in_err-witness-clause-error
+returns-in_err-witness-clause-error g c going =
+    fails-so _ c.from_residual-in_err-witness.ensures.1
+    (λ error is.
+    search-stops g.C.GrindingChallenger.passing g.C.GrindingChallenger.witness_bits _ _ error is
+    (c.in_err-witness.ensures.answer.errors c.in_ok-_challenge.ensures.answer.goes_on))

@@ -6,10 +6,11 @@ use Rattle.std.proofs.lemmas.List.FromFn.{length-map-range_with_len}
 use Rattle.field_slices.specs.Multilinear.{multilinear_value}
 use Rattle.merkle_trees.specs.Commitments.{row_at}
 use Rattle.merkle_trees.specs.Openings.{AreAscending}
-use Rattle.protocols.specs.CommitmentScheme.{ArePlacesDrawn, matrix_rows, row_levels, word_levels}
+use Rattle.protocols.specs.CommitmentScheme.{ArePlacesDrawn, StopsOpening, matrix_rows, row_levels, word_levels}
 use Rattle.protocols.specs.Tables.{IsHonestOpening}
 use Rattle.protocols.proofs.BlockPlaces.{columns-counted, columns-held}
 use Rattle.protocols.proofs.CommitmentScheme.{value-opened}
+use Rattle.protocols.proofs.SchemeRuns.{fails-as}
 use Rattle.protocols.proofs.commitment_scheme.open.Goals as goal
 
 pub split_at-requires : goal.split_at-requires
@@ -140,3 +141,8 @@ returns-clause-accepted g c = λ hash table held.
         );
       },
     )
+
+pub returns-in_err-witness-clause-error : goal.returns-in_err-witness-clause-error
+returns-in_err-witness-clause-error g c going =
+    fails-as (StopsOpening g.C.GrindingChallenger.passing g.C.GrindingChallenger.witness_bits) _ _ c.from_residual-in_err-witness.ensures.1
+    (c.in_err-witness.ensures.error going)

@@ -1,4 +1,4 @@
-use Rattle.std.proofs.Common.{◌≡◌, ◌<◌, ◌≤◌, ◌^◌, ◌++◌, [], ℕ, true, List, length, map, drop, get_or, refl, sym, ◌∙◌, ap, subst, arith}
+use Rattle.std.proofs.Common.{◌≡◌, ◌<◌, ◌≤◌, ◌^◌, ◌++◌, [], ℕ, true, inl, List, length, map, drop, get_or, refl, sym, ◌∙◌, ap, subst, arith}
 use Rattle.std.specs.Prelude.{slice_index}
 use Rattle.std.specs.List.{range_with_len}
 use Rattle.std.proofs.lemmas.List.{length-map}
@@ -6,11 +6,12 @@ use Rattle.std.proofs.lemmas.Nat.{pow-add}
 use Rattle.field_slices.specs.Multilinear.{multilinear_value}
 use Rattle.merkle_trees.specs.Commitments.{root_of}
 use Rattle.merkle_trees.specs.Openings.{AreAscending}
-use Rattle.protocols.specs.CommitmentScheme.{ArePlacesDrawn, matrix_rows, row_levels, word_levels}
+use Rattle.protocols.specs.CommitmentScheme.{ArePlacesDrawn, StopsOpening, matrix_rows, row_levels, word_levels}
 use Rattle.protocols.specs.JointTables.{AreTablesCombined, EachBelow, sent_tables}
 use Rattle.protocols.specs.Tables.{IsHonestOpening}
 use Rattle.protocols.proofs.HonestOpenings.{at-place, each-open, row-counted, values-are}
 use Rattle.protocols.proofs.HonestTables.{tables-open}
+use Rattle.protocols.proofs.SchemeRuns.{fails-as, fails-so}
 use Rattle.protocols.proofs.joint_tables.open_tables.Goals as goal
 
 pub values_of_rows-requires-clause-rows : goal.values_of_rows-requires-clause-rows
@@ -47,8 +48,8 @@ open_each-requires-clause-places g c =
     subst (λ (l : List ℕ). AreAscending (2 ^ word_levels sizes.queries sizes.variables) l) (sym c.as_slice-3.ensures.value)
     c.in_ok-witness.ensures.ascending
 
-pub returns : goal.returns
-returns g c = λ hash tables holds.
+pub returns-clause-honest : goal.returns-clause-honest
+returns-clause-honest g c = λ hash tables holds.
     let sizes = c.args.parameters.now in
     let m = sizes.queries in
     let n = sizes.variables in
@@ -136,3 +137,12 @@ returns g c = λ hash tables holds.
         );
       },
     )
+
+pub returns-in_err-challenges-clause-error : goal.returns-in_err-challenges-clause-error
+returns-in_err-challenges-clause-error g c going =
+    fails-so _ c.from_residual-in_err-challenges.ensures.1 (λ error is. inl (is ∙ c.in_err-challenges.ensures.memory going))
+
+pub returns-in_err-witness-clause-error : goal.returns-in_err-witness-clause-error
+returns-in_err-witness-clause-error g c going =
+    fails-as (StopsOpening g.C.GrindingChallenger.passing g.C.GrindingChallenger.witness_bits) _ _ c.from_residual-in_err-witness.ensures.1
+    (c.in_err-witness.ensures.error (c.in_ok-challenges.ensures.goes_on going))

@@ -1,15 +1,18 @@
-use Rattle.std.proofs.Common.{◌≡◌, ◌+◌, ◌*◌, ◌/◌, ◌%◌, ◌^◌, ◌≤◌, ◌++◌, [], ℕ, List, length, map, get_or, sym, ◌∙◌, ap, ap₂, subst, arith}
+use Rattle.std.proofs.Common.{◌≡◌, ◌+◌, ◌*◌, ◌/◌, ◌%◌, ◌^◌, ◌≤◌, ◌++◌, [], ℕ, inl, List, length, map, get_or, sym, ◌∙◌, ap, ap₂, subst, arith}
 use Rattle.std.specs.Prelude.{slice_index}
 use Rattle.std.specs.List.{range_with_len}
 use Rattle.std.proofs.lemmas.List.{length-map}
 use Rattle.field_slices.specs.Multilinear.{multilinear_value}
 use Rattle.merkle_trees.specs.Commitments.{row_at}
 use Rattle.sum_checks.proofs.Soundness.{honest_reduces}
+use Rattle.protocols.specs.CommitmentScheme.{StopsOpening}
 use Rattle.protocols.specs.JointTables.{AreTablesCombined, IsHonestOpeningOf, sent_tables}
 use Rattle.protocols.specs.ManyPoints.{corner_weights}
 use Rattle.protocols.specs.ProductSums.{IsSummed}
 use Rattle.protocols.proofs.HonestOpenings.{row-counted}
 use Rattle.protocols.proofs.ManyPoints.{honest-points}
+use Rattle.protocols.proofs.ProductSums.{rounds-fit}
+use Rattle.protocols.proofs.SchemeRuns.{fails-as, fails-so}
 use Rattle.protocols.proofs.many_points.open_points.Goals as goal
 
 pub combine_tables-requires-clause-room : goal.combine_tables-requires-clause-room
@@ -33,10 +36,10 @@ prove_sum-requires-clause-right g c =
     ∙ row-counted field.repr c.in_ok-corners.corners.items _ (2 ^ c.args.parameters.now.variables) c.in_ok-corners.ensures
 
 pub open_tables-requires-clause-coordinates : goal.open_tables-requires-clause-coordinates
-open_tables-requires-clause-coordinates g c = ap length c.as_slice-at.ensures.value ∙ c.in_ok-summed.ensures.challenge_count
+open_tables-requires-clause-coordinates g c = ap length c.as_slice-at.ensures.value ∙ c.in_ok-summed.ensures.summed.challenge_count
 
-pub returns : goal.returns
-returns g c =
+pub returns-clause-honest : goal.returns-clause-honest
+returns-clause-honest g c =
     let field = g.F.Represented in
     let repr = field.repr in
     let times = field.product in
@@ -88,7 +91,29 @@ returns g c =
     c.as_slice-right.ensures.value
     (subst
     (λ (l : List _). IsSummed observes gives repr field.width times n l c.as_slice-right.result.now weighed summed.sum summed.messages.items
-    summed.point.items between) c.as_slice-left.ensures.value c.in_ok-summed.ensures))
+    summed.point.items between) c.as_slice-left.ensures.value c.in_ok-summed.ensures.summed))
     (subst
     (λ (l : List _). IsHonestOpeningOf observes gives passing checks gives_bits repr bytes field.width times vector m n held l left between
-    c.open_tables.new.challenger) c.as_slice-at.ensures.value c.in_ok-opened.ensures)
+    c.open_tables.new.challenger) c.as_slice-at.ensures.value c.in_ok-opened.ensures.honest)
+
+pub returns-in_err-mix-clause-error : goal.returns-in_err-mix-clause-error
+returns-in_err-mix-clause-error g c going =
+    fails-so _ c.from_residual-in_err-mix.ensures.1 (λ error is. inl (is ∙ c.in_err-mix.ensures.memory going))
+
+pub returns-in_err-weights-clause-error : goal.returns-in_err-weights-clause-error
+returns-in_err-weights-clause-error g c going =
+    fails-so _ c.from_residual-in_err-weights.ensures.1
+    (λ error is. inl (is ∙ c.in_err-weights.ensures.memory (c.in_ok-mix.ensures.goes_on going)))
+
+pub returns-in_err-summed-clause-error : goal.returns-in_err-summed-clause-error
+returns-in_err-summed-clause-error g c going =
+    let width = g.F.Represented.width in
+    let wide : 3 ≤ width = omega (arith, c.requires.points) in
+    let fits = rounds-fit width c.args.parameters.now.variables c.requires.points c.args.parameters.now.few in
+    fails-so _ c.from_residual-in_err-summed.ensures.1
+    (λ error is. inl (is ∙ c.in_err-summed.ensures.memory wide fits c.in_ok-weights.ensures.goes_on))
+
+pub returns-in_err-opened-clause-error : goal.returns-in_err-opened-clause-error
+returns-in_err-opened-clause-error g c going =
+    fails-as (StopsOpening g.C.GrindingChallenger.passing g.C.GrindingChallenger.witness_bits) _ _ c.from_residual-in_err-opened.ensures.1
+    (c.in_err-opened.ensures.error c.in_ok-summed.ensures.goes_on)

@@ -1,11 +1,11 @@
-use Rattle.std.proofs.Common.{◌≡◌, ◌+◌, ◌*◌, ◌^◌, ◌≤◌, ◌<◌, ◌++◌, ℕ, List, length, map, sym, ◌∙◌, ap, ap₂, subst, arith}
+use Rattle.std.proofs.Common.{◌≡◌, ◌+◌, ◌*◌, ◌^◌, ◌≤◌, ◌++◌, ℕ, List, length, map, sym, ◌∙◌, ap, ap₂, subst, arith}
 use Rattle.std.specs.Prelude.{◌↔◌, IsTrue}
 use Rattle.std.proofs.Math.Nat.{mul-le-mul}
-use Rattle.std.proofs.Math.Pow.{pow_mono}
 use Rattle.field_slices.specs.Multilinear.{multilinear_value}
 use Rattle.protocols.specs.JointTables.{AreTablesCombined, VerifiesTables, sent_tables}
 use Rattle.protocols.specs.ManyPoints.{point_values, point_weights}
 use Rattle.protocols.specs.ProductSums.{IsReducedSum}
+use Rattle.protocols.proofs.ProductSums.{rounds-fit}
 use Rattle.protocols.proofs.SchemeRuns.{memory-alone}
 use Rattle.protocols.proofs.many_points.verify_points.Goals as goal
 
@@ -123,9 +123,7 @@ pub returns-in_err-reduced-clause-memory : goal.returns-in_err-reduced-clause-me
 returns-in_err-reduced-clause-memory g c going values messages =
     let width = g.F.Represented.width in
     let wide : 3 ≤ width = omega (arith, c.requires.points) in
-    let six : 6 ≤ width = omega (arith, c.requires.points) in
-    let large : 64 ≤ 2 ^ width = pow_mono {i = 6} {j = width} six in
-    let fits : c.args.parameters.now.variables < 2 ^ width = omega (arith, large, c.args.parameters.now.few) in
+    let fits = rounds-fit width c.args.parameters.now.variables c.requires.points c.args.parameters.now.few in
     memory-alone _ c.from_residual-in_err-reduced.ensures.1
     (λ error is.
     is ∙ c.in_err-reduced.ensures.memory wide fits (ap length c.as_slice-messages.ensures.value ∙ messages) c.in_ok-weights.ensures.goes_on)

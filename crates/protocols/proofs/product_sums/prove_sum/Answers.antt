@@ -2,7 +2,8 @@ use Rattle.std.proofs.Common.{◌*◌, ℕ, List, length, map, sym, ◌∙◌, a
 use Rattle.sum_checks.specs.Products.{term_product}
 use Rattle.sum_checks.specs.Terms.{AreWithin, Product}
 use Rattle.protocols.specs.ProductSums.{interleaved}
-use Rattle.protocols.proofs.ProductSums.{product-within, proved-sum, rows-length, run-length, two}
+use Rattle.protocols.proofs.ProductSums.{product-within, proved-sum, rows-length, run-length, sum-proved, two}
+use Rattle.protocols.proofs.SchemeRuns.{memory-alone}
 use Rattle.protocols.proofs.product_sums.prove_sum.Goals as goal
 
 pub cube_sum-sum-requires-clause-within : goal.cube_sum-sum-requires-clause-within
@@ -13,8 +14,8 @@ cube_sum-sum-requires-clause-size g c =
     ap length (c.as_slice.ensures.value ∙ c.in_ok-rows.ensures)
     ∙ rows-length c.args.left.now c.args.right.now (c.requires.right ∙ sym c.requires.left) ∙ ap (λ (n : ℕ). n * 2) c.requires.left
 
-pub returns : goal.returns
-returns g c =
+pub returns-clause-summed : goal.returns-clause-summed
+returns-clause-summed g c =
     let field = g.F.Represented in
     let proof = c.in_ok-proven.ensures in
     let proven = c.in_ok-proven.proven in
@@ -36,3 +37,15 @@ returns g c =
       message_count = let long = proof.length ∙ ap (λ (n : ℕ). rounds * n) degree in omega (arith, long);
       challenge_count = run-length observes gives 2 rounds proven.messages.items proven.point.items sent.0.1 _ sent.0.4;
     }
+
+pub returns-in_err-proven-clause-memory : goal.returns-in_err-proven-clause-memory
+returns-in_err-proven-clause-memory g c wide fits going =
+    let field = g.F.Represented in
+    let same = ap (map (term_product field.repr)) c.as_slice-terms.ensures.value ∙ c.in_ok-terms.ensures in
+    let long =
+    ap length (c.as_mut_slice.ensures.value ∙ c.in_ok-rows.ensures)
+    ∙ rows-length c.args.left.now c.args.right.now (c.requires.right ∙ sym c.requires.left) ∙ ap (λ (n : ℕ). n * 2) c.requires.left in
+    let memory =
+    sum-proved field.width c.args.rounds (length c.as_mut_slice.result.now) (map (term_product field.repr) c.as_slice-terms.result.now)
+    c.in_err-proven.field-0.0 same long (omega (arith, c.requires.few)) wide fits (c.in_err-proven.ensures.answer.memory going) in
+    memory-alone _ c.from_residual-in_err-proven.ensures.1 (λ error is. is ∙ memory)

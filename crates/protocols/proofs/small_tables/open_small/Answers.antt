@@ -1,4 +1,4 @@
-use Rattle.std.proofs.Common.{◌≡◌, ◌+◌, ◌-◌, ◌^◌, ◌∷◌, ◌++◌, ℕ, List, length, map, take, sym, ◌∙◌, ap, ap₂, subst, arith}
+use Rattle.std.proofs.Common.{◌≡◌, ◌+◌, ◌-◌, ◌^◌, ◌≤◌, ◌∷◌, ◌++◌, ℕ, inl, List, length, map, take, sym, ◌∙◌, ap, ap₂, subst, arith}
 use Rattle.std.specs.Prelude.{slice_index}
 use Rattle.std.specs.List.{range_with_len}
 use Rattle.std.proofs.lemmas.List.{length-map}
@@ -7,10 +7,12 @@ use Rattle.field_base.specs.Basis.{sum_below}
 use Rattle.field_base.specs.Chunks.{chunk}
 use Rattle.field_slices.specs.Multilinear.{eq_corner, multilinear_value}
 use Rattle.sum_checks.proofs.Soundness.{honest_reduces}
-use Rattle.protocols.specs.CommitmentScheme.{IsHonestValue}
+use Rattle.protocols.specs.CommitmentScheme.{IsHonestValue, StopsOpening}
 use Rattle.protocols.specs.ProductSums.{IsSummed}
 use Rattle.protocols.specs.SmallOpenings.{IsPointDrawn}
 use Rattle.protocols.specs.SmallTables.{mixed, point_scalars}
+use Rattle.protocols.proofs.ProductSums.{rounds-fit}
+use Rattle.protocols.proofs.SchemeRuns.{fails-as, fails-so}
 use Rattle.protocols.proofs.SmallOpenings.{honest-small}
 use Rattle.protocols.proofs.SmallParts.{mixed_sums_are_parts, parts-made, small_values_are_weighted, weights-made}
 use Rattle.protocols.proofs.TableLaws.{column_values_evaluate}
@@ -59,10 +61,10 @@ prove_sum-requires-clause-left g c =
     ∙ ap (λ (n : ℕ). 2 ^ n) c.split_at.ensures.front_len
 
 pub open-requires-clause-coordinates : goal.open-requires-clause-coordinates
-open-requires-clause-coordinates g c = ap length c.as_slice-4.ensures.value ∙ c.in_ok-summed.ensures.challenge_count
+open-requires-clause-coordinates g c = ap length c.as_slice-4.ensures.value ∙ c.in_ok-summed.ensures.summed.challenge_count
 
-pub returns : goal.returns
-returns g c =
+pub returns-clause-honest : goal.returns-clause-honest
+returns-clause-honest g c =
     let field = g.F.Represented in
     let ring = g.met.F.Field.field_law.ring in
     let sizes = c.args.parameters.now in
@@ -127,9 +129,26 @@ returns g c =
     weights_are
     (subst
     (λ (l : List _). IsSummed observes gives field.repr field.width field.product n l table c.draw_scalars.new.challenger summed.sum
-    summed.messages.items summed.point.items c.prove_sum.new.challenger) c.as_slice-weights.ensures.value c.in_ok-summed.ensures)
+    summed.messages.items summed.point.items c.prove_sum.new.challenger) c.as_slice-weights.ensures.value c.in_ok-summed.ensures.summed)
     (subst
     (λ (l : List _). IsHonestValue observes gives g.C.GrindingChallenger.passing g.C.GrindingChallenger.checks g.C.CanSampleBits.gives_bits field.repr
     g.F.RawDataSerializable.NUM_BYTES field.width field.product vector m n held.columns.items held.tree l packed.value packed.row.items
     (g.C.GrindingChallenger.number packed.witness) packed.columns.items packed.nodes.items c.prove_sum.new.challenger)
     c.as_slice-4.ensures.value c.in_ok-packed.ensures.accepted)
+
+pub returns-in_err-scalars-clause-error : goal.returns-in_err-scalars-clause-error
+returns-in_err-scalars-clause-error g c going =
+    fails-so _ c.from_residual-in_err-scalars.ensures.1 (λ error is. inl (is ∙ c.in_err-scalars.ensures.memory going))
+
+pub returns-in_err-summed-clause-error : goal.returns-in_err-summed-clause-error
+returns-in_err-summed-clause-error g c going =
+    let width = g.F.Represented.width in
+    let wide : 3 ≤ width = omega (arith, c.requires.points) in
+    let fits = rounds-fit width c.args.parameters.now.variables c.requires.points c.args.parameters.now.few in
+    fails-so _ c.from_residual-in_err-summed.ensures.1
+    (λ error is. inl (is ∙ c.in_err-summed.ensures.memory wide fits c.in_ok-scalars.ensures.goes_on))
+
+pub returns-in_err-packed-clause-error : goal.returns-in_err-packed-clause-error
+returns-in_err-packed-clause-error g c going =
+    fails-as (StopsOpening g.C.GrindingChallenger.passing g.C.GrindingChallenger.witness_bits) _ _ c.from_residual-in_err-packed.ensures.1
+    (c.in_err-packed.ensures.error c.in_ok-summed.ensures.goes_on)

@@ -1,9 +1,9 @@
-use Rattle.std.proofs.Common.{◌≡◌, ◌^◌, ◌≤◌, ◌<◌, ℕ, List, map, take, drop, refl, ◌∙◌, ap, subst, arith}
+use Rattle.std.proofs.Common.{◌≡◌, ◌^◌, ◌≤◌, ℕ, List, map, take, drop, refl, ◌∙◌, ap, subst, arith}
 use Rattle.std.specs.Prelude.{◌↔◌, IsTrue}
-use Rattle.std.proofs.Math.Pow.{pow_mono}
 use Rattle.field_slices.specs.Multilinear.{multilinear_value}
 use Rattle.protocols.specs.ProductSums.{IsReducedSum}
 use Rattle.protocols.specs.SmallTables.{mixed_sum, mixed_weights, point_scalars}
+use Rattle.protocols.proofs.ProductSums.{rounds-fit}
 use Rattle.protocols.proofs.SchemeRuns.{decided, memory-alone}
 use Rattle.protocols.proofs.small_tables.verify_small.Goals as goal
 
@@ -74,8 +74,6 @@ pub returns-in_err-reduced-clause-memory : goal.returns-in_err-reduced-clause-me
 returns-in_err-reduced-clause-memory g c going parts messages =
     let width = g.F.Represented.width in
     let wide : 3 ≤ width = omega (arith, c.requires.points) in
-    let six : 6 ≤ width = omega (arith, c.requires.points) in
-    let large : 64 ≤ 2 ^ width = pow_mono {i = 6} {j = width} six in
-    let fits : c.args.parameters.now.variables < 2 ^ width = omega (arith, large, c.args.parameters.now.few) in
+    let fits = rounds-fit width c.args.parameters.now.variables c.requires.points c.args.parameters.now.few in
     memory-alone _ c.from_residual-in_err-reduced.ensures.1
     (λ error is. is ∙ c.in_err-reduced.ensures.memory wide fits messages c.in_ok-scalars.ensures.goes_on)

@@ -25,7 +25,7 @@ prove-requires-clause-right g c =
 
 pub bounds-elements-0 : goal.bounds-elements-0
 bounds-elements-0 g c =
-    let long = ap length (c.as_slice-elements.ensures.value ∙ c.in_ok-sent.ensures.written) in omega (arith, long)
+    let long = ap length (c.as_slice-elements.ensures.value ∙ c.in_ok-sent.ensures.honest.written) in omega (arith, long)
 
 pub returns : goal.returns
 returns g c =
@@ -39,9 +39,9 @@ returns g c =
     let right_root = c.in_ok-other.right_root in
     let hash = g.H.ByteHasher32.digest c.args.hasher.now in
     let same : c.in_ok-other.other.rounds ≡ n = omega (arith, c.if-others-rounds.false) in
-    let long = ap length (c.as_slice-elements.ensures.value ∙ c.in_ok-sent.ensures.written) in
+    let long = ap length (c.as_slice-elements.ensures.value ∙ c.in_ok-sent.ensures.honest.written) in
     let some : 0 < length c.as_slice-elements.result.now = omega (arith, long) in
-    let honest = c.in_ok-sent.ensures in
+    let honest = c.in_ok-sent.ensures.honest in
     let right_tree =
     sizes-moved (λ (u v : ℕ). IsTableTree hash repr_of u v second.held.columns.items right_root second.held.tree) c.args.bits same right.sized left.sized
     right.tree in

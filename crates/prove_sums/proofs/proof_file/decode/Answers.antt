@@ -1,18 +1,20 @@
-use Rattle.std.proofs.Common.{◌≡◌, List, ℕ, rules, subst}
+use Rattle.std.proofs.Common.{◌≡◌, List, ℕ, inr, rules, subst}
 use Rattle.field_bytes.specs.Streams.{joined_bytes}
 use Rattle.field_element.specs.Element.{repr_of}
 use Rattle.prove_sums.specs.ProofFiles.{IsFile, file_bytes}
 use Rattle.prove_sums.specs.Shapes.{element_count}
-use Rattle.prove_sums.proofs.Files.{none-read, same-count, some-read}
+use Rattle.prove_sums.proofs.Files.{file_head, none-read, same-count, some-read}
 use Rattle.prove_sums.proofs.proof_file.decode.Goals as goal
 
 pub returns-in-None-clause-refused : goal.returns-in-None-clause-refused
-returns-in-None-clause-refused c = (
-  λ field queries rounds left right elements nodes file.
-      none-read _ c.in_ok-read.read c.in-None.is c.in_ok-read.ensures.none elements
-      (c.in-Ok.ensures.file.only field queries rounds left right (joined_bytes 16 repr_of elements) nodes file.may_be file.written).5,
-  tt,
-)
+returns-in-None-clause-refused c =
+    let parts = c.in-Ok.parts in
+    let file = c.in-Ok.ensures.file in (
+      λ field queries rounds left right elements nodes is.
+          none-read _ c.in_ok-read.read c.in-None.is c.in_ok-read.ensures.none elements
+          (file.only field queries rounds left right (joined_bytes 16 repr_of elements) nodes is.may_be is.written).5,
+      inr (parts.roots.field, file_head c.args.bytes.now _ _ _ _ _ _ _ file.may_be file.written),
+    )
 
 pub invariant_of-result : goal.invariant_of-result
 invariant_of-result c =

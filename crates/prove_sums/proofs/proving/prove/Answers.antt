@@ -1,14 +1,15 @@
-use Rattle.std.proofs.Common.{◌^◌, ◌*◌, ◌∷◌, [], ℕ, zero, suc, List, length, map, sym, ◌∙◌, ap, ap₂, subst, arith}
+use Rattle.std.proofs.Common.{◌^◌, ◌*◌, ◌∷◌, [], ℕ, zero, suc, inl, List, length, map, sym, ◌∙◌, ap, ap₂, subst, arith}
 use Rattle.std.specs.List.{flat_map}
-use Rattle.protocols.specs.CommitmentScheme.{matrix_rows, row_levels, word_levels}
+use Rattle.protocols.specs.CommitmentScheme.{StopsOpening, matrix_rows, row_levels, word_levels}
 use Rattle.protocols.specs.JointTables.{IsHonestOpeningOf, sent_tables}
 use Rattle.protocols.specs.ProductSums.{IsSummed}
+use Rattle.protocols.proofs.SchemeRuns.{fails-as, fails-so}
 use Rattle.prove_sums.proofs.SumSteps.{elements-listed, sizes-same}
 use Rattle.prove_sums.proofs.proving.prove.Goals as goal
 
 pub open_tables-requires-clause-coordinates : goal.open_tables-requires-clause-coordinates
 open_tables-requires-clause-coordinates g c =
-    ap length c.as_slice-point.ensures.value ∙ c.in_ok-summed.ensures.challenge_count ∙ sym c.sizes-sizes.ensures.variables
+    ap length c.as_slice-point.ensures.value ∙ c.in_ok-summed.ensures.summed.challenge_count ∙ sym c.sizes-sizes.ensures.variables
 
 pub open_tables-requires-clause-depth : goal.open_tables-requires-clause-depth
 open_tables-requires-clause-depth g c zero d below =
@@ -26,8 +27,8 @@ open_tables-requires-clause-count g c (suc zero) d below =
     ∙ ap₂ (λ (q v : ℕ). 2 ^ 2 * 2 ^ row_levels q v * 2 ^ matrix_rows q v) (sym c.sizes-sizes.ensures.queries) (sym c.sizes-sizes.ensures.variables)
 open_tables-requires-clause-count g c (suc (suc k)) d below = absurd (omega (arith, below))
 
-pub returns : goal.returns
-returns g c =
+pub returns-clause-honest : goal.returns-clause-honest
+returns-clause-honest g c =
     let field = g.F.Represented in
     let n = c.args.shape.now.rounds in
     let summed = c.in_ok-summed.summed in
@@ -55,7 +56,7 @@ returns g c =
       new = c.open_tables.new.challenger;
       summed =
           subst (λ (l : List _). says l right.elements.items) c.as_slice-one.ensures.value
-          (subst (λ (l : List _). says c.as_slice-one.result.now l) c.as_slice-other.ensures.value c.in_ok-summed.ensures);
+          (subst (λ (l : List _). says c.as_slice-one.result.now l) c.as_slice-other.ensures.value c.in_ok-summed.ensures.summed);
       opened =
           sizes-same
           (λ (q v : ℕ) (point : List _).
@@ -65,7 +66,7 @@ returns g c =
           ((left.held.columns.items, left.held.tree) ∷ (right.held.columns.items, right.held.tree) ∷ []) point
           (sent_tables opened.values.items opened.row.items (g.C.GrindingChallenger.number opened.witness) columns openers)
           c.prove_sum.new.challenger c.open_tables.new.challenger) c.sizes-sizes.ensures.queries c.sizes-sizes.ensures.variables c.as_slice-point.ensures.value
-          c.in_ok-opened.ensures;
+          c.in_ok-opened.ensures.honest;
       written =
           elements-listed summed.sum opened.witness c.new-elements.ensures.items c.in_ok-push.ensures.items c.in_ok-extend_from_slice.ensures.items
           c.as_slice.ensures.value c.in_ok-extend_from_slice-2.ensures.items c.as_slice-2.ensures.value c.in_ok-push-2.ensures.items
@@ -76,3 +77,12 @@ returns g c =
           c.in_ok-nodes.ensures
           ∙ ap (λ (l : List _). flat_map (λ (list : List (List ℕ)). list) (map (λ list. list.items) l)) c.as_slice-6.ensures.value;
     }
+
+pub returns-in_err-summed-clause-error : goal.returns-in_err-summed-clause-error
+returns-in_err-summed-clause-error g c wide fits going =
+    fails-so _ c.from_residual.ensures.1 (λ error is. inl (is ∙ c.in_err-summed.ensures.memory wide fits going))
+
+pub returns-in_err-opened-clause-error : goal.returns-in_err-opened-clause-error
+returns-in_err-opened-clause-error g c wide fits going =
+    fails-as (StopsOpening g.C.GrindingChallenger.passing g.C.GrindingChallenger.witness_bits) _ _ c.from_residual-in_err-opened.ensures.1
+    (c.in_err-opened.ensures.error c.in_ok-summed.ensures.goes_on)

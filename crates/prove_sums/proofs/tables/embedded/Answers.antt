@@ -23,8 +23,8 @@ words-preserved c =
     c.of_low_first.result c.words.invariant
     (c.of_low_first.ensures ∙ ap (λ (bs : List ℕ). number_of_bytes bs % 2 ^ 128) c.row_of.ensures)
 
-pub returns : goal.returns
-returns c =
+pub returns-clause-images : goal.returns-clause-images
+returns-clause-images c =
     words-embedded repr_of repr_of c.args.size c.args.bytes.now c.words.index c.words.words.items c.in_ok-elements.elements.items
     c.words.invariant
     (c.in_ok-elements.ensures ∙ ap (λ (l : List _). map (λ x. tower_image (repr_of x)) l) c.as_slice.ensures.value)

@@ -1,10 +1,10 @@
 use Rattle.std.proofs.Common.{◌≡◌, ◌∷◌, [], ℕ, List, length, map, refl, sym, ◌∙◌, ap, subst, arith, rules}
 use Rattle.std.specs.Prelude.{◌↔◌, IsTrue}
 use Rattle.protocols.specs.JointTables.{SentTables, VerifiesTables, sent_tables}
+use Rattle.protocols.proofs.ProductSums.{rounds-fit}
 use Rattle.protocols.proofs.SchemeRuns.{memory-alone}
 use Rattle.prove_sums.specs.Shapes.{columns_size, element_count, row_size, values_in}
 use Rattle.prove_sums.specs.Verdicts.{IsProductOf, IsReducedClaim}
-use Rattle.prove_sums.proofs.Exits.{rounds-fit}
 use Rattle.prove_sums.proofs.Sizes.{parts-room}
 use Rattle.prove_sums.proofs.SumSteps.{sizes-same}
 use Rattle.prove_sums.proofs.verifying.verify.Goals as goal
@@ -72,7 +72,7 @@ returns-clause-verdict g c =
 pub returns-in_err-reduced-clause-memory : goal.returns-in_err-reduced-clause-memory
 returns-in_err-reduced-clause-memory g c going =
     let shape = c.args.proof.now.shape in
-    let fits = rounds-fit g.F.Represented.width shape.rounds c.requires shape.few in
+    let fits = rounds-fit g.F.Represented.width shape.rounds (omega (arith, c.requires)) shape.few in
     memory-alone _ c.from_residual.ensures.1 (λ error is. is ∙ c.in_err-reduced.ensures.memory (omega (arith, c.requires)) fits going)
 
 pub returns-in_err-opens-clause-memory : goal.returns-in_err-opens-clause-memory
