@@ -1,5 +1,5 @@
 """Compiles the crate of the C library over libraries that are there, by the kit's `rattle build`, and links modules of
-WebAssembly."""
+WebAssembly; and says how any crate is checked over such libraries."""
 
 import os
 import pathlib
@@ -27,23 +27,33 @@ def kit_folder():
     return pathlib.Path(page).resolve().parent
 
 
-def below():
-    """The crates below the library's."""
-    return [it for it in crates.chain([forms.CRATE]) if it != forms.CRATE]
+def below(name=forms.CRATE):
+    """The crates below the library's, or below another."""
+    return [it for it in crates.chain([name]) if it != name]
+
+
+def is_of_gate(name):
+    """Whether the library is one that `rt ci` left: it writes no stamp beside it, as `rt lib` and `rt check` do."""
+    return (rlib(name) / "format").is_file() and not (files.CRATES / name / "out/rlib/stamp").exists()
+
+
+def over_libraries(kit, name):
+    """What `rattle` is told to take the libraries that are there for what a crate depends on."""
+    known, words = crates.dependencies(), []
+    for it in ["std", *[it for it in known[name] if it not in known and it != "staticlib"]]:
+        words += ["--extern", f"{it}={kit}/rlibs/{it}.rlib"]
+    for it in known[name]:
+        words += ["--extern", f"{it}={rlib(it)}"] if it in known else []
+    for it in below(name):
+        words += ["-L", f"dependency={rlib(it).parent}"]
+    words += ["-L", f"dependency={kit}/rlibs", "--antt-project", f"{kit}/rattle/logic/antt-project.json"]
+    return [*words, "--logic-built", f"{kit}/logic_built"]
 
 
 def words_of(kit):
     """What `rattle build` is told, whatever the form."""
-    known = crates.dependencies()
     words = ["--crate-name", forms.CRATE, "src/lib.rt", "--crate-type", "staticlib", "--links", f"{forms.CRATE}="]
-    for name in ["std", *[it for it in known[forms.CRATE] if it not in known and it != "staticlib"]]:
-        words += ["--extern", f"{name}={kit}/rlibs/{name}.rlib"]
-    for name in known[forms.CRATE]:
-        words += ["--extern", f"{name}={rlib(name)}"] if name in known else []
-    for name in below():
-        words += ["-L", f"dependency={rlib(name).parent}"]
-    words += ["-L", f"dependency={kit}/rlibs", "--antt-project", f"{kit}/rattle/logic/antt-project.json"]
-    return [*words, "--logic-built", f"{kit}/logic_built", "--backend", "llvm", "--jobs", "1"]
+    return [*words, *over_libraries(kit, forms.CRATE), "--backend", "llvm", "--jobs", "1"]
 
 
 def toolchain(kit, form, folder):
