@@ -72,7 +72,7 @@ fn split_to(rt: &HostRuntime, file: &str, layout: Layout, new: &mut NewShards<'_
 
 // How many bytes a file has, and their SHA-256.
 fn identify(rt: &HostRuntime, file: &str, is_quiet: bool) -> Result<(u64, [u8; 32])> {
-    let mut progress = Progress::new(is_quiet, length_of(rt, file));
+    let mut progress = Progress::new(is_quiet, length_of(rt, file)?);
     let mut reader = File::open(rt, file).context(format_args!("cannot read {file}"))?;
     let mut chunk = vec![in rt.alloc(); 0u8; CHUNK]?;
     let mut hasher = Sha256::new();
@@ -148,7 +148,10 @@ fn join_to<W: Write>(rt: &HostRuntime, found: &Found<'_>, writer: &mut W) -> Res
     clear(rt, found.is_quiet);
     match written {
         Ok(()) => Ok(()),
-        Err(JoinError::TooFew) => too_few(found),
+        Err(JoinError::TooFew) => {
+            source.require_memory()?;
+            too_few(found)
+        }
         Err(error) => bail!("cannot restore {file}: {error}"),
     }
 }

@@ -19,6 +19,8 @@ pub(crate) struct OldFiles<'a> {
     open: Option<File>,
     /// The place of the file that is open.
     place: usize,
+    /// Whether memory was refused as a file was opened, which then reads as if it could not be read.
+    is_starved: bool,
     progress: Progress,
 }
 
@@ -36,15 +38,30 @@ impl<'a> OldFiles<'a> {
             paths,
             open: None,
             place: paths.len(),
+            is_starved: false,
             progress,
         }
+    }
+
+    /// Fails where memory was refused as a file was opened: what was read then says nothing of the shards.
+    pub(crate) fn require_memory(&self) -> Result<()> {
+        if self.is_starved {
+            bail!("out of memory")
+        }
+        Ok(())
     }
 
     // Opens one of the files, where it is not open.
     fn turn_to(&mut self, place: usize) {
         if self.place != place && place < self.paths.len() {
             self.place = place;
-            self.open = opened(self.rt, self.paths[place].as_str());
+            match opened(self.rt, self.paths[place].as_str()) {
+                Ok(open) => self.open = open,
+                Err(_) => {
+                    self.open = None;
+                    self.is_starved = true;
+                }
+            }
         }
     }
 }
@@ -114,7 +131,7 @@ impl Found<'_> {
         let mut lengths = vec![in rt.alloc(); 0u64; self.seen.layout.total()]?;
         for place in 0..self.paths.len() {
             if let Some(index) = self.index_at(place) {
-                let length = length_of(rt, self.paths[place].as_str());
+                let length = length_of(rt, self.paths[place].as_str())?;
                 if index < lengths.len() && (lengths[index] == 0 || length < lengths[index]) {
                     lengths[index] = length;
                 }
@@ -148,11 +165,20 @@ pub(crate) fn mode_of(rt: &HostRuntime, path: &str) -> Result<u32> {
     }
 }
 
-/// How many bytes a file has, or 0 where that cannot be told.
-pub(crate) fn length_of(rt: &HostRuntime, path: &str) -> u64 {
-    match fs::metadata(rt, path) {
-        Ok(about) => about.len(),
-        Err(_error) => 0,
+/// How many bytes a file has, or 0 where that cannot be told. It fails where memory is refused.
+pub(crate) fn length_of(rt: &HostRuntime, path: &str) -> Result<u64> {
+    match unless_starved(fs::metadata(rt, path))? {
+        Some(about) => Ok(about.len()),
+        None => Ok(0),
+    }
+}
+
+// What the system gave, or nothing where it gave an error. It fails where memory is refused, which says nothing of a file.
+fn unless_starved<T>(given: io::Result<T>) -> Result<Option<T>> {
+    match given {
+        Ok(value) => Ok(Some(value)),
+        Err(error) if error.kind() == ErrorKind::OutOfMemory => bail!("out of memory"),
+        Err(_error) => Ok(None),
     }
 }
 
@@ -222,7 +248,7 @@ pub(crate) fn scan_of(rt: &HostRuntime, paths: &[String]) -> Result<Scan> {
 
 // Adds what a file is.
 fn look_at(rt: &HostRuntime, path: &str, scan: &mut Scan) -> Result<()> {
-    match begin_of(rt, path) {
+    match begin_of(rt, path)? {
         Some(bytes) => scan.add(Some(bytes.as_slice()))?,
         None => scan.add(None)?,
     }
@@ -259,19 +285,26 @@ pub(crate) fn require_regular(rt: &HostRuntime, path: &str) -> Result<()> {
     }
 }
 
-// Opens a regular file to be read.
-fn opened(rt: &HostRuntime, path: &str) -> Option<File> {
-    require_regular(rt, path).ok()?;
-    File::open(rt, path).ok()
+// Opens a regular file to be read, where it can be. It fails where memory is refused.
+fn opened(rt: &HostRuntime, path: &str) -> Result<Option<File>> {
+    match unless_starved(fs::metadata(rt, path))? {
+        Some(about) if about.is_file() => unless_starved(File::open(rt, path)),
+        _ => Ok(None),
+    }
 }
 
-// As many bytes as a head has, or as a file has, from its beginning.
-fn begin_of(rt: &HostRuntime, path: &str) -> Option<Vec<u8>> {
-    let file = opened(rt, path)?;
+// As many bytes as a head has, or as a file has, from its beginning, where it can be read. It fails where memory is refused.
+fn begin_of(rt: &HostRuntime, path: &str) -> Result<Option<Vec<u8>>> {
+    let file = match opened(rt, path)? {
+        Some(file) => file,
+        None => return Ok(None),
+    };
     let mut bytes = Vec::new(rt.alloc());
     let mut begin = file.take(HEAD as u64);
-    begin.read_to_end(&mut bytes).ok()?;
-    Some(bytes)
+    match unless_starved(begin.read_to_end(&mut bytes))? {
+        Some(_count) => Ok(Some(bytes)),
+        None => Ok(None),
+    }
 }
 
 // Tells of each file that is no shard of the chosen one, and finds the place of the first that is.
@@ -299,8 +332,8 @@ pub(crate) fn paths_of(rt: &HostRuntime, words: &Words<'_>, file: &str) -> Resul
     Ok(paths)
 }
 
-// Adds the names FILE.0, FILE.1, .. that are there. It fails where none is, as far as the system tells, and it does not tell it of one: in a
-// folder that may not be searched there may be shards.
+// Adds the names FILE.0, FILE.1, .. that are there. It fails where memory is refused, and where none is, as far as the system tells, and it
+// does not tell it of one: in a folder that may not be searched there may be shards.
 fn add_numbered(rt: &HostRuntime, file: &str, paths: &mut Vec<String>) -> Result<()> {
     let mut fault = None;
     for index in 0..MOST_SHARDS {
@@ -308,6 +341,7 @@ fn add_numbered(rt: &HostRuntime, file: &str, paths: &mut Vec<String>) -> Result
         match is_there(rt, path.as_str()) {
             Ok(true) => paths.push(path)?,
             Ok(false) => {}
+            Err(error) if error.kind() == ErrorKind::OutOfMemory => bail!("out of memory"),
             Err(error) => fault = Some(error),
         }
     }

@@ -65,6 +65,7 @@ fn faults_of(rt: &HostRuntime, found: &Found<'_>) -> Result<Faults> {
     let mut hasher = Sha256::new();
     for stripe in 0..layout.stripe_count() {
         let mut group = gather(rt.alloc(), &mut source, layout, stripe)?;
+        source.require_memory()?;
         faults.add(stripe, &group)?;
         if group.count() == layout.total() && !group.has_parity(rt.alloc())? {
             faults.add_false();

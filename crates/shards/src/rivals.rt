@@ -51,6 +51,9 @@ fn restores(rt: &HostRuntime, source: OldFiles<'_>, layout: Layout) -> Result<bo
     match write_content(rt.alloc(), &mut source, layout, &mut io::sink()) {
         Ok(()) => Ok(true),
         Err(JoinError::Memory) => bail!("out of memory"),
-        Err(_) => Ok(false),
+        Err(_) => {
+            source.require_memory()?;
+            Ok(false)
+        }
     }
 }
