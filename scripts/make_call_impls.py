@@ -66,9 +66,7 @@ def in_planes():
 SLICES_HEAD = """\
 // The levels of 8 to 128 bits by slices of their bits.
 use super::FieldInSlices;
-use bit_slices::{
-    Slices8, Slices16, Slices32, Slices64, Slices128, Vector, invert_each, multiply_each,
-};
+use crate::{Slices8, Slices16, Slices32, Slices64, Slices128, Vector, invert_each, multiply_each};
 use field_base::Holds;
 use word_tower::{Bits8, Bits16, Bits32, Bits64, Bits128, Tower};
 """
@@ -102,8 +100,7 @@ use super::{Many, Sizes};
 use crate::in_planes::{LEAST_IN_PLANES, add_all, multiply_all};
 use crate::in_slices::{FieldInSlices, LEAST_BYTES_IN_SLICES, LEAST_IN_SLICES};
 use crate::scaled_bytes::LEAST_MAPPED;
-use crate::{dots, scaled_bytes};
-use bit_slices::Vector;
+use crate::{Vector, dots, scaled_bytes};
 use field_base::{Holds, Reads};
 use ghash_slices::Width;
 use word_tower::{Bits8, Bits16, Bits32, Bits64, Bits128, Tower};

@@ -304,7 +304,7 @@ def levels():
         )
 
 
-# ---- which level lies in which (word_tower, field_element, field_space)
+# ---- which level lies in which (word_tower, field_element)
 
 CONTAINS = Template("""\
 $head
@@ -434,7 +434,7 @@ def algebras():
 // Levels of the tower as algebras over the levels below them: an element of the lower level is the same number in the upper.
 ghost use Rattle.std.specs.Prelude.{◌≡◌, ◌<◌, ◌^◌, ℕ, refl};
 ghost use Rattle.field_base.specs.Operators.{given};
-ghost use Rattle.field_element.specs.LevelProductLemmas.{product_inside};
+ghost use Rattle.field_element.specs.lemmas.LevelProduct.{product_inside};
 ghost use Rattle.field_element.specs.Element.{repr_of};
 
 use crate::element::Element;
@@ -529,17 +529,17 @@ ghost use Rattle.std.specs.Prelude.{◌≡◌, ◌<◌, ◌≤◌, ◌*◌, ◌+
 ghost use Rattle.field_base.specs.Chunks.{chunk, chunks};
 ghost use Rattle.field_element.specs.Element.{repr_of};
 ghost use Rattle.field_base.proofs.Coefficients.{scales_coefficients};
-ghost use Rattle.field_space.specs.LevelSpaceLemmas.{dimension_positive, dimension_bits};
+ghost use Rattle.field_element.specs.lemmas.LevelSpace.{dimension_positive, dimension_bits};
 
 use crate::extension::{AlgebraIdentity, ExtensionField};
 use crate::kernel::SpaceOver;
 use crate::levels::{CoefficientsOf, coefficient_of, level_coefficients, put_coefficient};
 use crate::space::BasisCoefficients;
-use field_base::Unsigned;
-use field_element::{
+use crate::{
     BinaryField2, BinaryField8, BinaryField16, BinaryField32, BinaryField64, BinaryField128,
     Element,
 };
+use field_base::Unsigned;
 use many_words::Many;
 use word_tower::{Bits2, Bits8, Bits16, Bits32, Bits64, Bits128, Tower};
 """
@@ -572,7 +572,7 @@ def space_head(bits, trait, target):
     return impl(f"impl<S: Unsigned, J: CoefficientsOf<u{bits}, Bits{bits}, S>> {trait}", target)
 
 
-# ---- words as elements of a level (bit_slices)
+# ---- words as elements of a level (many_words)
 
 TOWER_WORD = Template("""\
 impl TowerWord for u$bits {
@@ -635,179 +635,15 @@ use word_tower::{Bits8, Bits16, Bits32, Bits64, Bits128, Level};
         )
 
 
-# ---- the levels by slices of bits (bit_slices)
-
-SLICES = Template("""\
-/// Elements of $bits bits, by slices in vectors `V`, with functions that are called.
-#[derive(Clone, Copy)]
-pub struct Slices$bits<V> {
-    pub(crate) inner: $inner,
-}
-
-impl<V: Vector> Sliced for Slices$bits<V> {
-    ghost LEVEL = { $level };
-
-    ghost units = { V.units };
-
-    ghost lane = { λ x. lanes_$bits $quoted.lane x.inner };
-
-    ghost fits_law = { λ x l. unfold lanes_$bits in $quoted.fits_law x.inner l };
-
-    #[inline(always)]
-    #[tactic(auto, unfolding(crate::specs::Called::lanes_$bits))]
-    fn level() -> usize {
-        $path::level()
-    }
-
-    #[inline(always)]
-    #[tactic(auto, unfolding(crate::specs::Called::lanes_$bits))]
-    fn lanes() -> usize {
-        V::lanes()
-    }
-
-    #[inline(always)]
-    #[tactic(auto, unfolding(crate::specs::Called::lanes_$bits))]
-    fn zeros() -> Slices$bits<V> {
-        Slices$bits {
-            inner: $path::zeros(),
-        }
-    }
-
-    #[inline(always)]
-    #[tactic(auto, unfolding(crate::specs::Called::lanes_$bits))]
-    fn set_sum(&mut self, x: &Slices$bits<V>, y: &Slices$bits<V>) {
-        self.inner.set_sum(&x.inner, &y.inner);
-    }
-
-    #[inline(always)]
-    #[tactic(auto, unfolding(crate::specs::Called::lanes_$bits))]
-    fn add(&mut self, x: &Slices$bits<V>) {
-        self.inner.add(&x.inner);
-    }
-
-    #[inline(never)]
-    #[tactic(auto, unfolding(crate::specs::Called::lanes_$bits))]
-    fn set_product(&mut self, x: &Slices$bits<V>, y: &Slices$bits<V>) {
-        self.inner.set_product(&x.inner, &y.inner);
-    }
-
-    #[inline(always)]
-    #[tactic(auto, unfolding(crate::specs::Called::lanes_$bits))]
-    fn add_by_root(&mut self, x: &Slices$bits<V>) {
-        self.inner.add_by_root(&x.inner);
-    }
-
-    #[inline(never)]
-    #[tactic(auto, unfolding(crate::specs::Called::lanes_$bits))]
-    fn square(&mut self) {
-        self.inner.square();
-    }
-
-    #[inline(never)]
-    #[tactic(auto, unfolding(crate::specs::Called::lanes_$bits))]
-    fn set_inverse(&mut self, x: &Slices$bits<V>) {
-        self.inner.set_inverse(&x.inner);
-    }
-
-    #[inline(always)]
-    #[tactic(auto, unfolding(crate::specs::Called::lanes_$bits))]
-    fn exchange(x: &mut Slices$bits<V>, y: &mut Slices$bits<V>, level: usize) {
-        Sliced::exchange(&mut x.inner, &mut y.inner, level);
-    }
-
-    #[inline(never)]
-    #[tactic(auto, unfolding(crate::specs::Called::lanes_$bits))]
-    fn turn(&mut self) {
-        self.inner.turn();
-    }
-
-    #[inline(always)]
-    #[tactic(auto, unfolding(crate::specs::Called::lanes_$bits))]
-    fn read<R: TowerWord, W: Holds<R>>(&mut self, words: &[W], start: usize) -> usize {
-        self.inner.read::<R, W>(words, start)
-    }
-
-    #[inline(always)]
-    #[tactic(auto, unfolding(crate::specs::Called::lanes_$bits))]
-    fn write<R: TowerWord, W: Holds<R>>(&self, words: &mut [W], start: usize) -> usize {
-        self.inner.write::<R, W>(words, start)
-    }
-
-    ghost some_law = { V.some_law };
-}
-
-impl<V: Vector> SlicedPolynomials<V> for Slices$bits<V> {
-    #[inline(never)]
-    #[tactic(auto, unfolding(crate::specs::Called::lanes_$bits))]
-    fn set_carryless_product(
-        low: &mut Slices$bits<V>,
-        high: &mut Slices$bits<V>,
-        x: &Slices$bits<V>,
-        y: &Slices$bits<V>,
-    ) {
-        SlicedPolynomials::set_carryless_product(
-            &mut low.inner,
-            &mut high.inner,
-            &x.inner,
-            &y.inner,
-        );
-    }
-
-    #[inline(${tail_inline})]
-    #[tactic(auto, unfolding(crate::specs::Called::lanes_$bits))]
-    fn add_by_tail<M: Tail>(&mut self, x: &Slices$bits<V>, carry: &mut Slices8<V>) {
-        self.inner.add_by_tail::<M>(&x.inner, carry);
-    }
-}
-""")
-
-SLICES_OF = Template("""\
-impl<V: Vector> SlicesOf<u$bits> for Slices$bits<V> {
-    ghost level_law = { refl };
-}
-""")
-
-
-def slices():
-    yield """\
-// The levels of 8 to 128 bits by slices of bits. Each is a type of its own whose products, squares, inverses and transpositions are
-// called and not put in line: so LLVM compiles, and the checker names, each level once.
-ghost use Rattle.bit_slices.specs.Called.{lanes_8, lanes_16, lanes_32, lanes_64, lanes_128};
-ghost use Rattle.std.specs.Prelude.{◌≡◌, ◌<◌, ◌^◌, ℕ, refl};
-
-use crate::bit::Bit;
-use crate::pair::Pair;
-use crate::polynomials::SlicedPolynomials;
-use crate::sliced::{Sliced, SlicesOf};
-use crate::tails::Tail;
-use crate::vector::Vector;
-use crate::word::TowerWord;
-use field_base::Holds;
-"""
-    for bits in UNSIGNED:
-        inner = "Pair<Pair<Pair<Bit<V>>>>" if bits == 8 else f"Pair<Slices{bits // 2}<V>>"
-        yield SLICES.substitute(
-            bits=bits,
-            level=LEVELS[bits].level,
-            inner=inner,
-            path=inner.replace("<", "::<", 1),
-            quoted=f"⟦<{inner} as Sliced>⟧",
-            tail_inline="never" if bits == 8 else "always",
-        )
-        yield SLICES_OF.substitute(bits=bits)
-
-
-
 if __name__ == "__main__":
     keep_all(
         "make_level_impls.py",
         {
-            "bit_slices/src/levels.rt": slices,
-            "bit_slices/src/word/impls.rt": tower_words,
+            "many_words/src/word/impls.rt": tower_words,
             "word_tower/src/levels.rt": levels,
             "word_tower/src/subfields/impls.rt": tower_subfields,
             "field_element/src/subfields/impls.rt": element_subfields,
             "field_element/src/algebras.rt": algebras,
-            "field_space/src/levels/impls.rt": level_spaces,
+            "field_element/src/levels/impls.rt": level_spaces,
         },
     )

@@ -122,8 +122,8 @@ ghost use Rattle.field_base.specs.Bit.{bit_number};
 
 use crate::packed::operators::times_bit;
 use crate::packed::{PackedGf2, value};
-use bits_rows::Underlier;
 use field_base::Gf2;
+use packed_lanes::Underlier;
 use std::ops::{Add, AddAssign, Mul, MulAssign, Sub, SubAssign};
 """
     generics, bits = "<U: Underlier>", "PackedGf2<U>"

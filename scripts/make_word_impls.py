@@ -246,7 +246,7 @@ use field_base::byte_tables::{sum_of_entries_64, sum_of_entries_128};
     yield BASIS.substitute(bits=128, name="ghash", modulus="x^128 + x^7 + x^2 + x + 1")
 
 
-# ---- words of rows (bits_rows)
+# ---- words of rows (packed_lanes)
 
 # The constants that a word has, and a row of one word, with the type of the count of bits.
 BITS_ZERO_AND_ONES = Template("""\
@@ -603,7 +603,7 @@ def word_bytes():
     yield """\
 // The unsigned integers of Rust as words that are read into vectors of their bytes. Words of 128 bits have an impl for all that hold them.
 ghost use Rattle.std.specs.Prelude.{refl};
-ghost use Rattle.additive_transforms.specs.ChunkLemmas.{no_halves, one_half, two_halves, three_halves};
+ghost use Rattle.additive_transforms.specs.lemmas.Chunk.{no_halves, one_half, two_halves, three_halves};
 
 use crate::word_bytes::{StoredBytes, WordBytes};
 use std::simd::prelude::*;
@@ -632,8 +632,8 @@ if __name__ == "__main__":
             "field_base/src/byte_tables/sums.rt": byte_tables,
             "word_tables/src/tables/by_bytes.rt": tabled_squares,
             "word_tables/src/basis/by_bytes.rt": tabled_basis,
-            "bits_rows/src/words/impls.rt": row_words,
-            "bits_rows/src/pairs.rt": row_pairs,
+            "packed_lanes/src/words/impls.rt": row_words,
+            "packed_lanes/src/pairs.rt": row_pairs,
             "field_bytes/src/little_endian/impls.rt": little_endian,
             "field_bytes/src/sized_words.rt": streams,
             "field_base/src/integer/impls.rt": integers,

@@ -8,7 +8,7 @@ use Rattle.std.proofs.lemmas.Nat.Bits.{bit_at-lt, bit_at-zero, bit_at_above, bit
 use native.Mathlib.Nat.{one-mul, zero-mul}
 use lib.Bits.{xor_assoc, xor_comm, xor_zero_r}
 use Rattle.field_base.specs.Basis.{sum_below}
-use Rattle.field_base.specs.BitRingLemmas.{two_cases}
+use Rattle.field_base.specs.lemmas.BitRing.{two_cases}
 use Rattle.field_base.proofs.BasisSums.{bit_at-mod, sum_below-same}
 use Rattle.ghash_slices.specs.Cantor.{point}
 use Rattle.ghash_slices.proofs.StageSums.{sum_below-xor}

@@ -14,7 +14,7 @@ use Rattle.ghash_slices.specs.Stages.{factor, stages}
 use Rattle.field_base.proofs.WordValues.{values_fit}
 use Rattle.additive_transforms.specs.Columns.{column_of, FitsColumns, HasRows, InEachColumn}
 use Rattle.additive_transforms.specs.Stages.{AreLeft, IsButterfly, TakesBlock, TakesBlocks, TakesStage}
-use Rattle.additive_transforms.specs.Transform.{HasStages, TakesTransform}
+use Rattle.additive_transforms.specs.Transform.{TakesTransform}
 use Rattle.additive_transforms.proofs.BlockStages.{taken_local}
 use Rattle.additive_transforms.proofs.OneOrigin.{all_leave, undone_leave}
 use Rattle.additive_transforms.proofs.WholeStages.{AreUndone, left_step, undone_start, undone_step, whole_blocks}
@@ -48,10 +48,6 @@ module _ (m columns values : ℕ) (has : HasRows m columns values) where
   row_count =
       let all : 2 ^ m * columns ≡ 2 ^ m * columns + 0 = omega arith in
       ap (λ (n : ℕ). n / columns) (has.2 ∙ all) ∙ div-mul-add (2 ^ m) columns 0 has.1
-
-  -- and they are the places of a transform
-  pub row_stages : HasStages m (values / columns)
-  row_stages = (has.0, row_count)
 
   -- so many has a column
   pub column_count : (c : ℕ) (l : List ℕ) → length l ≡ values → length (column_of columns c l) ≡ 2 ^ m

@@ -9,7 +9,7 @@ use Rattle.std.proofs.lemmas.Nat.Bits.{bit_at-lt, bit_at-pow_other, bit_at-pow_s
 use native.Mathlib.Nat.{one-mul, zero-mul}
 use lib.Bits.{xor_comm, xor_zero_r}
 use Rattle.field_base.specs.Basis.{sum_below}
-use Rattle.field_base.specs.BitRingLemmas.{two_cases}
+use Rattle.field_base.specs.lemmas.BitRing.{two_cases}
 use Rattle.field_base.specs.Orders.{AreCantorVectors}
 use Rattle.field_base.specs.Ring.{IsRing}
 use Rattle.field_base.proofs.AdditiveMaps.{keeps_zero}

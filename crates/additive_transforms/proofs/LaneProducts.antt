@@ -8,7 +8,7 @@ use Rattle.std.proofs.lemmas.Simd.{get_or-chunk, get_or-zip2, length-chunk}
 use native.Mathlib.Nat.{one-mul, zero-mul}
 use lib.Bits.{and_mask, and_zero_r, xor_assoc, xor_comm, xor_zero_r}
 use Rattle.field_base.specs.Basis.{sum_below}
-use Rattle.field_base.specs.BitRingLemmas.{two_cases}
+use Rattle.field_base.specs.lemmas.BitRing.{two_cases}
 use Rattle.field_base.specs.Quadratic.{pair}
 use Rattle.field_base.specs.Tower.{tower_mul}
 use Rattle.field_base.proofs.QuadraticRing.{high_half-pair, low_half-pair}

@@ -8,7 +8,7 @@ use Rattle.std.proofs.lemmas.Nat.{pow-add, pow_pos}
 use Rattle.std.proofs.lemmas.Nat.Bits.{bit_at-lt, bit_at_above}
 use native.Mathlib.Nat.{zero-mul}
 use lib.Bits.{xor_zero_r}
-use Rattle.field_base.specs.BitRingLemmas.{two_cases}
+use Rattle.field_base.specs.lemmas.BitRing.{two_cases}
 use Rattle.field_base.specs.LinearMaps.{linear_image}
 use Rattle.field_base.specs.Orders.{AreCantorVectors}
 use Rattle.field_base.specs.Ring.{IsRing}

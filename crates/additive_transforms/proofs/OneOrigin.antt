@@ -7,7 +7,7 @@ use Rattle.std.proofs.lemmas.List.{ext_get_or}
 use Rattle.std.proofs.lemmas.Nat.{div-mul-add, mod-mul-add, xor_lt}
 use native.Mathlib.Nat.{mod-eq_of_lt}
 use lib.Bits.{xor_assoc, xor_zero_r}
-use Rattle.field_base.specs.BitRingLemmas.{two_cases}
+use Rattle.field_base.specs.lemmas.BitRing.{two_cases}
 use Rattle.field_base.specs.LinearMaps.{linear_image}
 use Rattle.field_base.specs.Orders.{AreCantorVectors}
 use Rattle.field_base.specs.Ring.{IsRing}
@@ -51,10 +51,6 @@ module _ (width : ℕ) (times : ℕ → ℕ → ℕ) (ring : IsRing width 1 time
   -- the two places of the pair
   places : BothPlaces j q r
   places = both_places j q r below
-
-  -- the twiddle of the block
-  t : ℕ
-  t = bit_xor (slice_index shifts j) (linear_image basis q)
 
   -- at the lower place stage j leaves a(low) + t a(high)
   at_low : stage times (factor shifts basis) j a (q * 2 ^ suc j + r)

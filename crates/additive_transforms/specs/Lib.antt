@@ -1,15 +1,10 @@
-pub mod ChunkLemmas
 pub mod Chunks
 pub mod Columns
 pub mod Counting
 pub mod Elements
 pub mod Halves
-pub mod ImageLemmas
 pub mod Images
-pub mod LaneLemmas
 pub mod Lanes
-pub mod LevelVectorLemmas
-pub mod PairLemmas
 pub mod Pairs
 pub mod Products
 pub mod Rows
@@ -19,3 +14,4 @@ pub mod Transform
 pub mod Units
 pub mod Values
 pub mod Words
+pub mod lemmas

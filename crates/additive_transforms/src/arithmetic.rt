@@ -6,7 +6,7 @@ ghost use Rattle.field_base.proofs.TowerRing.{tower_ring};
 ghost use Rattle.field_base.specs.Tower.{tower_mul};
 ghost use Rattle.additive_transforms.specs.Counting.{nothing_counted};
 ghost use Rattle.additive_transforms.specs.Lanes.{AreLaneShifts};
-ghost use Rattle.additive_transforms.specs.LevelVectorLemmas.{level_vectors};
+ghost use Rattle.additive_transforms.specs.lemmas.LevelVector.{level_vectors};
 ghost use Rattle.additive_transforms.specs.Transform.{TakesTransform};
 ghost use Rattle.additive_transforms.specs.Words.{TakesWords, cantor_vector, level_element};
 

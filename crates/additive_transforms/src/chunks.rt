@@ -3,7 +3,7 @@ ghost use Rattle.std.specs.Prelude.{◌≡◌, [], ◌∷◌, ◌^◌, ◌<◌, 
 ghost use Rattle.std.specs.Simd.Lanes.{zip2};
 ghost use Rattle.additive_transforms.specs.Stages.{TakesBlock};
 ghost use Rattle.field_base.specs.Tower.{tower_mul};
-ghost use Rattle.additive_transforms.specs.ChunkLemmas.{no_halves, one_half, two_halves};
+ghost use Rattle.additive_transforms.specs.lemmas.Chunk.{no_halves, one_half, two_halves};
 ghost use Rattle.additive_transforms.specs.Chunks.{AreExchanged, AreHalfTimes, AreMerged, AreRegrouped, AreTimes, TakesChunks, chunk_of};
 ghost use Rattle.additive_transforms.specs.Halves.{are_of_halves};
 ghost use Rattle.additive_transforms.specs.Products.{AreMultiples};

@@ -10,7 +10,7 @@ ghost use native.Mathlib.Nat.{mod-lt};
 ghost use Rattle.std.proofs.Common.{lit<};
 ghost use Rattle.std.proofs.lemmas.Nat.{pow_pos};
 ghost use Rattle.additive_transforms.specs.Counting.{number_counts};
-ghost use Rattle.additive_transforms.specs.ImageLemmas.{ghash_ring_laws, ghash_vector_laws};
+ghost use Rattle.additive_transforms.specs.lemmas.Image.{ghash_ring_laws, ghash_vector_laws};
 ghost use Rattle.additive_transforms.specs.Images.{tower_image};
 
 use crate::elements::arithmetic::StageArithmetic;

@@ -1,7 +1,7 @@
 // Elements of the next level, by the planes of their halves.
 ghost use Rattle.std.specs.Prelude.{◌≡◌, ◌^◌, ℕ, suc};
 ghost use Rattle.additive_transforms.specs.Halves.{are_of_halves, lane_of_halves};
-ghost use Rattle.additive_transforms.specs.PairLemmas.{lane_fits};
+ghost use Rattle.additive_transforms.specs.lemmas.Pair.{lane_fits};
 
 use crate::multiples::HalfMultiples;
 use crate::planes::Planes;

@@ -3,7 +3,7 @@ ghost use Rattle.std.specs.Prelude.{◌≡◌, ℕ, ◌^◌, ◌<◌, bit_xor};
 ghost use Rattle.field_base.specs.Tower.{tower_mul};
 ghost use Rattle.additive_transforms.specs.Rows.{byte_of_lane, level_of};
 ghost use Rattle.additive_transforms.specs.Products.{AreMultiples};
-ghost use Rattle.additive_transforms.specs.LaneLemmas.{byte_of_lane-lt};
+ghost use Rattle.additive_transforms.specs.lemmas.Lane.{byte_of_lane-lt};
 
 use crate::multiples::ByteMultiples;
 use word_tables::{ByteVector, entry_sums};

@@ -1,7 +1,7 @@
 // Words by their bytes in vectors.
 ghost use Rattle.std.specs.Prelude.{◌≡◌, ℕ, ◌+◌, ◌*◌, ◌^◌, ◌<◌, ◌≤◌, length, map, refl, slice_index};
 ghost use Rattle.additive_transforms.specs.Rows.{level_of};
-ghost use Rattle.additive_transforms.specs.ChunkLemmas.{four_halves};
+ghost use Rattle.additive_transforms.specs.lemmas.Chunk.{four_halves};
 ghost use Rattle.additive_transforms.specs.Units.{ArePut, AreUnits};
 
 use field_base::{Holds, Stored, Unsigned};

@@ -16,9 +16,6 @@ use Rattle.any_field.proofs.IrreducibleFields.{irreducible_gives_field}
 use Rattle.any_field.specs.Contexts.{IsContext, IsFieldModulus, HasNoFactors, field_product, with_top}
 use Rattle.any_field.proofs.WordRemainders.{top-degree, context-ring}
 
-pub no-factors : (f : ℕ) → IsIrreducible f → HasNoFactors f
-no-factors f irreducible g h is g_other h_other = elim (irreducible g h is) [ inl e ↦ g_other e | inr e ↦ h_other e ]
-
 pub irreducible-of : (f : ℕ) → HasNoFactors f → IsIrreducible f
 irreducible-of f none g h is =
     elim (cases_eq g 1) [

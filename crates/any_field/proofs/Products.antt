@@ -96,11 +96,6 @@ down-of zero x is = absurd is
 down-of (suc n) x (inl e) = ((λ none. absurd (omega (arith, e, none))), omega (arith, e))
 down-of (suc n) x (inr is) = let inner = down-of n x is in (inner.0, omega (arith, inner.1))
 
-pub length-down : (n : ℕ) → length (down n) ≡ n
-unfolding down
-length-down zero = refl
-length-down (suc n) = ap suc (length-down n)
-
 pub length-images : (f : ℕ → ℕ) (xs : List ℕ) → length (images f xs) ≡ length xs
 unfolding images
 length-images f [] = refl

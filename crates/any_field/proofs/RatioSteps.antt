@@ -1,5 +1,5 @@
 -- The quotient of x^(2 width) by the modulus, a bit in each step, and squarings.
-use Rattle.std.proofs.Common.{◌≡◌, ℕ, zero, suc, ◌+◌, ◌-◌, ◌*◌, ◌/◌, ◌%◌, ◌^◌, ◌≤◌, ◌<◌, refl, sym, ◌∙◌, ap, ap₂, subst, arith, lit<}
+use Rattle.std.proofs.Common.{◌≡◌, ℕ, zero, suc, ◌+◌, ◌-◌, ◌*◌, ◌/◌, ◌%◌, ◌^◌, ◌≤◌, ◌<◌, sym, ◌∙◌, ap, ap₂, subst, arith, lit<}
 use Rattle.std.specs.Prelude.{bit_xor}
 use Rattle.std.proofs.lemmas.Nat.{pow_pos, shr_below, xor_lt, shr_split}
 use Rattle.std.proofs.Math.Pow.{pow_mono, mod-mod-pow}
@@ -35,12 +35,6 @@ ratio-start w t fits = record {
   where
     none : w ≡ w + 0
     none = omega arith
-
--- the bit that leaves the rest, as the code tests it
-pub step-is : (top t chosen : ℕ) → top < 2 → (top ≡ 1 → chosen ≡ t) → ((top ≡ 1 → ⊥) → chosen ≡ 0) → chosen ≡ top * t
-step-is zero t chosen bit one other = other (λ e. absurd (omega (arith, e))) ∙ sym (zero-mul t)
-step-is (suc zero) t chosen bit one other = one refl ∙ sym (one-mul t)
-step-is (suc (suc top)) t chosen bit one other = absurd (omega arith)
 
 module _ (w t rest : ℕ) (wide : 0 < w) (fits : t < 2 ^ w) (below : rest < 2 ^ w) where
   top-lt : rest / 2 ^ (w - 1) < 2

@@ -6,8 +6,6 @@ mod byte_lanes;
 mod extension;
 mod irreducible;
 pub mod laws;
-#[cfg(test)]
-mod published;
 mod reduction;
 mod search;
 

@@ -37,7 +37,7 @@ pub use field_element::{
 };
 
 // elements as vectors over a smaller field
-pub use field_space::{
+pub use field_element::{
     AlgebraIdentity, BasedVectorSpace, BasisCoefficients, BasisCoefficientsSlice, ExtensionField,
     HasFrobenius, HasPowers, HasSubfield, PackedFieldExtension, Powers,
 };
@@ -51,12 +51,12 @@ pub use field_bytes::{
 };
 
 // matrices over the bits of a byte, and linear maps of the byte field of AES
-pub use field_aes::{
+pub use field_bytes::{
     ByteLanes, ByteMatrix, LinearizedPoly8b, RijndaelMaps, columns_are_transposed,
 };
 
 // words as rows of bits
-pub use bits_rows::{Divisible, M128, M256, M512, Underlier, Word};
+pub use packed_lanes::{Divisible, M128, M256, M512, Underlier, Word};
 
 // packed bits
 pub use bits_packed::{

@@ -5,7 +5,7 @@ use Rattle.std.specs.Int.Bits.{xor_zero_l}
 use native.Mathlib.Nat.{mul_comm}
 use lib.Bits.{xor_self, xor_zero_r}
 use Rattle.field_base.specs.Basis.{sum_below}
-use Rattle.field_base.specs.BitRingLemmas.{two_cases}
+use Rattle.field_base.specs.lemmas.BitRing.{two_cases}
 use Rattle.field_base.specs.Ring.{IsRing}
 use Rattle.field_base.proofs.AdditiveMaps.{KeepsSums, agree_on_powers, agree_on_powers-true, maps_agree}
 use Rattle.field_base.proofs.BasisSums.{sum_below-same, sum_below-zeros}

@@ -2,7 +2,7 @@
 use Rattle.std.proofs.Common.{◌≡◌, ◌≢◌, ◌⊎◌, inl, inr, ℕ, ◌+◌, ◌-◌, ◌*◌, ◌<◌, ◌≤◌, Bool, List, length, refl, sym, ◌∙◌, ap, arith, below_more}
 use Rattle.std.specs.Prelude.{bit_xor, if◌then◌else◌, nat_lt}
 use Rattle.std.proofs.lemmas.Bool.{cases_eq, cases_lt, le-ltb, lt-ltb}
-use Rattle.field_base.specs.BitRingLemmas.{bits_ring}
+use Rattle.field_base.specs.lemmas.BitRing.{bits_ring}
 use Rattle.field_base.proofs.BasisSums.{sum_below-same}
 use Rattle.field_base.proofs.RingLemmas.{times-zero}
 use Rattle.field_base.specs.Tower.{tower_mul}

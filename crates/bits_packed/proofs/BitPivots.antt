@@ -4,7 +4,7 @@ use Rattle.std.specs.Prelude.{bit_xor, slice_index, slice_set}
 use Rattle.std.proofs.lemmas.Bool.{cases_eq}
 use native.Mathlib.Nat.{zero-mul}
 use lib.Bits.{xor_self, xor_zero_r}
-use Rattle.field_base.specs.BitRingLemmas.{bits_ring}
+use Rattle.field_base.specs.lemmas.BitRing.{bits_ring}
 use Rattle.field_base.specs.Tower.{tower_mul}
 use Rattle.field_base.proofs.PowerLemmas.{one-times}
 use Rattle.field_slices.specs.Matrices.{cleared_entry, joined_entry}

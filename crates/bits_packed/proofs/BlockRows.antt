@@ -5,16 +5,8 @@ use Rattle.std.specs.Int.{bit_at}
 use Rattle.std.proofs.lemmas.Bool.{cases_lt, le-ltb, lt-ltb}
 use Rattle.std.proofs.lemmas.List.{length-set}
 use Rattle.bits_packed.specs.BitMatrices.{bit_entry}
-use Rattle.bits_packed.specs.BytesAsBits.{AreBitsWritten, HasByteBlock, block_entry}
-use Rattle.bits_packed.proofs.WordRanges.{row_fits}
+use Rattle.bits_packed.specs.BytesAsBits.{AreBitsWritten, block_entry}
 use lib.Arith.{digits_lt}
-
--- the rows of a block lie in the matrix
-pub block-fits : (width row rows column columns len i : ℕ) → HasByteBlock width row rows column columns len → i < rows
-    → (row + i) * width + column + columns ≤ len
-block-fits width row rows column columns len i block inside =
-    let fits = row_fits width (row + rows) (row + i) (column + columns) (omega (arith, inside)) block.across in
-    omega (arith, fits, block.down)
 
 -- ---- words
 

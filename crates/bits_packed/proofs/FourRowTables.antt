@@ -12,7 +12,7 @@ use native.Mathlib.Nat.{mod-eq_of_lt, mod-lt, one-mul, zero-mul}
 use lib.Bits.{xor_add_and, xor_zero_r}
 use lib.Lanes.{chunk}
 use Rattle.field_base.specs.Basis.{sum_below}
-use Rattle.field_base.specs.BitRingLemmas.{two_cases}
+use Rattle.field_base.specs.lemmas.BitRing.{two_cases}
 use Rattle.field_base.specs.LinearMaps.{linear_image}
 use Rattle.field_base.specs.Tower.{tower_mul}
 use Rattle.field_base.proofs.BasisSums.{bit_at-add, bit_at-mod, sum_below-add, sum_below-same}

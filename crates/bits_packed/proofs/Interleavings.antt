@@ -5,10 +5,10 @@ use Rattle.std.specs.Int.{bit_at}
 use Rattle.std.proofs.lemmas.Bool.{cases_lt, eq-eqb, ne_eqb}
 use Rattle.std.proofs.Math.Nat.{div-eq_of_lt}
 use native.Mathlib.Nat.{mod-lt}
-use Rattle.bits_rows.specs.ChunkLemmas.{chunks-get, chunks-length}
-use Rattle.bits_rows.specs.Parts.{HasFirstBlocks, HasSecondBlocks}
-use Rattle.bits_rows.proofs.BlockLemmas.{even_has_room}
-use Rattle.bits_rows.proofs.BlockPlaces.{odd_is_above}
+use Rattle.packed_lanes.specs.lemmas.Chunk.{chunks-get, chunks-length}
+use Rattle.packed_lanes.specs.Parts.{HasFirstBlocks, HasSecondBlocks}
+use Rattle.packed_lanes.proofs.BlockLemmas.{even_has_room}
+use Rattle.packed_lanes.proofs.BlockPlaces.{odd_is_above}
 use Rattle.bits_packed.specs.Lanes.{AreInterleavedLanes, bits_of}
 use Rattle.bits_packed.proofs.LaneLists.{lane-as_part}
 

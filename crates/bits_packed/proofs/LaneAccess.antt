@@ -8,9 +8,9 @@ use Rattle.std.proofs.Math.Nat.{mul_comm}
 use Rattle.std.proofs.Math.Pow.{pow_mono}
 use native.Mathlib.Nat.{mod-lt, mod-eq_of_lt}
 use Rattle.field_base.specs.Chunks.{chunk}
-use Rattle.bits_rows.specs.Parts.{IsBlockSize, IsWithField, IsWithPart}
-use Rattle.bits_rows.proofs.BlockLemmas.{block_divides, lanes_of, place-split}
-use Rattle.bits_rows.proofs.LaneLemmas.{power_some}
+use Rattle.packed_lanes.specs.Parts.{IsBlockSize, IsWithField, IsWithPart}
+use Rattle.packed_lanes.proofs.BlockLemmas.{block_divides, lanes_of, place-split}
+use Rattle.packed_lanes.proofs.LaneLemmas.{power_some}
 use Rattle.bits_packed.specs.Lanes.{IsWithLane}
 
 -- lane j of `count` words lies in one of them

@@ -10,10 +10,10 @@ use native.Mathlib.Numerals.{add-one}
 use Rattle.field_base.specs.Chunks.{chunk, chunks}
 use Rattle.field_base.proofs.Calls.{may_go_on}
 use Rattle.field_base.proofs.ChunkLists.{chunk_pushed}
-use Rattle.bits_rows.specs.ChunkLemmas.{chunks-front}
-use Rattle.bits_rows.specs.Parts.{IsFilled, IsWithPart}
+use Rattle.packed_lanes.specs.lemmas.Chunk.{chunks-front}
+use Rattle.packed_lanes.specs.Parts.{IsFilled, IsWithPart}
 use Rattle.field_base.proofs.BasisSums.{bit_at-add}
-use Rattle.bits_rows.proofs.WordLists.{Filled, more_filled}
+use Rattle.packed_lanes.proofs.WordLists.{Filled, more_filled}
 use Rattle.bits_packed.specs.Lanes.{IsWithLane, bits_of, lanes_from}
 
 -- lane j is digit j in base 2

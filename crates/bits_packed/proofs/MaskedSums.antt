@@ -12,9 +12,9 @@ use Rattle.std.proofs.lemmas.Simd.{Each1-get_or, bit_mask_l, bitmask_splat, map-
 use Rattle.std.proofs.lemmas.Nat.Bits.{bit_at-lt, bit_at_and}
 use native.Mathlib.Nat.{mod-eq_of_lt, mod-lt}
 use Rattle.field_base.specs.Basis.{sum_below}
-use Rattle.field_base.specs.BitRingLemmas.{two_cases}
+use Rattle.field_base.specs.lemmas.BitRing.{two_cases}
 use Rattle.field_base.specs.LinearMaps.{linear_image}
-use Rattle.field_base.proofs.AdditiveMaps.{KeepsSums, keeps_zero}
+use Rattle.field_base.proofs.AdditiveMaps.{KeepsSums}
 use Rattle.field_base.proofs.BasisSums.{bit_at-add, bit_at-mod, sum_below-add, sum_below-same}
 use Rattle.field_base.proofs.LinearMapLemmas.{the_linear_map}
 use Rattle.field_slices.proofs.LaplaceExpansion.{sum-lt}
@@ -36,9 +36,6 @@ pub masked-keeps : (mask : ℕ) → KeepsSums (masked_sum mask)
 masked-keeps mask a b =
     masked-linear mask (bit_xor a b) ∙ (the_linear_map (mask_bits mask)).of_sum a b
     ∙ sym (ap₂ bit_xor (masked-linear mask a) (masked-linear mask b))
-
-pub masked-zero : (mask : ℕ) → masked_sum mask 0 ≡ 0
-masked-zero mask = keeps_zero (masked_sum mask) (masked-keeps mask)
 
 -- the product of two bits is one
 pub bit-product : (a b : ℕ) → a < 2 → b < 2 → a * b < 2 ^ 1

@@ -6,13 +6,13 @@ use Rattle.std.proofs.lemmas.Nat.{xor_lt}
 use native.Mathlib.Nat.{one-mul, zero-mul}
 use lib.Bits.{xor_assoc, xor_comm, xor_self, xor_zero_r}
 use Rattle.field_base.specs.Basis.{sum_below}
-use Rattle.field_base.specs.BitRingLemmas.{two_cases}
+use Rattle.field_base.specs.lemmas.BitRing.{two_cases}
 use Rattle.field_base.specs.Tower.{tower_mul}
 use Rattle.field_base.proofs.BasisSums.{sum_below-same}
 use Rattle.field_slices.specs.Matrices.{cleared_entry, identity_entry}
 use Rattle.field_slices.proofs.Elimination.{cleared-other, cleared-own}
 use Rattle.field_slices.proofs.RowSpaces.{sum_of_sums}
-use Rattle.packed_lanes.specs.BitImageLemmas.{bit_sum}
+use Rattle.packed_lanes.specs.lemmas.BitImage.{bit_sum}
 use Rattle.bits_packed.specs.BitMatrices.{ArePivotPlaces, pending_sum, present_entry, entry_within}
 use Rattle.bits_packed.proofs.FourRowTables.{bit_times, sum_zero}
 use Rattle.field_base.proofs.RingLemmas.{xor_exchange}

@@ -2,9 +2,9 @@
 use Rattle.std.proofs.Common.{◌≡◌, ℕ, ◌+◌, ◌*◌, ◌/◌, ◌%◌, ◌<◌, ◌-◌, List, length, get_or, map, set, sym, ap, ap₂, ◌∙◌, arith, subst, inl, inr, ◌⊎◌, get_or-set_same, get_or-set_other}
 use Rattle.std.specs.Int.{bit_at}
 use Rattle.std.proofs.lemmas.List.{get_or-map, length-map, length-set, map-set}
-use Rattle.bits_rows.specs.Parts.{HasFirstBlocks, HasSecondBlocks}
-use Rattle.bits_rows.proofs.BlockPlaces.{even_mixed, mixed, next_quotient, odd_is_above, odd_mixed, same_mixed}
-use Rattle.bits_rows.proofs.BlockLemmas.{even_has_room}
+use Rattle.packed_lanes.specs.Parts.{HasFirstBlocks, HasSecondBlocks}
+use Rattle.packed_lanes.proofs.BlockPlaces.{even_mixed, mixed, next_quotient, odd_is_above, odd_mixed, same_mixed}
+use Rattle.packed_lanes.proofs.BlockLemmas.{even_has_room}
 use Rattle.bits_packed.specs.Rounds.{IsMixed, IsPairInterleaved}
 
 -- a number is even or odd

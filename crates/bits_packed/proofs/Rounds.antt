@@ -6,9 +6,9 @@ use Rattle.std.proofs.lemmas.List.{get_or-replicate, length-replicate, length-se
 use Rattle.std.proofs.lemmas.Nat.{div-add-mod', div-mul-add, div_below, mod-mul-add, mul-le, pow-add, pow_pos}
 use Rattle.std.proofs.Math.Nat.{add-mul, div-one, div-eq_of_lt, mul_assoc}
 use native.Mathlib.Nat.{mod-lt, mod-eq_of_lt, zero-mul}
-use Rattle.bits_rows.specs.Parts.{IsBlockSize}
-use Rattle.bits_rows.proofs.BlockLemmas.{block_divides, block_some}
-use Rattle.bits_rows.proofs.BlockPlaces.{mixed}
+use Rattle.packed_lanes.specs.Parts.{IsBlockSize}
+use Rattle.packed_lanes.proofs.BlockLemmas.{block_divides, block_some}
+use Rattle.packed_lanes.proofs.BlockPlaces.{mixed}
 use Rattle.bits_packed.specs.Lanes.{AreTransposed}
 use Rattle.bits_packed.specs.Rounds.{AreMixed, AreRounds, IsMixed, IsPairInterleaved, IsPassTo, IsRowCount, PassGoesOn, first_row}
 use Rattle.bits_packed.proofs.RoundPairs.{lower_mixed, upper_mixed}

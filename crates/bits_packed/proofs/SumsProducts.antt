@@ -166,9 +166,6 @@ module _ (mask inner width : ℕ) (left right : List ℕ) (row rows column colum
     target-long : length target ≡ 8 * rows
     target-long = strip.shape ∙ length-take-le (8 * rows) product (omega (arith, long, lines))
 
-    pub product-long : length (target ++ drop (8 * rows) product) ≡ 4096
-    product-long = front-long target product (8 * rows) 4096 target-long (omega (arith, lines)) long
-
     next : 128 * part + 128 ≡ 128 * (part + 1)
     next = omega arith
 

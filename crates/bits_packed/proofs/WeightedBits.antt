@@ -9,7 +9,7 @@ use Rattle.std.proofs.lemmas.Simd.{get_or-chunk, get_or-put_chunk_above, get_or-
 use lib.Arith.{digits_lt}
 use lib.Bits.{xor_assoc, xor_zero_r}
 use lib.Lanes.{chunk}
-use Rattle.field_base.specs.BitRingLemmas.{two_cases}
+use Rattle.field_base.specs.lemmas.BitRing.{two_cases}
 use Rattle.field_base.proofs.BasisSums.{bit_at-add, bit_at-mod}
 use Rattle.bits_packed.specs.BitMatrices.{IsRangeWritten, bit_entry}
 use Rattle.bits_packed.specs.BytesAsBits.{IsBlockAdded}

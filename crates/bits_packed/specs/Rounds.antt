@@ -1,7 +1,7 @@
 -- How far a transposition has come.
 use Rattle.std.specs.Prelude.{◌≡◌, ◌≢◌, ◌<◌, ◌≤◌, ℕ, ◌+◌, ◌*◌, ◌/◌, ◌%◌, List, ◌⊎◌, slice_index}
 use Rattle.std.specs.Int.{bit_at}
-use Rattle.bits_rows.specs.Parts.{HasFirstBlocks, HasSecondBlocks, IsBlockSize}
+use Rattle.packed_lanes.specs.Parts.{HasFirstBlocks, HasSecondBlocks, IsBlockSize}
 
 -- `row` is row r after the rounds by blocks of 1, 2, 4, .. below s lanes, begun at the rows `old`: the parts below s of the index
 -- of a row and of a lane have changed places.

@@ -14,9 +14,9 @@ mod text;
 mod transpose;
 
 pub use crate::packed::lanes::Lanes;
-use bits_rows::{M128, M256, M512, Underlier, Word, count_bits, field, with_field};
 use field_base::Gf2;
 use field_base::traits::TowerLevel;
+use packed_lanes::{M128, M256, M512, Underlier, Word, count_bits, field, with_field};
 use std::alloc::AllocError;
 
 /// Lanes of GF(2), packed into a word or a block of words: lane i is bit i of its number, so bit i modulo W of word i

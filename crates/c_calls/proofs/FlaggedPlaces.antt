@@ -4,7 +4,7 @@ use Rattle.std.proofs.Common.{take, drop, set, refl, sym, subst, ◌∙◌, ap, 
 use Rattle.std.specs.Prelude.{◌||◌, ◌&&◌, min, nat_eq, not, slice_index}
 use Rattle.std.proofs.Math.Bool.{or-false, or-true, or_assoc}
 use Rattle.std.proofs.lemmas.Bool.{cases_lt, eq-eqb, ne_eqb}
-use Rattle.std.proofs.lemmas.List.{get_or_past, length-drop, nil_from_length}
+use Rattle.std.proofs.lemmas.List.{length-drop, nil_from_length}
 use Rattle.std.proofs.Math.Nat.{min-eq_left, min-eq_right}
 use lib.Seq.{take_all, take-suc-set}
 use Rattle.proximity.specs.Marks.{marked_below}
@@ -34,9 +34,6 @@ pub record AreListed (flags places : List ℕ) (i : ℕ) : Type 0 where
   pub behind : (j : ℕ) → i ≤ j → is_listed places j ≡ false
 
 module _ (flags places : List ℕ) where
-  pub listed-none : AreListed flags (take 0 places) 0
-  listed-none = record { before = λ j below. absurd (omega (arith, below)); behind = λ j past. refl }
-
   -- the next symbol is not flagged
   pub listed-left : (count i : ℕ) → slice_index flags i ≡ 0 → AreListed flags (take count places) i
       → AreListed flags (take count places) (i + 1)
@@ -73,15 +70,6 @@ module _ (flags places : List ℕ) where
 
       added : (j : ℕ) → is_listed (take (count + 1) (set places count i)) j ≡ (is_listed (take count places) j || nat_eq i j)
       added j = ap (λ (ps : List ℕ). is_listed ps j) next ∙ listed-more (take count places) i j
-
-  -- at the end
-  pub listed-all : (count : ℕ) → AreListed flags (take count places) (length flags)
-      → (i : ℕ) → is_listed (take count places) i ≡ is_flagged flags i
-  listed-all count all i =
-      elim (cases_lt i (length flags)) [
-        | inl below ↦ all.before i below
-        | inr past ↦ all.behind i past ∙ sym (ap (λ (n : ℕ). not (nat_eq n 0)) (get_or_past flags i 0 past))
-      ]
 
 -- ---- words
 

@@ -1,19 +1,17 @@
 -- Words as the elements that their low bits are.
 use Rattle.std.proofs.Common.{◌≡◌, ℕ, suc, ◌%◌, ◌^◌, ◌<◌, List, [], ◌∷◌, length, get_or, map, refl, sym, ◌∙◌, ap, ap₂, subst, arith}
 use Rattle.std.specs.Prelude.{bit_xor, slice_index}
-use Rattle.std.specs.Simd.Lanes.{zip2}
 use Rattle.std.proofs.lemmas.List.{get_or-map, length-map}
 use Rattle.std.proofs.lemmas.Nat.{xor_mod}
 use native.Mathlib.Nat.{mod-eq_of_lt}
 use Rattle.field_base.specs.Field.{AreInverses, IsInverseOrZero}
-use Rattle.field_base.specs.Powers.{dot_of}
 use Rattle.field_base.specs.Ring.{IsRing}
 use Rattle.field_base.proofs.RingLemmas.{mod-times, times-mod}
 use Rattle.field_slices.specs.Matrices.{AreScaledSums}
 use Rattle.many_words.specs.Words.{AreElements, Each, EachOfTwo, HoldInverses}
 use Rattle.many_words.specs.Fields.{WordField}
 use Rattle.c_calls.specs.Low.{low_number}
-use Rattle.c_calls.specs.LowLemmas.{low_number-lt}
+use Rattle.c_calls.specs.lemmas.Low.{low_number-lt}
 
 -- lists that have the same numbers at each place have the same numbers
 pub same_numbers : {W : Type 0} (f g : W → ℕ) (xs ys : List W) → length ys ≡ length xs
@@ -121,26 +119,6 @@ module _ {W : Type 0} (field : WordField W) (ring : IsRing field.width 1 field.t
       ∙ sym (low-factors field.number field.width field.times ring (field.number x) (field.number scalar))
       ∙ ring.comm (low x) (low scalar))
       (low_multiples scalar xs ys (omega (arith, long)) (λ k below d. each (suc k) (omega (arith, below)) d))
-
-  -- products place by place
-  pub low_products : (xs ys zs : List W) → length ys ≡ length xs → length zs ≡ length xs
-      → EachOfTwo field (λ x y z. z ≡ field.times x y) xs ys zs
-      → map low zs ≡ zip2 field.times (map low xs) (map low ys)
-  low_products [] [] [] same long each = refl
-  low_products [] (y ∷ ys) zs same long each = absurd (omega (arith, same))
-  low_products (x ∷ xs) [] zs same long each = absurd (omega (arith, same))
-  low_products [] [] (z ∷ zs) same long each = absurd (omega (arith, long))
-  low_products (x ∷ xs) (y ∷ ys) [] same long each = absurd (omega (arith, long))
-  low_products (x ∷ xs) (y ∷ ys) (z ∷ zs) same long each =
-      ap₂ (λ (n : ℕ) (ns : List ℕ). n ∷ ns) (low-product field.number field.width field.times ring x y z (each 0 (omega arith) z))
-      (low_products xs ys zs (omega (arith, same)) (omega (arith, long)) (λ k below d. each (suc k) (omega (arith, below)) d))
-
-  -- sums of products
-  pub low_dots : (xs ys : List W) → dot_of field.times low xs ys ≡ dot_of field.times field.number xs ys
-  low_dots [] ys = refl
-  low_dots (x ∷ xs) [] = refl
-  low_dots (x ∷ xs) (y ∷ ys) =
-      ap₂ bit_xor (low-factors field.number field.width field.times ring (field.number x) (field.number y)) (low_dots xs ys)
 
   -- sums with multiples
   pub low_sums : (scalar : W) (values old new : List W) → length values ≡ length old → length new ≡ length old

@@ -1,6 +1,6 @@
 -- Words of one length that stand one after the other, of which those before one are changed.
 use Rattle.std.proofs.Common.{◌≡◌, ◌⊎◌, inl, inr, ℕ, suc, ◌+◌, ◌-◌, ◌*◌, ◌/◌, ◌<◌, ◌≤◌, Bool, true, List, ◌++◌, length, take, drop, set}
-use Rattle.std.proofs.Common.{refl, sym, subst, ◌∙◌, ap, arith, below_more}
+use Rattle.std.proofs.Common.{sym, subst, ◌∙◌, ap, arith, below_more}
 use Rattle.std.specs.Prelude.{◌↔◌, slice_index}
 use Rattle.std.proofs.Math.Nat.{div-mul-le_self, mul-le-mul_right, suc-mul}
 use Rattle.std.proofs.lemmas.Bool.{cases_Bool, cases_lt}
@@ -73,9 +73,6 @@ pub record WordsChanged (n : ℕ) (relates : ℕ → List ℕ → List ℕ → T
   pub rest : drop (count * n) now ≡ drop (count * n) old
 
 module _ (n : ℕ) (relates : ℕ → List ℕ → List ℕ → Type 0) (old : List ℕ) where
-  pub words-none : WordsChanged n relates old old 0
-  words-none = record { long = refl; done = λ i below. absurd (omega (arith, below)); rest = refl }
-
   -- a word more
   pub words-more : (now part : List ℕ) (i : ℕ) → i * n + n ≤ length old → length part ≡ n → relates i (nth_word n i now) part
       → WordsChanged n relates old now i → WordsChanged n relates old (put_mid (i * n) n now part) (i + 1)

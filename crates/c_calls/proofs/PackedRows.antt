@@ -11,7 +11,7 @@ use Rattle.field_base.proofs.RingLemmas.{times-zero}
 use Rattle.field_slices.specs.Matrices.{AreRowsReduced, HaveSameRowSpace, IsMatrixProduct}
 use Rattle.field_slices.proofs.RowSpaces.{combination_row}
 use Rattle.bits_packed.specs.BitMatrices.{bit_entry, word_of, words_for}
-use Rattle.field_base.specs.BitRingLemmas.{bits_ring}
+use Rattle.field_base.specs.lemmas.BitRing.{bits_ring}
 use Rattle.c_calls.specs.BitMatrices.{AreBits, HasBitRank, IsBitReduced, bits}
 
 -- ---- words
@@ -87,10 +87,6 @@ module _ (columns : ℕ) (words : List ℕ) (fits : (i : ℕ) → slice_index wo
       let bit : i ≡ j % 64 = omega (arith, inside) in
       ap (λ (v : ℕ). bit_at (slice_index words (n * words_for columns + v)) i) word
       ∙ ap (bit_at (slice_index words (n * words_for columns + j / 64))) bit ∙ all n j within past before)
-
--- rows whose columns fill their words have no bits behind them
-pub no_bits_behind : (rows columns : ℕ) (words : List ℕ) → columns % 64 ≡ 0 → AreBits rows columns words
-no_bits_behind rows columns words whole i j below past inside = absurd (omega (arith, whole, past, inside))
 
 -- ---- matrices
 

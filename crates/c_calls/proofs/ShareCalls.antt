@@ -2,12 +2,12 @@
 use Rattle.std.proofs.Common.{◌≡◌, ℕ, ◌<◌, List, arith, length, refl, sym, subst, ◌∙◌}
 use Rattle.std.specs.Prelude.{cond, slice_index}
 use Rattle.field_base.specs.Powers.{value_of}
-use Rattle.secret_sharing.specs.Fields.{modulus_of, product_in}
-use Rattle.secret_sharing.specs.Refusals.{AreShares}
-use Rattle.secret_sharing.specs.Sharing.{IsCombined, LieOnPolynomials}
-use Rattle.secret_sharing.specs.Wrong.{AreNearPolynomials, is_wrong_share}
-use Rattle.secret_sharing.specs.declared.field.ShareField.{ShareField}
-use Rattle.secret_sharing.specs.declared.field.ShareField.TheVariants.{Gfshare, Rijndael}
+use Rattle.error_codes.specs.Fields.{modulus_of, product_in}
+use Rattle.error_codes.specs.Refusals.{AreShares}
+use Rattle.error_codes.specs.Sharing.{IsCombined, LieOnPolynomials}
+use Rattle.error_codes.specs.Wrong.{AreNearPolynomials, is_wrong_share}
+use Rattle.error_codes.specs.declared.field.ShareField.{ShareField}
+use Rattle.error_codes.specs.declared.field.ShareField.TheVariants.{Gfshare, Rijndael}
 use Rattle.c_calls.specs.Secrets.{AreNear, CombinesShares, CorrectsShares, IsRightSecret}
 use Rattle.c_calls.specs.declared.status.TheConstants.{OK, UNSOLVABLE}
 

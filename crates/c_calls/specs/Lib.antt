@@ -1,6 +1,5 @@
 pub mod BinaryCodes
 pub mod BitMatrices
-pub mod ByteFormLemmas
 pub mod Bytes
 pub mod Calls
 pub mod ChosenCodes
@@ -14,8 +13,7 @@ pub mod InterleavedCodes
 pub mod Linear
 pub mod Lines
 pub mod Low
-pub mod LowLemmas
 pub mod Matrices
 pub mod Secrets
 pub mod Transforms
-pub mod WideLemmas
+pub mod lemmas

@@ -1,11 +1,11 @@
 -- Calls that share a secret. A number names the field of bytes whose modulus it is: 0x11b that of AES, and 0x11d that of libgfshare.
 use Rattle.std.specs.Prelude.{◌≡◌, ◌≢◌, ℕ, ◌-◌, ◌*◌, ◌<◌, ◌≤◌, List, cond, length, slice_index}
 use Rattle.field_base.specs.Powers.{value_of}
-use Rattle.secret_sharing.specs.Fields.{modulus_of, product_in}
-use Rattle.secret_sharing.specs.Refusals.{AreDistinct, AreNonzero, AreShares}
-use Rattle.secret_sharing.specs.Sharing.{AreSplit, IsCombined, LieOnPolynomials}
-use Rattle.secret_sharing.specs.Wrong.{AreNearPolynomials, is_wrong_share}
-use Rattle.secret_sharing.specs.declared.field.ShareField.{ShareField}
+use Rattle.error_codes.specs.Fields.{modulus_of, product_in}
+use Rattle.error_codes.specs.Refusals.{AreDistinct, AreNonzero, AreShares}
+use Rattle.error_codes.specs.Sharing.{AreSplit, IsCombined, LieOnPolynomials}
+use Rattle.error_codes.specs.Wrong.{AreNearPolynomials, is_wrong_share}
+use Rattle.error_codes.specs.declared.field.ShareField.{ShareField}
 use Rattle.c_calls.specs.Bytes.{CallOfCode}
 use Rattle.c_calls.specs.declared.status.TheConstants.{OK, LENGTH, CODE, TOO_FEW_SHARDS, UNSOLVABLE}
 

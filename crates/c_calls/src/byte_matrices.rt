@@ -5,14 +5,13 @@ ghost use Rattle.bits_packed.specs.BytesAsBits.{bilinear_product};
 ghost use Rattle.many_words.specs.Fields.{field_of, itself};
 ghost use Rattle.c_calls.specs.Matrices.{MultipliesMatrices};
 ghost use Rattle.c_calls.specs.declared.byte_matrices.TheConstants.{RIJNDAEL_FORMS, TOWER_FORMS};
-ghost use Rattle.c_calls.specs.ByteFormLemmas.{rijndael-forms, tower-forms};
+ghost use Rattle.c_calls.specs.lemmas.ByteForm.{rijndael-forms, tower-forms};
 
 use crate::shapes::have_product_shapes;
 use crate::{Words, matrices, status};
-use bit_slices::Vector;
 use bits_packed::matrices::multiply_bytes_into;
 use ghash_slices::Width;
-use many_words::Many;
+use many_words::{Many, Vector};
 use word_polynomial::RijndaelKernel;
 use word_tower::{Bits8, Tower};
 

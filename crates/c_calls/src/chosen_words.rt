@@ -8,7 +8,7 @@ ghost use Rattle.many_words.specs.Words.{Each, EachOfTwo};
 ghost use Rattle.c_calls.specs.ChosenFields.{residue_field};
 ghost use Rattle.c_calls.specs.Fields.{wide_number};
 ghost use Rattle.c_calls.specs.Low.{low_number};
-ghost use Rattle.c_calls.specs.LowLemmas.{low_number-lt};
+ghost use Rattle.c_calls.specs.lemmas.Low.{low_number-lt};
 
 use crate::fields::are_elements;
 use crate::scalars::ScalarWords;

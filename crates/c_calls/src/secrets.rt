@@ -1,12 +1,12 @@
 // Shares of a secret, which stand one after the other, over the field of bytes whose modulus is named.
 ghost use Rattle.std.specs.Prelude.{◌≡◌, ◌≢◌, ◌<◌, ◌≤◌, ℕ, MatchOption, cond, length, slice_index};
 ghost use Rattle.error_codes.specs.Filling.{is_marked};
-ghost use Rattle.secret_sharing.specs.Fields.{modulus_of};
-ghost use Rattle.secret_sharing.specs.declared.field.ShareField.{ShareField};
+ghost use Rattle.error_codes.specs.Fields.{modulus_of};
+ghost use Rattle.error_codes.specs.declared.field.ShareField.{ShareField};
 ghost use Rattle.c_calls.specs.Secrets.{CombinesShares, CorrectsShares, SplitsSecret};
 
 use crate::status;
-use secret_sharing::{ShareField, SharingError};
+use error_codes::{ShareField, SharingError};
 
 /// Writes `count` shares of a secret, any `needed` of which restore it, from drawn bytes.
 pub fn split_secret(
@@ -22,7 +22,7 @@ pub fn split_secret(
     let Some(field) = field_of(modulus) else {
         return status::CODE;
     };
-    match secret_sharing::split(
+    match error_codes::split(
         field,
         needed as usize,
         secret,
@@ -50,7 +50,7 @@ pub fn combine_shares(
     let Some(field) = field_of(modulus) else {
         return status::CODE;
     };
-    match secret_sharing::combine(field, needed as usize, indexes, shares, secret) {
+    match error_codes::combine(field, needed as usize, indexes, shares, secret) {
         Ok(()) => status::OK,
         Err(SharingError::TooFewShares) => status::TOO_FEW_SHARDS,
         Err(SharingError::EmptySecret | SharingError::UnequalLengths) => status::LENGTH,
@@ -77,7 +77,7 @@ pub fn correct_shares(
     if wrong.len() != indexes.len() {
         return status::LENGTH;
     }
-    match secret_sharing::combine_correcting(field, needed as usize, indexes, shares, secret) {
+    match error_codes::combine_correcting(field, needed as usize, indexes, shares, secret) {
         Ok(marks) => {
             write_marks(&marks, wrong);
             status::OK

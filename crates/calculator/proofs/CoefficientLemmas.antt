@@ -7,7 +7,7 @@ use Rattle.hex.specs.Hex.{lower_digits, encode_with}
 use Rattle.field_base.specs.Chunks.{chunk}
 use Rattle.field_base.specs.Remainder.{aes_modulus, poly64_modulus, ghash_modulus}
 use Rattle.word_polynomial.specs.Cubic.{triple}
-use Rattle.word_polynomial.specs.TripleLemmas.{same₃, first-triple, second-triple, third-triple, triple-chunks, triple-lt}
+use Rattle.word_polynomial.specs.lemmas.Triple.{same₃, first-triple, second-triple, third-triple, triple-chunks, triple-lt}
 use Rattle.calculator.specs.Digits.{low_digits}
 use Rattle.calculator.specs.Elements.{CoefficientsStandInOrder, ElementIsReadBack}
 use Rattle.calculator.specs.Fields.{WrittenField, bytes_of, lowest_first, tower_level, polynomials_modulo, cubic_extension, field_named}

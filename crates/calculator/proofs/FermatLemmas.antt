@@ -11,7 +11,7 @@ use Rattle.field_base.specs.Tower.{tower_mul}
 use Rattle.field_base.proofs.FieldLemmas.{inverse-power, power-inverts, root_is_squarings, squarings-square}
 use Rattle.field_base.proofs.TowerLaws.{tower_field}
 use Rattle.word_polynomial.specs.Cubic.{cubic}
-use Rattle.word_polynomial.specs.CubicFieldLemmas.{cubic_is_field}
+use Rattle.word_polynomial.specs.lemmas.CubicField.{cubic_is_field}
 use Rattle.word_tables.proofs.Isomorphisms.{field_8, field_64, field_128}
 use Rattle.calculator.specs.Fields.{WrittenField, written_field, undivided, lowest_first, tower_level, polynomials_modulo, cubic_extension, field_named}
 use Rattle.calculator.specs.Operations.{unary_result}

@@ -125,12 +125,6 @@ modulo-result m tail p (Err error) is fits made refused =
     sym (cond-false (has_field m p) (Some (polynomials_modulo m p)) None
     (false_from_ne_true (has_field m p) (λ pass. refused ((fields_of_irreducibles m tail fits).0 (ap (has_field m) (sym is) ∙ pass)))))
 
--- a polynomial of another degree has no field
-pub modulo-other : (m p : ℕ) → p / 2 ^ m ≢ 1 → None ≡ field_modulo (m, p)
-modulo-other m p other =
-    sym (cond-false (has_field m p) (Some (polynomials_modulo m p)) None
-    (false_from_ne_true (has_field m p) (λ pass. other ((has_field-parts m p).0 pass).0.1)))
-
 -- ---- degrees of numbers in two words
 
 -- a number with a high word has more than 128 bits, and so no degree below 128

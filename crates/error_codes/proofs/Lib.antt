@@ -1,3 +1,10 @@
+mod ShareProducts
+mod Interpolating
+mod Loops
+mod Secrecy
+mod RightShares
+mod Located
+mod NearShares
 pub mod Marks
 pub mod CodeValues
 pub mod Encoding

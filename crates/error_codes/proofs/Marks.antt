@@ -58,13 +58,6 @@ wrong-is false a b is = (
   ],
 )
 
-pub is-wrong : (erased : Bool) (a b : ℕ) → erased ≡ false → a ≢ b → (not erased && not (nat_eq a b)) ≡ true
-is-wrong true a b kept other = absurd (cc)
-is-wrong false a b kept other = elim (eqb_tells a b) [
-  | inl same ↦ absurd (other same.1)
-  | inr differs ↦ ap not differs.0
-]
-
 pub equal-is : (a b : ℕ) → nat_eq a b ≡ true → a ≡ b
 equal-is a b is = elim (eqb_tells a b) [
   | inl same ↦ same.1

@@ -4,7 +4,6 @@ use Rattle.std.proofs.Common.{◌≡◌, ◌≢◌, ◌⊎◌, ℕ, zero, suc, �
 use Rattle.std.proofs.Common.{true, false, cond, refl, sym, ◌∙◌, ap, ap₂, arith}
 use Rattle.std.specs.Prelude.{bit_xor, nat_eq, not, slice_index, ◌&&◌}
 use Rattle.std.proofs.lemmas.Bool.Decides.{eqb_tells}
-use Rattle.std.proofs.lemmas.Nat.{pow_below}
 use lib.Bits.{xor_assoc, xor_zero_l, xor_zero_r}
 use Rattle.field_base.specs.Basis.{sum_below}
 use Rattle.field_base.specs.Field.{IsField}
@@ -119,9 +118,6 @@ without-one marked (suc n) i within is = pick (eqb_tells n i) (marked n) refl (�
         omega (arith, one, rest, all)
 
 module _ (width : ℕ) (times : ℕ → ℕ → ℕ) (wide : 0 < width) (field : IsField width times) where
-  one_fits : 1 < 2 ^ width
-  one_fits = pow_below 0 width wide
-
   pub sum-times : (s : ℕ) (f : ℕ → ℕ) (n : ℕ) → sum_below (λ i. times s (f i)) n ≡ times s (sum_below f n)
   unfolding sum_below
   sum-times s f zero = sym (times-zero width 1 times field.ring s)

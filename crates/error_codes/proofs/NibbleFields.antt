@@ -19,7 +19,7 @@ use Rattle.error_codes.specs.Correcting.{HasOrder, HasRoots, code_value}
 use Rattle.error_codes.specs.Nibbles.{AreNibbles, lowered, nibble_root, nibble_times, raised}
 use Rattle.error_codes.specs.declared.byte_field.ByteField.TheVariants.{Qr}
 use Rattle.error_codes.specs.declared.nibble_code.literals.TheConstants.{IMAGES}
-use Rattle.error_codes.specs.ByteFieldLemmas.{bytes_are_fields}
+use Rattle.error_codes.specs.lemmas.ByteField.{bytes_are_fields}
 use Rattle.error_codes.proofs.Encoding.{value-same}
 use Rattle.error_codes.proofs.Moments.{sum-same}
 

@@ -1,7 +1,7 @@
 -- Words as columns of a matrix: the places of their symbols, one word that is written among them, and all words one after the
 -- other.
 use Rattle.std.proofs.Common.{◌≡◌, ◌≢◌, ℕ, zero, suc, ◌+◌, ◌*◌, ◌%◌, ◌^◌, ◌<◌, ◌≤◌, List, [], ◌∷◌, ◌++◌, length, take, drop, set}
-use Rattle.std.proofs.Common.{refl, sym, ◌∙◌, ap, subst, arith, below_more}
+use Rattle.std.proofs.Common.{sym, ◌∙◌, ap, subst, arith, below_more}
 use Rattle.std.specs.Prelude.{slice_index}
 use Rattle.std.proofs.Math.Nat.{mul-le-mul_right, suc-mul}
 use Rattle.std.proofs.lemmas.List.{get_or-append-add, get_or_append_left, get_or-drop, get_or-set_other, get_or-set_same, get_or-take}
@@ -115,9 +115,6 @@ pub record WordWritten (depth c : ℕ) (word old now : List ℕ) (i : ℕ) : Typ
   pub own : (k : ℕ) → k < i → slice_index now (k * depth + c) ≡ slice_index word k
   pub others : (d k : ℕ) → d < depth → d ≢ c → slice_index now (k * depth + d) ≡ slice_index old (k * depth + d)
 
-pub word-none : (depth c : ℕ) (word old : List ℕ) → WordWritten depth c word old old 0
-word-none depth c word old = record { long = refl; own = λ k below. absurd (omega (arith, below)); others = λ d k below other. refl }
-
 pub word-more : (depth c i symbol : ℕ) (word old now : List ℕ) → c < depth → i * depth + c < length now → symbol ≡ slice_index word i
     → WordWritten depth c word old now i → WordWritten depth c word old (set now (i * depth + c) symbol) (i + 1)
 word-more depth c i symbol word old now inside room is before = record {
@@ -140,9 +137,6 @@ pub record ColumnsChanged (n depth : ℕ) (relates : ℕ → List ℕ → List �
   pub rest : (c : ℕ) → c < depth → count ≤ c → interleaved_word n depth now c ≡ interleaved_word n depth old c
 
 module _ (n depth : ℕ) (relates : ℕ → List ℕ → List ℕ → Type 0) (old : List ℕ) where
-  pub columns-none : ColumnsChanged n depth relates old old 0
-  columns-none = record { long = refl; done = λ c below. absurd (omega (arith, below)); rest = λ c inside above. refl }
-
   -- a word more
   pub columns-more : (now new : List ℕ) (c : ℕ) → c < depth → length new ≡ length now
       → relates c (interleaved_word n depth now c) (interleaved_word n depth new c)

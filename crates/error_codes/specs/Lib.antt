@@ -1,3 +1,8 @@
+pub mod Fields
+pub mod Sharing
+pub mod Refusals
+pub mod Wrong
+pub mod Secrecy
 pub mod BinaryBch
 pub mod Words
 pub mod Decoding
@@ -13,4 +18,4 @@ pub mod Interleaved
 pub mod Nibbles
 pub mod DualBasis
 pub mod FieldCodes
-pub mod ByteFieldLemmas
+pub mod lemmas

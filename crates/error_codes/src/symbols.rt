@@ -5,7 +5,7 @@ ghost use Rattle.any_field.specs.Contexts.{field_product};
 ghost use Rattle.any_field.proofs.ContextFields.{field-at};
 ghost use Rattle.error_codes.specs.ByteFields.{byte_times};
 ghost use Rattle.error_codes.specs.FieldCodes.{AreSymbols};
-ghost use Rattle.error_codes.specs.ByteFieldLemmas.{bytes-narrow, bytes-wide, bytes_are_fields};
+ghost use Rattle.error_codes.specs.lemmas.ByteField.{bytes-narrow, bytes-wide, bytes_are_fields};
 ghost use Rattle.error_codes.specs.declared.error.CodeError.TheVariants.{TooLong};
 
 use crate::byte_field::{self, ByteField};

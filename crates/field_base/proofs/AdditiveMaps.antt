@@ -6,7 +6,7 @@ use Rattle.std.proofs.lemmas.Nat.{pow_pos, shr_split, shr_below}
 use native.Mathlib.Nat.{mod-lt, zero-mul, one-mul, eq-or-lt_of_le, le_of_suc-le-suc}
 use lib.Arith.{lt-one}
 use lib.Bits.{xor_self, xor_shifted}
-use Rattle.field_base.specs.BitRingLemmas.{two_cases}
+use Rattle.field_base.specs.lemmas.BitRing.{two_cases}
 
 -- ---- maps that agree
 

@@ -6,7 +6,7 @@ use Rattle.std.proofs.lemmas.Nat.{xor_mod, xor_shr, shr-shr, field_of}
 use Rattle.std.proofs.lemmas.Nat.Bits.{bit_at_lowest}
 use native.Mathlib.Nat.{mod-lt, zero-mul, one-mul, mul-one}
 use lib.Bits.{xor_assoc, xor_self, xor_zero_r}
-use Rattle.field_base.specs.BitRingLemmas.{two_cases}
+use Rattle.field_base.specs.lemmas.BitRing.{two_cases}
 use Rattle.field_base.specs.Ring.{IsRing}
 use Rattle.field_base.proofs.AdditiveMaps.{KeepsSums, keeps_zero}
 use Rattle.field_base.proofs.BasisSums.{bit_at-mod}

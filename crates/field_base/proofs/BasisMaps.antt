@@ -8,7 +8,7 @@ use Rattle.std.proofs.lemmas.Nat.Bits.{bit_at_above, bit_at-lt, bit_at_lowest}
 use native.Mathlib.Nat.{mod-eq_of_lt, mod-lt, div-eq_of_lt, zero-mul, one-mul, mul-one}
 use lib.Bits.{xor_assoc, xor_zero_r}
 use Rattle.field_base.specs.Basis.{sum_below, product_below}
-use Rattle.field_base.specs.BitRingLemmas.{two_cases}
+use Rattle.field_base.specs.lemmas.BitRing.{two_cases}
 use Rattle.field_base.specs.Powers.{power}
 use Rattle.field_base.specs.Quadratic.{low_half, high_half, pair}
 use Rattle.field_base.specs.Ring.{IsRing}

@@ -9,7 +9,7 @@ use lib.Bits.{xor_self, xor_zero_r, xor_shifted}
 use native.Mathlib.Decide.{le_ind}
 use Rattle.field_base.specs.Carryless.{carryless_in, carryless, CarrylessIsProduct}
 use Rattle.field_base.proofs.RingLemmas.{xor_exchange}
-use Rattle.field_base.specs.BitRingLemmas.{two_cases}
+use Rattle.field_base.specs.lemmas.BitRing.{two_cases}
 
 -- ---- sums
 

@@ -5,7 +5,7 @@ use native.Mathlib.Nat.{pow-suc}
 use Rattle.field_base.specs.Ring.{IsRing}
 use Rattle.field_base.specs.Quadratic.{pair, quadratic}
 use Rattle.field_base.specs.Tower.{root, tower_mul, TowerIsRing}
-use Rattle.field_base.specs.BitRingLemmas.{bits_ring}
+use Rattle.field_base.specs.lemmas.BitRing.{bits_ring}
 use Rattle.field_base.proofs.QuadraticRing.{pair-lt, quadratic_ring}
 
 -- the bits of a level are twice those of the level below

@@ -8,7 +8,7 @@ use Rattle.field_base.specs.Quadratic.{low_half, high_half, pair}
 use Rattle.field_base.specs.Tower.{root, tower_mul}
 use Rattle.field_base.specs.TowerField.{root_inverse}
 use Rattle.field_base.proofs.TowerRing.{tower_ring, bits_double, halves-lt}
-use Rattle.field_base.specs.BitRingLemmas.{two_cases}
+use Rattle.field_base.specs.lemmas.BitRing.{two_cases}
 use Rattle.field_base.proofs.TowerTraces.{tower_inverses, root_inverse_is}
 use Rattle.field_base.proofs.FieldLemmas.{square-injective}
 use Rattle.field_base.proofs.QuadraticRing.{low_half-lt}

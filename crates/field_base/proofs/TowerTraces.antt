@@ -9,7 +9,7 @@ use Rattle.field_base.specs.Powers.{repeated_square, sum_of_squarings}
 use Rattle.field_base.specs.Tower.{root, tower_mul}
 use Rattle.field_base.specs.TowerField.{root_inverse, TracesAreOne, RootInverse, NoLevelHasARoot, NonzeroHasInverse, SquaringsReturn}
 use Rattle.field_base.proofs.TowerRing.{tower_ring, bits_double}
-use Rattle.field_base.specs.BitRingLemmas.{two_cases}
+use Rattle.field_base.specs.lemmas.BitRing.{two_cases}
 use Rattle.field_base.proofs.Norms.{quadratic-inverses}
 use Rattle.field_base.proofs.QuadraticTraces.{HasUnitTraces, quadratic-no_root, quadratic-unit_traces}
 

@@ -1,6 +1,5 @@
 pub mod Basis
 pub mod Bit
-pub mod BitRingLemmas
 pub mod ByteTables
 pub mod Carryless
 pub mod Chunks
@@ -22,3 +21,4 @@ pub mod Steps
 pub mod Tower
 pub mod TowerBasis
 pub mod TowerField
+pub mod lemmas

@@ -156,7 +156,7 @@ impl Default for Gf2 {
 
 impl Represented for Gf2 {
     ghost use Rattle.field_base.specs.Bit.{bit_number, same_repr};
-    ghost use Rattle.field_base.specs.BitRingLemmas.{bits_ring};
+    ghost use Rattle.field_base.specs.lemmas.BitRing.{bits_ring};
 
     ghost width = { 1 };
 
@@ -231,7 +231,7 @@ impl PrimeCharacteristicRing for Gf2 {
 }
 
 impl Field for Gf2 {
-    ghost use Rattle.field_base.specs.BitRingLemmas.{bit_field, bit_generator, one_is_nonzero};
+    ghost use Rattle.field_base.specs.lemmas.BitRing.{bit_field, bit_generator, one_is_nonzero};
 
     type Packing = Gf2;
 
@@ -275,7 +275,7 @@ impl Field for Gf2 {
 impl Sealed for Gf2 {}
 
 impl TowerLevel for Gf2 {
-    ghost use Rattle.field_base.specs.BitRingLemmas.{bit_cantor, bit_cantor_image, bit_no_root, level_basis};
+    ghost use Rattle.field_base.specs.lemmas.BitRing.{bit_cantor, bit_cantor_image, bit_no_root, level_basis};
 
     type Repr = u8;
 

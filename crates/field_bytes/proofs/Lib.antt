@@ -1,3 +1,4 @@
+mod LinearizedLemmas
 pub mod GrowingNumbers
 pub mod LowBytes
 pub mod Placing

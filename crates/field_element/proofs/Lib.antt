@@ -1,3 +1,7 @@
+pub mod FrobeniusRounds
+pub mod LevelShifts
+pub mod PowerItems
+pub mod Spaces
 mod ChangedPlaces
 mod NumberDigits
 pub mod PlaceProducts

@@ -5,7 +5,7 @@ use Rattle.std.proofs.lemmas.List.{length-map}
 use Rattle.std.proofs.lemmas.Nat.{pow_pos}
 use mathlib.Core.HLevel.{is_prop→PathP}
 use Rattle.field_base.specs.Chunks.{chunk, chunks}
-use Rattle.word_polynomial.specs.TripleLemmas.{chunks-triple, same_number}
+use Rattle.word_polynomial.specs.lemmas.Triple.{chunks-triple, same_number}
 use Rattle.word_polynomial.specs.Triple.{triple_number}
 use Rattle.word_polynomial.specs.declared.triple.Triple.{Triple}
 use Rattle.field_element.specs.Element.{repr_of, same_word}

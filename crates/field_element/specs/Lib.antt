@@ -1,8 +1,8 @@
-pub mod BitProductLemmas
+pub mod Items
+pub mod PowerItems
+pub mod Vectors
 pub mod Coefficients
 pub mod Element
 pub mod Changes
-pub mod GhashLaneLemmas
 pub mod GhashLanes
-mod LevelProductLemmas
-pub mod RangeLemmas
+pub mod lemmas

@@ -2,7 +2,7 @@
 // Levels of the tower as algebras over the levels below them: an element of the lower level is the same number in the upper.
 ghost use Rattle.std.specs.Prelude.{◌≡◌, ◌<◌, ◌^◌, ℕ, refl};
 ghost use Rattle.field_base.specs.Operators.{given};
-ghost use Rattle.field_element.specs.LevelProductLemmas.{product_inside};
+ghost use Rattle.field_element.specs.lemmas.LevelProduct.{product_inside};
 ghost use Rattle.field_element.specs.Element.{repr_of};
 
 use crate::element::Element;

@@ -88,7 +88,7 @@ impl DivAssign<Poly64> for Poly192 {
 
 impl Algebra<Poly64> for Poly192 {
     ghost use Rattle.field_base.proofs.RemainderRing.{poly64_ring};
-    ghost use Rattle.word_polynomial.specs.CubicRingLemmas.{cubic-low};
+    ghost use Rattle.word_polynomial.specs.lemmas.CubicRing.{cubic-low};
 
     ghost image = { λ a. a };
 

@@ -3,8 +3,8 @@ ghost use Rattle.std.specs.Prelude.{◌≡◌, map, replicate};
 ghost use Rattle.field_base.specs.Operators.{algebra_gives};
 ghost use Rattle.field_base.specs.Remainder.{ghash_modulus, mul_mod};
 ghost use Rattle.field_element.specs.Element.{repr_of};
-ghost use Rattle.field_element.specs.GhashLaneLemmas.{ghash_image-below, ghash_lanes-one};
-ghost use Rattle.field_element.specs.GhashLaneLemmas.{ghash_lanes-product, ghash_lanes-same, ghash_lanes-sum};
+ghost use Rattle.field_element.specs.lemmas.GhashLane.{ghash_image-below, ghash_lanes-one};
+ghost use Rattle.field_element.specs.lemmas.GhashLane.{ghash_lanes-product, ghash_lanes-same, ghash_lanes-sum};
 ghost use Rattle.field_element.specs.GhashLanes.{ghash_image, ghash_image_lanes};
 ghost use Rattle.packed_lanes.specs.Packed.{lanes_of};
 ghost use Rattle.field_base.specs.Chunks.{joined};
@@ -33,7 +33,7 @@ impl From<BinaryField128> for PackedGhash128 {
 impl Algebra<BinaryField128> for PackedGhash128 {
     ghost use Rattle.std.proofs.Common.{ap};
     ghost use Rattle.word_tables.proofs.Isomorphisms.{field_128};
-    ghost use Rattle.packed_lanes.specs.PackedLemmas.{packed_product_every, packed_sum_every};
+    ghost use Rattle.packed_lanes.specs.lemmas.Packed.{packed_product_every, packed_sum_every};
 
     ghost image = { ghash_image_lanes };
 

@@ -16,9 +16,7 @@ pub mod LagrangeSteps
 pub mod LaneLists
 pub mod LaplaceExpansion
 pub mod LinearSystems
-pub mod MatrixPowers
 pub mod MatrixRows
-pub mod MixedDots
 pub mod NextTerms
 pub mod NullSpaces
 pub mod PackedPowers

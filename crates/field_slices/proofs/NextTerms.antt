@@ -11,10 +11,6 @@ sum-more f n sum next so_far is = is ∙ ap (λ (s : ℕ). bit_xor s (f n)) so_f
 
 -- the power of no factors, and of one factor more
 module _ (unit : ℕ) (times : ℕ → ℕ → ℕ) (a : ℕ) where
-  pub power-none : (current : ℕ) → current ≡ unit → current ≡ power unit times a 0
-  unfolding power
-  power-none current is = is
-
   pub power-next : (n current next : ℕ) → current ≡ power unit times a n → next ≡ times current a → next ≡ power unit times a (n + 1)
   unfolding power
   power-next n current next is multiplied =

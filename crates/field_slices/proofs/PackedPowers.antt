@@ -8,7 +8,7 @@ use Rattle.field_base.specs.Powers.{power}
 use Rattle.field_base.specs.Ring.{IsRing}
 use Rattle.field_base.proofs.PowerLemmas.{power-add}
 use Rattle.packed_lanes.specs.Lanes.{lane_by_lane}
-use Rattle.packed_lanes.specs.LaneListLemmas.{map-replicate}
+use Rattle.packed_lanes.specs.lemmas.LaneList.{map-replicate}
 use Rattle.packed_lanes.specs.Packed.{lanes_of}
 use Rattle.packed_lanes.specs.declared.packed.Packed.{Packed}
 use Rattle.field_slices.proofs.LaneLists.{lanes-after, one-more}

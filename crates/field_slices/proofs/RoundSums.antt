@@ -1,14 +1,13 @@
 -- The sum of the products of values on two lines is a polynomial of degree 2, whose coefficients are sums of products.
-use Rattle.std.proofs.Common.{◌≡◌, ℕ, ◌/◌, ◌%◌, ◌^◌, ◌<◌, List, [], ◌∷◌, length, map, take, drop, refl, sym, ◌∙◌, ap, ap₂, arith}
+use Rattle.std.proofs.Common.{◌≡◌, ℕ, ◌/◌, ◌%◌, List, [], ◌∷◌, length, map, take, drop, refl, sym, ◌∙◌, ap, ap₂, arith}
 use Rattle.std.specs.Prelude.{bit_xor}
 use Rattle.std.specs.Simd.Lanes.{zip2}
 use Rattle.std.proofs.lemmas.List.{length-drop, length-map, length-take-le, take-map}
-use Rattle.std.proofs.lemmas.Nat.{pow_below, xor_comm}
-use lib.Bits.{xor_assoc, xor_zero_r}
+use Rattle.std.proofs.lemmas.Nat.{xor_comm}
+use lib.Bits.{xor_assoc}
 use Rattle.field_base.specs.Powers.{dot_of}
 use Rattle.field_base.specs.Ring.{IsRing}
-use Rattle.field_base.proofs.PowerLemmas.{one-times, times-one}
-use Rattle.field_base.proofs.RingLemmas.{xor_cancel, xor_left_comm, sum_times, times_left_comm, times-zero, zero-times}
+use Rattle.field_base.proofs.RingLemmas.{xor_cancel, xor_left_comm, sum_times, times_left_comm, zero-times}
 use Rattle.field_slices.specs.Multilinear.{folded, on_line}
 use Rattle.field_slices.proofs.CubeTables.{drop-map}
 use Rattle.field_slices.specs.Sumcheck.{Quadratic, quadratic_at, sum_of_products}
@@ -120,14 +119,3 @@ module _ (width : ℕ) (times : ℕ → ℕ → ℕ) (ring : IsRing width 1 time
           ∙ ap₂ (zip2 (on_line times x))
           (take-map repr (length zs / 2) zs ∙ ap (map repr) (sym is_front))
           (drop-map repr (length zs / 2) zs ∙ ap (map repr) (sym is_back))
-
-  -- the values at 0 and 1 have the sum of the upper two coefficients
-  pub quadratic-ends : (g : Quadratic) → 0 < width → g.linear < 2 ^ width → g.quadratic < 2 ^ width
-      → bit_xor (quadratic_at times g 0) (quadratic_at times g 1) ≡ bit_xor g.linear g.quadratic
-  quadratic-ends g wide linear quadratic =
-      ap₂ bit_xor
-      (ap (bit_xor g.constant) (ap₂ bit_xor (times-zero width 1 times ring g.linear)
-      (ap (times g.quadratic) (times-zero width 1 times ring 0) ∙ times-zero width 1 times ring g.quadratic)) ∙ xor_zero_r g.constant)
-      (ap (bit_xor g.constant) (ap₂ bit_xor (times-one width 1 times ring g.linear linear)
-      (ap (times g.quadratic) (one-times width 1 times ring 1 (pow_below 0 width wide)) ∙ times-one width 1 times ring g.quadratic quadratic)))
-      ∙ xor_cancel g.constant (bit_xor g.linear g.quadratic)

@@ -22,17 +22,6 @@ IsMatrixProduct times rows inner columns A B C =
 abbrev pub identity_entry : ℕ → ℕ → ℕ
 identity_entry i j = if i == j then 1 else 0
 
--- entry (i, j) of a power of the square matrix A of n rows: power 0 is the identity matrix, and a further one is the one before times A
--- (Hoffman and Kunze, section 1.5)
-unfoldable pub power_entry : (ℕ → ℕ → ℕ) → ℕ → (ℕ → ℕ → ℕ) → ℕ → ℕ → ℕ → ℕ
-power_entry times n A zero i j = identity_entry i j
-power_entry times n A (suc m) i j = product_entry times n (power_entry times n A m) A i j
-
--- entry (i, j) of the companion matrix of x^n + c (n - 1) x^(n - 1) + .. + c 1 x + c 0: 1 right below the diagonal, c i in the last column,
--- and else 0 (Hoffman and Kunze, section 7.1, where the signs are those of -1, which is 1)
-abbrev pub companion_entry : ℕ → (ℕ → ℕ) → ℕ → ℕ → ℕ
-companion_entry n c i j = if suc j == n then c i else identity_entry i (suc j)
-
 -- the square matrices A and B of n rows are inverses: both products are the identity matrix (Hoffman and Kunze, section 1.6)
 abbrev pub AreInverseMatrices : (ℕ → ℕ → ℕ) → ℕ → (ℕ → ℕ → ℕ) → (ℕ → ℕ → ℕ) → Type 0
 AreInverseMatrices times n A B = IsMatrixProduct times n n n A B identity_entry × IsMatrixProduct times n n n B A identity_entry

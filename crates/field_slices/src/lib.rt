@@ -5,7 +5,6 @@
 #![tactic(auto)]
 
 mod columns;
-mod companions;
 mod cube;
 mod decompositions;
 mod determinants;
@@ -16,11 +15,9 @@ mod inversion;
 mod laws;
 pub mod matrices;
 mod matrix_laws;
-mod matrix_powers;
 mod nodes;
 mod null_spaces;
 mod packings;
-mod points;
 mod powers;
 mod products;
 mod reduction;
@@ -48,4 +45,4 @@ pub use crate::packings::sums::sum_of_lanes;
 pub use crate::powers::{powers_vec, shifted_powers_vec};
 pub use crate::rounds::{RoundPolynomial, honest_is_accepted};
 pub use crate::scalars::{Elements, Scalars};
-pub use crate::sums::{add_scaled_slice, add_slice, mixed_dot_product, mul_slice};
+pub use crate::sums::{add_scaled_slice, add_slice, mul_slice};

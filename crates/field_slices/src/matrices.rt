@@ -2,7 +2,6 @@
 // place i * columns + j. `Scalars` is what a place holds and how it is computed with: for the elements of a field `F` it
 // is `Elements<F>`, as in `row_reduce(Elements::<F>::new(), ..)`, and for a field whose modulus is chosen at run time that field.
 pub use crate::columns::{ColumnCopy, copy_columns};
-pub use crate::companions::companion_into;
 pub use crate::decompositions::plu_decompose;
 pub use crate::determinants::determinant;
 pub use crate::identities::identity_into;
@@ -11,9 +10,7 @@ pub use crate::matrix_laws::{
     determinant_tells_inverses, determinants_multiply, null_space_is_kept,
     reduced_echelon_is_unique,
 };
-pub use crate::matrix_powers::power_into;
 pub use crate::null_spaces::{leads_at, null_space_into};
-pub use crate::points::{cauchy_into, vandermonde_into};
 pub use crate::products::{multiply_into, transpose_into};
 pub use crate::reduction::{row_reduce, row_reduce_augmented};
 pub use crate::scalars::{Elements, Scalars};

@@ -1,5 +1,5 @@
 // A round's message, and what a verifier does with it.
-ghost use Rattle.std.specs.Prelude.{◌≡◌, ◌%◌, ◌↔◌, length, map, bit_xor, IsTrue};
+ghost use Rattle.std.specs.Prelude.{◌≡◌, ◌%◌, length, map};
 ghost use Rattle.field_slices.specs.Sumcheck.{HonestIsAccepted, IsRound, quadratic_at};
 
 use field_base::traits::Field;
@@ -43,14 +43,6 @@ impl<F: Field> RoundPolynomial<F> {
         ensures { F.repr result ≡ quadratic_at F.product (quadratic_of F.repr self.now) (F.repr x) }
     {
         self.constant + (self.linear * x + self.quadratic * x.square())
-    }
-
-    /// Whether the values at 0 and 1 have this sum.
-    pub fn sums_to(&self, claim: F) -> bool
-        ensures { IsTrue result ↔ (bit_xor (quadratic_at F.product (quadratic_of F.repr self.now) 0)
-            (quadratic_at F.product (quadratic_of F.repr self.now) 1) ≡ F.repr claim) }
-    {
-        self.linear + self.quadratic == claim
     }
 }
 

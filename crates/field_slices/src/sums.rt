@@ -1,9 +1,8 @@
-// Sums and products of slices, place by place, and dot products with elements of a smaller ring.
+// Sums and products of slices, place by place.
 ghost use Rattle.std.specs.Prelude.{◌≡◌, length, map, bit_xor};
 ghost use Rattle.std.specs.Simd.Lanes.{zip2};
-ghost use Rattle.field_base.specs.Powers.{dot_of};
 
-use field_base::traits::{Algebra, PrimeCharacteristicRing};
+use field_base::traits::PrimeCharacteristicRing;
 
 /// Adds to each value the other value at its place: `values += others`.
 pub fn add_slice<R: PrimeCharacteristicRing>(values: &mut [R], others: &[R])
@@ -29,17 +28,4 @@ pub fn add_scaled_slice<R: PrimeCharacteristicRing>(values: &mut [R], scalar: R,
         ≡ zip2 (λ x y. bit_xor x (R.product (R.repr scalar) y)) (map R.repr values.old) (map R.repr others.now) }
 {
     R::add_scaled(values, scalar, others);
-}
-
-/// The sum of the products of the elements of both slices, place by place, where the right ones are of a ring that the algebra
-/// embeds; of empty slices it is 0.
-pub fn mixed_dot_product<F: PrimeCharacteristicRing, A: Algebra<F>>(left: &[A], right: &[F]) -> A
-    requires { length left.now ≡ length right.now }
-    ensures { A.repr result ≡ dot_of A.product (λ x. x) (map A.repr left.now) (map (λ y. A.image (F.repr y)) right.now) }
-{
-    let mut sum = A::ZERO;
-    for place in 0..left.len() {
-        sum = sum + left[place] * right[place];
-    }
-    sum
 }

@@ -8,7 +8,7 @@ use Rattle.std.proofs.lemmas.Nat.Bits.{bit_at_above, bit_at-lt, same_from_bits_b
 use native.Mathlib.Nat.{mod-eq_of_lt, zero-mul, one-mul, mul-zero, mul-one}
 use lib.Bits.{xor_assoc, xor_comm, xor_self, xor_zero_r}
 use Rattle.field_base.specs.Basis.{sum_below}
-use Rattle.field_base.specs.BitRingLemmas.{two_cases}
+use Rattle.field_base.specs.lemmas.BitRing.{two_cases}
 use Rattle.field_base.specs.LinearMaps.{linear_image}
 use Rattle.field_base.specs.Orders.{AreCantorVectors}
 use Rattle.field_base.specs.Ring.{IsRing}

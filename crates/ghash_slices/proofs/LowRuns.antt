@@ -129,18 +129,6 @@ module _ (shifts basis : List ℕ) where
         ≡ sum_of_factors ghash_product (λ j. factor shifts basis j (16 * (first_run + r) + i)) 4 (values_from old (16 * r))
     pub rest : (p : ℕ) → 16 * run ≤ p → slice_index now p ≡ slice_index old p
 
-  -- before the first run nothing is done
-  pub forward_starts : (first_run : ℕ) (twiddles old : List ℕ) → AreRunTwiddles shifts basis first_run twiddles
-      → Forwarded first_run 0 first_run twiddles old old
-  forward_starts first_run twiddles old are =
-      record {
-        same_length = refl;
-        number_is = omega arith;
-        twiddles_are = are;
-        done = λ r i below within. absurd (omega arith);
-        rest = λ p behind. refl;
-      }
-
   -- the twiddles are those of run `run`
   pub record ReadyFor (first_run run number : ℕ) (twiddles : List ℕ) : Type 0 where
     pub number_is : number ≡ first_run + run

@@ -1,4 +1,9 @@
+pub mod Lanes
+pub mod Layout
+pub mod Tails
+pub mod Called
 pub mod Fields
 pub mod Maps
 pub mod Places
 pub mod Words
+pub mod lemmas

@@ -1,7 +1,6 @@
-pub mod BitImageLemmas
-pub mod LaneListLemmas
-pub mod LaneRingLemmas
+pub mod Parts
+pub mod Narrow
+pub mod Operators
 pub mod Lanes
-pub mod OneLaneLemmas
 pub mod Packed
-pub mod PackedLemmas
+pub mod lemmas

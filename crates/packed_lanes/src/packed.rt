@@ -5,7 +5,7 @@ ghost use Rattle.std.proofs.lemmas.List.{length-replicate};
 ghost use Rattle.field_base.specs.Bit.{bit_number};
 ghost use Rattle.field_base.specs.Chunks.{joined};
 ghost use Rattle.packed_lanes.specs.Lanes.{lane_by_lane, lane_product};
-ghost use Rattle.packed_lanes.specs.LaneListLemmas.{every_below, lanes_below};
+ghost use Rattle.packed_lanes.specs.lemmas.LaneList.{every_below, lanes_below};
 
 mod draws;
 mod each;
@@ -159,8 +159,8 @@ fn product<F: Represented>(x: F, y: F) -> F
 }
 
 impl<F: Laned, const N: usize> Represented for Packed<F, N> {
-    ghost use Rattle.packed_lanes.specs.LaneRingLemmas.{lanes_ring};
-    ghost use Rattle.packed_lanes.specs.PackedLemmas.{packed_product, packed_same, packed_sum};
+    ghost use Rattle.packed_lanes.specs.lemmas.LaneRing.{lanes_ring};
+    ghost use Rattle.packed_lanes.specs.lemmas.Packed.{packed_product, packed_same, packed_sum};
 
     ghost width = { N * F.width };
 

@@ -5,7 +5,7 @@ ghost use Rattle.field_base.specs.Chunks.{joined};
 ghost use Rattle.std.specs.Array.{FillsFrom, index_steps};
 ghost use Rattle.std.specs.Iterator.{CallableAtEachTurn};
 ghost use Rattle.packed_lanes.specs.Lanes.{AreInterleaved, IsPowerOfTwo, lane_product};
-ghost use Rattle.packed_lanes.specs.OneLaneLemmas.{one_lane_joined, one_lane_product, one_lane_width, same_only_lane};
+ghost use Rattle.packed_lanes.specs.lemmas.OneLane.{one_lane_joined, one_lane_product, one_lane_width, same_only_lane};
 
 use field_base::traits::{Algebra, Field};
 use std::array;
@@ -114,13 +114,13 @@ impl<F: Field<Packing = F>> PackedValue for F {
     }
 
     #[inline]
-    #[tactic(auto, using(crate::specs::OneLaneLemmas::write_only_lane))]
+    #[tactic(auto, using(crate::specs::lemmas::OneLane::write_only_lane))]
     fn copy_to_slice(&self, slice: &mut [F]) {
         slice[0] = *self;
     }
 
     #[inline]
-    #[tactic(auto, using(crate::specs::OneLaneLemmas::put_only_lane))]
+    #[tactic(auto, using(crate::specs::lemmas::OneLane::put_only_lane))]
     fn set_lane(&mut self, _lane: usize, value: F) {
         *self = value;
     }

@@ -5,7 +5,7 @@ use Rattle.std.proofs.Math.Nat.{mul-le-mul_right, pow-le-pow_right}
 use Rattle.std.proofs.lemmas.List.FromFn.{get_or-map-range_with_len, length-map-range_with_len}
 use Rattle.std.proofs.lemmas.Nat.{pow-add, pow_pos}
 use native.Mathlib.Nat.{mod-lt}
-use Rattle.merkle_trees.specs.Openings.{AreAscending}
+use Rattle.transcripts.specs.Openings.{AreAscending}
 use Rattle.protocols.specs.CommitmentScheme.{block_places, matrix_rows, place_bits, place_count, row_levels, word_levels}
 
 module _ (bits blocks depth : ℕ) (whole : blocks * 2 ^ bits ≡ 2 ^ depth) (numbers : List ℕ) (count : length numbers ≡ blocks) where

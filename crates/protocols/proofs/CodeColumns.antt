@@ -18,7 +18,7 @@ use Rattle.ghash_slices.proofs.CantorValues.{sum_below-image}
 use Rattle.ghash_slices.proofs.StageSums.{sum_below-xor}
 use Rattle.additive_transforms.proofs.CantorSums.{value-none, value-same}
 use Rattle.protocols.specs.CodeWords.{IsCodeWordOf}
-use Rattle.merkle_trees.specs.Commitments.{row_at}
+use Rattle.transcripts.specs.Commitments.{row_at}
 use Rattle.protocols.specs.Interleaved.{AreCodeWords, ColumnsDetermine, combination, CombinationsAreCodeWords, symbols_at}
 use Rattle.protocols.proofs.Words.{parts_determine}
 

@@ -12,7 +12,7 @@ use Rattle.field_base.specs.Orders.{AreCantorVectors}
 use Rattle.field_base.specs.Ring.{IsRing}
 use Rattle.field_base.proofs.Places.{numbers-lt}
 use Rattle.field_slices.specs.Multilinear.{multilinear_value}
-use Rattle.merkle_trees.specs.Commitments.{row_at}
+use Rattle.transcripts.specs.Commitments.{row_at}
 use Rattle.proximity.specs.Blocks.{cheats_in_blocks}
 use Rattle.proximity.specs.Codes.{HaveSymbols, IsWordOf}
 use Rattle.proximity.specs.Openings.{IsOpened}

@@ -10,9 +10,9 @@ use native.Mathlib.Nat.{one-mul}
 use Rattle.field_base.specs.Ring.{IsRing}
 use Rattle.field_bytes.specs.Streams.{joined_bytes}
 use Rattle.field_slices.specs.Multilinear.{multilinear_value}
-use Rattle.merkle_trees.specs.declared.merkle_tree.MerkleTree.{MerkleTree}
-use Rattle.merkle_trees.specs.Commitments.{IsTreeOver, root_of, row_at}
-use Rattle.merkle_trees.specs.Openings.{AreAscending, OpensRows}
+use Rattle.transcripts.specs.declared.merkle_tree.MerkleTree.{MerkleTree}
+use Rattle.transcripts.specs.Commitments.{IsTreeOver, root_of, row_at}
+use Rattle.transcripts.specs.Openings.{AreAscending, OpensRows}
 use Rattle.protocols.specs.Tables.{AgreesAt, AreExtendedColumns, ExtendsTable, IsHonestOpening, column_at, column_values}
 use Rattle.protocols.proofs.TableLaws.{column_values_agree}
 use Rattle.protocols.proofs.TableOpenings.{opens-same}

@@ -8,8 +8,8 @@ use Rattle.std.proofs.lemmas.List.FromFn.{get_or-map-range_with_len, length-map-
 use Rattle.std.proofs.lemmas.Slice.Zip.{AllZip-long}
 use Rattle.field_base.specs.Ring.{IsRing}
 use Rattle.field_slices.specs.Multilinear.{multilinear_value}
-use Rattle.merkle_trees.specs.Commitments.{root_of, row_at}
-use Rattle.merkle_trees.specs.declared.merkle_tree.MerkleTree.{MerkleTree}
+use Rattle.transcripts.specs.Commitments.{root_of, row_at}
+use Rattle.transcripts.specs.declared.merkle_tree.MerkleTree.{MerkleTree}
 use Rattle.protocols.specs.CommitmentScheme.{HoldsColumns, matrix_rows, row_levels}
 use Rattle.protocols.specs.JointTables.{EachBelow}
 use Rattle.protocols.specs.Tables.{IsHonestOpening, OpensColumns}

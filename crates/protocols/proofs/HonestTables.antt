@@ -13,8 +13,8 @@ use Rattle.field_base.specs.Ring.{IsRing}
 use Rattle.field_base.proofs.Places.{numbers-lt}
 use Rattle.field_bytes.specs.Streams.{joined_bytes}
 use Rattle.field_slices.specs.Multilinear.{eq_corner, multilinear_value}
-use Rattle.merkle_trees.specs.Commitments.{row_at}
-use Rattle.merkle_trees.specs.Openings.{OpensRows}
+use Rattle.transcripts.specs.Commitments.{row_at}
+use Rattle.transcripts.specs.Openings.{OpensRows}
 use Rattle.protocols.specs.CodeWords.{IsCodeWordOf}
 use Rattle.protocols.specs.CommitmentScheme.{matrix_rows, row_levels}
 use Rattle.protocols.specs.Interleaved.{combination}

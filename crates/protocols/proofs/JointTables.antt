@@ -12,7 +12,7 @@ use Rattle.field_base.specs.Field.{IsField}
 use Rattle.field_base.proofs.RingLemmas.{xor_nothing}
 use Rattle.field_slices.specs.Multilinear.{eq_corner, multilinear_value}
 use Rattle.field_slices.proofs.CornerSums.{weighted-lt}
-use Rattle.merkle_trees.specs.Commitments.{row_at}
+use Rattle.transcripts.specs.Commitments.{row_at}
 use Rattle.sum_checks.specs.ZeroCheck.{IsRootAt, ZeroNeedsRoot}
 use Rattle.protocols.specs.CodeWords.{IsCodeWordOf}
 use Rattle.protocols.specs.JointTables.{HoldTables, OpenedTablesNeedLuck, ShowsTables, stacked, table_at, value_differences}

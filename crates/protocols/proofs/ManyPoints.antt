@@ -15,8 +15,8 @@ use Rattle.field_slices.specs.Multilinear.{eq_corner, multilinear_value}
 use Rattle.field_slices.proofs.CornerSums.{weighted-lt}
 use Rattle.transcripts.specs.Lists.{InTurn}
 use Rattle.transcripts.specs.States.{GivesByState, LeadsByState}
-use Rattle.merkle_trees.specs.Commitments.{root_of, row_at}
-use Rattle.merkle_trees.specs.declared.merkle_tree.MerkleTree.{MerkleTree}
+use Rattle.transcripts.specs.Commitments.{root_of, row_at}
+use Rattle.transcripts.specs.declared.merkle_tree.MerkleTree.{MerkleTree}
 use Rattle.sum_checks.specs.Sumcheck.{IsRunOf, messages_of}
 use Rattle.sum_checks.specs.SumcheckClaims.{AreHonestMessages, AreMessages, FalseClaimsNeedLuck, HonestReduces, reduced_claim}
 use Rattle.sum_checks.specs.Terms.{cube_sum}

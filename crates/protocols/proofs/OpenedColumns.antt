@@ -7,8 +7,8 @@ use Rattle.field_base.proofs.Places.{numbers-lt}
 use Rattle.field_bytes.specs.Bytes.{low_bytes}
 use Rattle.field_bytes.specs.Streams.{joined_bytes}
 use Rattle.field_slices.specs.Multilinear.{multilinear_value}
-use Rattle.merkle_trees.specs.Commitments.{row_at}
-use Rattle.merkle_trees.specs.MerkleTrees.{HaveDigestSize}
+use Rattle.transcripts.specs.Commitments.{row_at}
+use Rattle.transcripts.specs.MerkleTrees.{HaveDigestSize}
 use Rattle.protocols.specs.RootColumns.{AreAccepted, SentColumns, column_bytes}
 use Rattle.protocols.specs.Tables.{AgreesAt, OpensColumns}
 use Rattle.protocols.proofs.ProofBytes.{proof-cons}

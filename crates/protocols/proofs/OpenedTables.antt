@@ -27,7 +27,7 @@ use Rattle.proximity.specs.Marks.{marked_below}
 use Rattle.proximity.specs.Openings.{IsOpened, misses}
 use Rattle.proximity.proofs.Openings.{near_is_unique, openings_need_luck}
 use Rattle.proximity.proofs.Words.{word-fits}
-use Rattle.merkle_trees.specs.Commitments.{row_at}
+use Rattle.transcripts.specs.Commitments.{row_at}
 use Rattle.protocols.specs.CodeWords.{IsCodeWordOf}
 use Rattle.protocols.specs.OpenedTables.{AreColumnsOf, CommitsTo, HasLuckyCoordinate, OpenedRowsNeedLuck, OpenedValuesNeedLuck, ShowsTable, TableIsOne, column_symbol}
 use Rattle.protocols.specs.Tables.{AgreesAt, column_at, column_values}

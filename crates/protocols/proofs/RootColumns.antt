@@ -7,7 +7,7 @@ use Rattle.std.proofs.lemmas.Nat.{pow_pos}
 use Rattle.field_bytes.specs.Bytes.{number_of_bytes}
 use Rattle.field_bytes.specs.Streams.{joined_bytes}
 use Rattle.field_bytes.proofs.Taking.{given_back}
-use Rattle.merkle_trees.specs.Openings.{OpeningsBind}
+use Rattle.transcripts.specs.Openings.{OpeningsBind}
 use Rattle.protocols.specs.RootColumns.{AreAccepted, HasSent, HaveOtherColumns, RootsHoldColumns, SentColumns, column_bytes}
 use Rattle.protocols.proofs.ProofBytes.{proof-first, proof-rest}
 

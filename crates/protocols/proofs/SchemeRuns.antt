@@ -5,7 +5,7 @@ use Rattle.std.proofs.lemmas.Result.{err_from_is_err_and}
 use Rattle.transcripts.specs.Grinding.{FailsSearch}
 use Rattle.transcripts.specs.Lists.{InTurn}
 use Rattle.transcripts.specs.declared.error.GrindError.{GrindError}
-use Rattle.merkle_trees.specs.Queries.{AreQueries}
+use Rattle.transcripts.specs.Queries.{AreQueries}
 use Rattle.sum_checks.specs.Refusals.{error_of_search}
 use Rattle.sum_checks.specs.declared.error.ProtocolError.{ProtocolError}
 use Rattle.sum_checks.specs.declared.error.ProtocolError.TheVariants.{Memory}

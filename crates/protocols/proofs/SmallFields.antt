@@ -155,9 +155,6 @@ module _ (width : ℕ) (times : ℕ → ℕ → ℕ) (w k : ℕ) (ring : IsRing 
   abbrev pub image : (ℕ → ℕ) → ℕ → ℕ
   image c y = sum_below (λ m. times (c m) (chunk w m y)) (2 ^ k)
 
-  pub image-lt : (c : ℕ → ℕ) (y : ℕ) → image c y < 2 ^ width
-  image-lt c y = weighted-lt width times ring c (λ m. chunk w m y) (2 ^ k)
-
   pub image-xor : (c : ℕ → ℕ) (a b : ℕ) → image c (bit_xor a b) ≡ bit_xor (image c a) (image c b)
   image-xor c a b =
       sum_below-same (λ m. times (c m) (chunk w m (bit_xor a b))) (λ m. bit_xor (times (c m) (chunk w m a)) (times (c m) (chunk w m b))) (2 ^ k)

@@ -20,7 +20,7 @@ use Rattle.sum_checks.specs.SumcheckClaims.{AreHonestMessages, AreMessages, Fals
 use Rattle.sum_checks.specs.Terms.{cube_sum}
 use Rattle.sum_checks.specs.ZeroCheck.{IsRootAt}
 use Rattle.sum_checks.proofs.Runs.{messages-length, observed-same}
-use Rattle.merkle_trees.specs.declared.merkle_tree.MerkleTree.{MerkleTree}
+use Rattle.transcripts.specs.declared.merkle_tree.MerkleTree.{MerkleTree}
 use Rattle.protocols.specs.CommitmentScheme.{AcceptedValue, IsHonestValue, ShowsValue, ValuesAreBound, VerifiesValue, matrix_rows, row_levels}
 use Rattle.protocols.specs.CommitmentScheme.{value_columns, word_levels}
 use Rattle.protocols.specs.OpenedTables.{AreColumnsOf}

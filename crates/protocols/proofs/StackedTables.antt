@@ -16,7 +16,7 @@ use Rattle.field_base.proofs.RingLemmas.{sum_times, zero-times}
 use Rattle.field_slices.specs.Multilinear.{eq_corner, multilinear_value, on_line}
 use Rattle.field_slices.proofs.CornerSums.{corners-line, weighted-line, weighted-lt}
 use Rattle.ghash_slices.proofs.StageSums.{sum_below-xor}
-use Rattle.merkle_trees.specs.Commitments.{row_at}
+use Rattle.transcripts.specs.Commitments.{row_at}
 use Rattle.protocols.specs.JointTables.{stacked}
 
 -- ---- values by the first coordinates and the others

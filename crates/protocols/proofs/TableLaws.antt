@@ -15,7 +15,7 @@ use Rattle.field_slices.proofs.CubeLaws.{folding-evaluates}
 use Rattle.protocols.proofs.CodeColumns.{combinations_are_code_words}
 use Rattle.sum_checks.proofs.Rows.{even-length, folded-fit, folded-values, rows-twice}
 use Rattle.protocols.proofs.Words.{parts_determine}
-use Rattle.merkle_trees.specs.Commitments.{row_at}
+use Rattle.transcripts.specs.Commitments.{row_at}
 use Rattle.protocols.specs.Interleaved.{combination}
 use Rattle.protocols.specs.Tables.{AgreesAt, column_at, column_values, ColumnValuesAgree, ColumnValuesEvaluate, ExtendsTable, FewPlacesAgree}
 use Rattle.sum_checks.specs.Terms.{table_value}

@@ -14,10 +14,10 @@ use Rattle.field_bytes.specs.Streams.{joined_bytes}
 use Rattle.field_bytes.proofs.Taking.{length-chunks}
 use Rattle.field_slices.specs.Multilinear.{multilinear_value}
 use Rattle.protocols.specs.CodeWords.{IsCodeWordOf}
-use Rattle.merkle_trees.specs.Commitments.{row_at}
+use Rattle.transcripts.specs.Commitments.{row_at}
 use Rattle.protocols.specs.Interleaved.{AreCodeWords}
-use Rattle.merkle_trees.specs.MerkleTrees.{row_input}
-use Rattle.merkle_trees.specs.Openings.{leaves_at, Opens, OpensRows}
+use Rattle.transcripts.specs.MerkleTrees.{row_input}
+use Rattle.transcripts.specs.Openings.{leaves_at, Opens, OpensRows}
 use Rattle.protocols.specs.Tables.{AgreesAt, AreExtendedColumns, column_at}
 use Rattle.protocols.proofs.TableRows.{row-bytes, row-map}
 use Rattle.protocols.proofs.Words.{parts_determine}

@@ -7,7 +7,7 @@ use Rattle.field_base.specs.Orders.{AreCantorVectors}
 use Rattle.field_base.proofs.Places.{numbers-lt}
 use Rattle.field_bytes.specs.Streams.{joined_bytes}
 use Rattle.field_slices.specs.Multilinear.{multilinear_value}
-use Rattle.merkle_trees.specs.Commitments.{row_at}
+use Rattle.transcripts.specs.Commitments.{row_at}
 use Rattle.protocols.specs.CommitmentScheme.{matrix_rows, row_levels, value_columns, word_levels}
 use Rattle.protocols.specs.JointTables.{AcceptedTables, OpenedTablesNeedLuck, OpensTables, ShowsTables, TablesAreBound, sent_column, stacked}
 use Rattle.protocols.specs.OpenedTables.{AreColumnsOf}

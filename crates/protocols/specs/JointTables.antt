@@ -9,10 +9,10 @@ use Rattle.field_base.specs.Field.{IsField}
 use Rattle.field_base.specs.Orders.{AreCantorVectors}
 use Rattle.field_bytes.specs.Streams.{joined_bytes}
 use Rattle.field_slices.specs.Multilinear.{multilinear_value}
-use Rattle.merkle_trees.specs.Commitments.{root_of, row_at}
-use Rattle.merkle_trees.specs.MerkleTrees.{HaveDigestSize}
-use Rattle.merkle_trees.specs.Openings.{OpensRows}
-use Rattle.merkle_trees.specs.declared.merkle_tree.MerkleTree.{MerkleTree}
+use Rattle.transcripts.specs.Commitments.{root_of, row_at}
+use Rattle.transcripts.specs.MerkleTrees.{HaveDigestSize}
+use Rattle.transcripts.specs.Openings.{OpensRows}
+use Rattle.transcripts.specs.declared.merkle_tree.MerkleTree.{MerkleTree}
 use Rattle.proximity.specs.Blocks.{cheats_in_blocks}
 use Rattle.proximity.specs.Codes.{HaveSymbols, IsWordOf}
 use Rattle.proximity.specs.Openings.{IsOpened}

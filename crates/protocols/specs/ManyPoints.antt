@@ -10,9 +10,9 @@ use Rattle.field_base.specs.Field.{IsField}
 use Rattle.field_base.specs.Orders.{AreCantorVectors}
 use Rattle.field_slices.specs.Multilinear.{eq_corner, multilinear_value}
 use Rattle.transcripts.specs.Lists.{InTurn}
-use Rattle.merkle_trees.specs.Commitments.{root_of, row_at}
-use Rattle.merkle_trees.specs.MerkleTrees.{HaveDigestSize}
-use Rattle.merkle_trees.specs.declared.merkle_tree.MerkleTree.{MerkleTree}
+use Rattle.transcripts.specs.Commitments.{root_of, row_at}
+use Rattle.transcripts.specs.MerkleTrees.{HaveDigestSize}
+use Rattle.transcripts.specs.declared.merkle_tree.MerkleTree.{MerkleTree}
 use Rattle.sum_checks.specs.Sumcheck.{messages_of}
 use Rattle.sum_checks.specs.SumcheckClaims.{IsSaved}
 use Rattle.sum_checks.specs.ZeroCheck.{IsRootAt, eq_point}

@@ -2,8 +2,8 @@
 -- place have a collision of the hash function. So the columns of all openings that are accepted are chosen where the root is.
 use Rattle.std.specs.Prelude.{◌≡◌, ◌⊎◌, ℕ, ◌*◌, ◌^◌, ◌<◌, ◌≤◌, List, length, slice_index}
 use Rattle.field_bytes.specs.Streams.{joined_bytes}
-use Rattle.merkle_trees.specs.MerkleTrees.{HaveCollision, HaveDigestSize, RowLeads, row_input}
-use Rattle.merkle_trees.specs.Openings.{OpensRows}
+use Rattle.transcripts.specs.MerkleTrees.{HaveCollision, HaveDigestSize, RowLeads, row_input}
+use Rattle.transcripts.specs.Openings.{OpensRows}
 
 -- columns that are sent with nodes: number k of them for place k of a list, as numbers
 pub record SentColumns : Type 0 where

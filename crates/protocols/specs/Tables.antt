@@ -12,10 +12,10 @@ use Rattle.field_bytes.specs.Streams.{joined_bytes}
 use Rattle.field_base.specs.PolynomialRoots.{AreDistinctBelow}
 use Rattle.field_slices.specs.Multilinear.{AreCornerValues, multilinear_value}
 use Rattle.protocols.specs.CodeWords.{IsCodeWordOf}
-use Rattle.merkle_trees.specs.declared.merkle_tree.MerkleTree.{MerkleTree}
-use Rattle.merkle_trees.specs.Commitments.{IsTreeOver, root_of, row_at}
+use Rattle.transcripts.specs.declared.merkle_tree.MerkleTree.{MerkleTree}
+use Rattle.transcripts.specs.Commitments.{IsTreeOver, root_of, row_at}
 use Rattle.protocols.specs.Interleaved.{AreCodeWords}
-use Rattle.merkle_trees.specs.Openings.{OpensRows}
+use Rattle.transcripts.specs.Openings.{OpensRows}
 
 -- column p of a matrix of so many rows of `size` values, one row after the other
 abbrev pub column_at : ℕ → ℕ → List ℕ → ℕ → List ℕ

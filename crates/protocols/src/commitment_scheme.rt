@@ -4,7 +4,7 @@ ghost use Rattle.std.specs.Prelude.{◌≡◌, ◌↔◌, ◌⊎◌, ◌+◌, �
 ghost use Rattle.std.specs.Prelude.{IfErr, IfNone, IfOk, IfSome, IsTrue};
 ghost use Rattle.std.specs.List.{range_with_len};
 ghost use Rattle.field_slices.specs.Multilinear.{multilinear_value};
-ghost use Rattle.merkle_trees.specs.{Commitments.{row_at}, Openings.{AreAscending}};
+ghost use Rattle.transcripts.specs.{Commitments.{row_at}, Openings.{AreAscending}};
 ghost use Rattle.transcripts.specs.Grinding.{MayGrind};
 ghost use Rattle.sum_checks.specs.declared.error.ProtocolError.TheVariants.{Memory};
 ghost use Rattle.protocols.specs.CommitmentScheme.{ArePlacesDrawn, HasBits, HasMostBits, HoldsColumns, IsHonestValue, OpensValue};
@@ -18,10 +18,10 @@ use crate::tables::{
 use field_base::traits::Field;
 use field_bytes::ShortElement;
 use field_slices::evaluate_multilinear;
-use merkle_trees::merkle_paths::{Commitment, power_of_two};
-use merkle_trees::queries::{check_queries, draw_queries};
 use std::alloc::{AllocError, Allocator};
 use sum_checks::ProtocolError;
+use transcripts::merkle_paths::{Commitment, power_of_two};
+use transcripts::queries::{check_queries, draw_queries};
 use transcripts::{
     ByteHasher32, CanObserve, CanSample, CanSampleUniformBits, GrindingChallenger, both,
 };

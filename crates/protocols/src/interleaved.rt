@@ -1,12 +1,12 @@
 // Interleaved Reed-Solomon codes: a matrix whose rows are code words, of which a column has one symbol of each row.
 ghost use Rattle.std.specs.Prelude.{◌≡◌, ◌+◌, ◌*◌, ◌≤◌, ◌<◌, ◌^◌, ℕ, length, map, take, IfOk};
-ghost use Rattle.merkle_trees.specs.Commitments.{row_at};
+ghost use Rattle.transcripts.specs.Commitments.{row_at};
 ghost use Rattle.protocols.specs.Interleaved.{AreCodeWords, ColumnsDetermine, CombinationsAreCodeWords};
 
 use crate::extension::extend;
 use field_base::traits::TowerLevel;
-use merkle_trees::merkle_paths::{power_of_two, row_of};
 use std::alloc::{AllocError, Allocator};
+use transcripts::merkle_paths::{power_of_two, row_of};
 
 /// The code words of `height` messages of 2^levels elements each, one after the other, at the rate 1/2^expansion: a matrix by rows of
 /// 2^(expansion + levels) elements, each as `extend` has it. It fails if memory was refused.

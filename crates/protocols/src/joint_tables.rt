@@ -4,8 +4,8 @@ ghost use Rattle.std.specs.Prelude.{◌≡◌, ◌↔◌, ◌+◌, ◌*◌, ◌^
 ghost use Rattle.std.specs.Prelude.{All, IfErr, IfOk, IsTrue, OnOk, slice_index};
 ghost use Rattle.std.specs.List.{range_with_len};
 ghost use Rattle.field_slices.specs.Multilinear.{multilinear_value};
-ghost use Rattle.merkle_trees.specs.Commitments.{row_at};
-ghost use Rattle.merkle_trees.specs.Openings.{AreAscending};
+ghost use Rattle.transcripts.specs.Commitments.{row_at};
+ghost use Rattle.transcripts.specs.Openings.{AreAscending};
 ghost use Rattle.transcripts.specs.Grinding.{MayGrind};
 ghost use Rattle.sum_checks.specs.declared.error.ProtocolError.TheVariants.{Memory};
 ghost use Rattle.protocols.specs.CommitmentScheme.{StopsOpening, matrix_rows, row_levels, word_levels};
@@ -20,11 +20,11 @@ use crate::tables::{TableColumns, agree_at, column_values, open_columns};
 use field_base::traits::Field;
 use field_bytes::ShortElement;
 use field_slices::evaluate_multilinear;
-use merkle_trees::merkle_paths::{Commitment, power_of_two};
-use merkle_trees::openings::verify_many;
 use std::alloc::{AllocError, Allocator};
 use sum_checks::ProtocolError;
 use sum_checks::sumcheck::has_length;
+use transcripts::merkle_paths::{Commitment, power_of_two};
+use transcripts::openings::verify_many;
 use transcripts::{
     ByteHasher32, CanObserve, CanSample, CanSampleUniformBits, GrindingChallenger, both,
 };

@@ -14,11 +14,11 @@ pub use crate::small_tables::{
     false_parts_need_root, mixed_sums_are_parts, small_values_are_weighted,
 };
 use field_bytes::ShortElement;
-use merkle_trees::openings::openings_bind;
 pub use sum_checks::laws::{
     false_claims_need_luck, false_zeros_need_luck, few_challenges_save, honest_reduces,
     lines_have_one_root, zero_check_evaluates, zero_needs_root, zeros_reduce,
 };
+use transcripts::openings::openings_bind;
 use transcripts::{CanObserve, CanSample, CanSampleUniformBits, GrindingChallenger};
 
 /// States that two code words of n symbols, of messages of 2^k, that differ at no more than n - 2^k places are the same.

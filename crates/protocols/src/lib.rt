@@ -13,5 +13,5 @@ pub mod proof_bytes;
 pub mod small_tables;
 pub mod tables;
 
-pub use merkle_trees::{caps, commitment, merkle_paths, merkle_tree, openings, queries};
 pub use sum_checks::{ProtocolError, statement, sumcheck, terms, zero_check};
+pub use transcripts::{caps, commitment, merkle_paths, merkle_tree, openings, queries};

@@ -7,7 +7,7 @@ ghost use Rattle.field_base.specs.Basis.{sum_below};
 ghost use Rattle.field_slices.specs.Multilinear.{eq_corner, multilinear_value};
 ghost use Rattle.transcripts.specs.Grinding.{MayGrind};
 ghost use Rattle.transcripts.specs.Lists.{InTurn};
-ghost use Rattle.merkle_trees.specs.Commitments.{row_at};
+ghost use Rattle.transcripts.specs.Commitments.{row_at};
 ghost use Rattle.sum_checks.specs.declared.error.ProtocolError.TheVariants.{Memory};
 ghost use Rattle.protocols.specs.CommitmentScheme.{StopsOpening, matrix_rows, row_levels, word_levels};
 ghost use Rattle.protocols.specs.JointTables.{IsLeastCube, sent_tables};
@@ -22,11 +22,11 @@ use crate::tables::TableColumns;
 use field_base::traits::Field;
 use field_bytes::ShortElement;
 use field_slices::{add_scaled_slice, eq_poly, evaluate_multilinear};
-use merkle_trees::merkle_paths::{power_of_two, row_of};
 use std::alloc::{AllocError, Allocator};
 use sum_checks::ProtocolError;
 use sum_checks::sumcheck::{Reduced, has_length};
 use sum_checks::zero_check::eq_at;
+use transcripts::merkle_paths::{power_of_two, row_of};
 use transcripts::{
     ByteHasher32, CanObserve, CanSample, CanSampleUniformBits, GrindingChallenger, both,
 };

@@ -5,8 +5,8 @@ ghost use Rattle.field_bytes.specs.Bytes.{low_bytes};
 ghost use Rattle.field_bytes.specs.Streams.{joined_bytes};
 
 use field_bytes::ShortElement;
-use merkle_trees::merkle_paths::row_of;
 use std::alloc::{AllocError, Allocator};
+use transcripts::merkle_paths::row_of;
 
 /// The bytes of a proof: `NUM_BYTES` of each element, which are those of its representation, the lowest first. It fails if memory was
 /// refused.

@@ -21,14 +21,14 @@ use crate::tables::{TableColumns, column_values_evaluate};
 use field_base::Unsigned;
 use field_base::traits::{Field, PrimeCharacteristicRing};
 use field_bytes::ShortElement;
+use field_element::BasedVectorSpace;
 use field_slices::{eq_poly, evaluate_multilinear};
-use field_space::BasedVectorSpace;
-use merkle_trees::merkle_paths::power_of_two;
 use std::alloc::{AllocError, Allocator};
 use std::marker::PhantomData;
 use sum_checks::ProtocolError;
 use sum_checks::laws::zero_needs_root;
 use sum_checks::sumcheck::Reduced;
+use transcripts::merkle_paths::power_of_two;
 use transcripts::{
     ByteHasher32, CanObserve, CanSample, CanSampleUniformBits, GrindingChallenger, both,
 };

@@ -3,8 +3,8 @@ ghost use Rattle.std.specs.Prelude.{◌≡◌, ◌↔◌, ◌+◌, ◌-◌, ◌*
 ghost use Rattle.std.specs.List.{range_with_len};
 ghost use Rattle.field_bytes.specs.Streams.{joined_bytes};
 ghost use Rattle.field_slices.specs.Multilinear.{multilinear_value};
-ghost use Rattle.merkle_trees.specs.Commitments.{IsTreeOver, row_at};
-ghost use Rattle.merkle_trees.specs.Openings.{AreAscending};
+ghost use Rattle.transcripts.specs.Commitments.{IsTreeOver, row_at};
+ghost use Rattle.transcripts.specs.Openings.{AreAscending};
 ghost use Rattle.protocols.specs.Tables.{AreColumnsAt, AreExtendedColumns, ColumnValuesAgree, ColumnValuesEvaluate, FewPlacesAgree};
 ghost use Rattle.protocols.specs.Tables.{IsHonestOpening, OpensColumns, OpensPlaces, column_at};
 
@@ -15,12 +15,12 @@ use field_base::traits::Field;
 use field_bytes::ShortElement;
 use field_slices::evaluate_multilinear;
 use field_slices::matrices::{Elements, transpose_into};
-use merkle_trees::merkle_paths::{Commitment, power_of_two, row_of};
-use merkle_trees::merkle_tree::MerkleTree;
-use merkle_trees::openings::verify_many;
 use std::alloc::{AllocError, Allocator};
 use sum_checks::sumcheck::has_length;
 use transcripts::ByteHasher32;
+use transcripts::merkle_paths::{Commitment, power_of_two, row_of};
+use transcripts::merkle_tree::MerkleTree;
+use transcripts::openings::verify_many;
 
 /// A table with what commits to it: the columns of its rows' code words, one after the other, and the tree over their bytes.
 #[derive(Drop)]

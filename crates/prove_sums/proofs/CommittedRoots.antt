@@ -8,9 +8,9 @@ use Rattle.additive_transforms.specs.Images.{tower_image}
 use Rattle.additive_transforms.proofs.Counts.{one_exponent}
 use Rattle.field_bytes.specs.Bytes.{number_of_bytes}
 use Rattle.field_bytes.specs.Streams.{joined_bytes}
-use Rattle.merkle_trees.specs.Commitments.{row_at}
-use Rattle.merkle_trees.specs.MerkleTrees.{rows_root}
-use Rattle.merkle_trees.specs.declared.merkle_tree.MerkleTree.{MerkleTree}
+use Rattle.transcripts.specs.Commitments.{row_at}
+use Rattle.transcripts.specs.MerkleTrees.{rows_root}
+use Rattle.transcripts.specs.declared.merkle_tree.MerkleTree.{MerkleTree}
 use Rattle.sum_checks.proofs.Runs.{elements-same}
 use Rattle.protocols.specs.CodeWords.{PartsDetermine}
 use Rattle.protocols.specs.CommitmentScheme.{HoldsColumns, matrix_rows, row_levels, word_levels}

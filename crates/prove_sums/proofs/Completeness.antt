@@ -11,9 +11,9 @@ use Rattle.transcripts.specs.States.{GivesByState, LeadsByState}
 use Rattle.field_base.proofs.Places.{numbers-lt}
 use Rattle.field_bytes.specs.Streams.{joined_bytes}
 use Rattle.field_slices.specs.Multilinear.{multilinear_value}
-use Rattle.merkle_trees.specs.Commitments.{root_of, row_at}
-use Rattle.merkle_trees.specs.Openings.{OpeningsHaveOneCount}
-use Rattle.merkle_trees.specs.declared.merkle_tree.MerkleTree.{MerkleTree}
+use Rattle.transcripts.specs.Commitments.{root_of, row_at}
+use Rattle.transcripts.specs.Openings.{OpeningsHaveOneCount}
+use Rattle.transcripts.specs.declared.merkle_tree.MerkleTree.{MerkleTree}
 use Rattle.sum_checks.specs.Sumcheck.{IsRunOf, messages_of}
 use Rattle.sum_checks.specs.SumcheckClaims.{AreHonestMessages, HonestReduces, IsClaimShape, reduced_claim}
 use Rattle.sum_checks.specs.Terms.{cube_sum}

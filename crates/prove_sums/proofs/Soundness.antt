@@ -8,8 +8,8 @@ use Rattle.field_base.specs.Field.{IsField}
 use Rattle.field_base.proofs.Places.{numbers-lt}
 use Rattle.field_bytes.specs.Streams.{joined_bytes}
 use Rattle.field_slices.specs.Multilinear.{multilinear_value}
-use Rattle.merkle_trees.specs.Commitments.{row_at}
-use Rattle.merkle_trees.specs.MerkleTrees.{HaveDigestSize}
+use Rattle.transcripts.specs.Commitments.{row_at}
+use Rattle.transcripts.specs.MerkleTrees.{HaveDigestSize}
 use Rattle.sum_checks.specs.Sumcheck.{messages_of}
 use Rattle.sum_checks.specs.SumcheckClaims.{AreMessages, FalseClaimsNeedLuck, IsClaimShape, IsSaved, reduced_claim}
 use Rattle.sum_checks.specs.Terms.{cube_sum}

@@ -16,7 +16,7 @@ use Rattle.field_base.specs.Orders.{AreCantorVectors}
 use Rattle.field_base.proofs.RingLemmas.{xor_nothing}
 use Rattle.field_slices.specs.Multilinear.{eq_corner, multilinear_value, on_line}
 use Rattle.field_slices.proofs.CornerSums.{corners-line, weighted-lt}
-use Rattle.merkle_trees.specs.Commitments.{row_at}
+use Rattle.transcripts.specs.Commitments.{row_at}
 use Rattle.proximity.specs.Blocks.{blocks_unmarked}
 use Rattle.proximity.specs.Codes.{HasDistance, HasGap, HaveSymbols, IsNear}
 use Rattle.proximity.specs.Folds.{rows_folded}

@@ -1,9 +1,9 @@
 -- What is stated over a challenger, over its states.
 use Rattle.std.proofs.Common.{◌≡◌, ◌∙◌, ℕ, Bool, true, inl, inr, List, [], ◌∷◌, ◌++◌, ap, subst, sym}
 use Rattle.transcripts.specs.Lists.{InTurn}
-use Rattle.merkle_trees.specs.Commitments.{root_of}
-use Rattle.merkle_trees.specs.Queries.{AreQueries}
-use Rattle.merkle_trees.specs.declared.merkle_tree.MerkleTree.{MerkleTree}
+use Rattle.transcripts.specs.Commitments.{root_of}
+use Rattle.transcripts.specs.Queries.{AreQueries}
+use Rattle.transcripts.specs.declared.merkle_tree.MerkleTree.{MerkleTree}
 use Rattle.sum_checks.specs.Sumcheck.{AreTurns, IsRunOf, IsTurn, Statement, messages_of}
 use Rattle.sum_checks.specs.declared.error.ProtocolError.{ProtocolError}
 use Rattle.protocols.specs.CommitmentScheme.{ArePlacesDrawn, StopsOpening, opening_work, place_bits}

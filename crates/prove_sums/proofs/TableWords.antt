@@ -15,7 +15,7 @@ use Rattle.field_base.proofs.BasisSums.{bit_at-mod, sum_below-same}
 use Rattle.field_bytes.specs.Bytes.{low_bytes, number_of_bytes}
 use Rattle.field_bytes.specs.Streams.{joined_bytes}
 use Rattle.field_bytes.proofs.LowBytes.{fits-take, low-number, number-lt}
-use Rattle.merkle_trees.specs.Commitments.{row_at}
+use Rattle.transcripts.specs.Commitments.{row_at}
 use Rattle.additive_transforms.specs.Images.{tower_image}
 use Rattle.prove_sums.specs.Tables.{AreEmbedded}
 

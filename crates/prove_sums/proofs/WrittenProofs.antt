@@ -12,8 +12,8 @@ use Rattle.field_base.proofs.ChunkLists.{chunks-whole}
 use Rattle.field_bytes.specs.Bytes.{low_bytes}
 use Rattle.field_bytes.specs.Streams.{joined_bytes}
 use Rattle.field_element.specs.Element.{repr_of}
-use Rattle.merkle_trees.specs.Commitments.{root_of}
-use Rattle.merkle_trees.specs.Openings.{OpeningsHaveOneCount}
+use Rattle.transcripts.specs.Commitments.{root_of}
+use Rattle.transcripts.specs.Openings.{OpeningsHaveOneCount}
 use Rattle.sum_checks.specs.SumcheckClaims.{HonestReduces}
 use Rattle.protocols.specs.CodeWords.{PartsDetermine}
 use Rattle.protocols.proofs.ProofBytes.{same-bytes, same-proof}

@@ -1,8 +1,8 @@
 -- Completeness of proofs of sums of products of two tables: what an honest prover sends is accepted, and what the program writes.
 use Rattle.std.specs.Prelude.{◌≡◌, ℕ, ◌≤◌, Bool, true, List}
 use Rattle.std.specs.declared.alloc.Global.{Global}
-use Rattle.merkle_trees.specs.Commitments.{root_of}
-use Rattle.merkle_trees.specs.declared.merkle_tree.MerkleTree.{MerkleTree}
+use Rattle.transcripts.specs.Commitments.{root_of}
+use Rattle.transcripts.specs.declared.merkle_tree.MerkleTree.{MerkleTree}
 use Rattle.protocols.specs.CommitmentScheme.{HoldsColumns}
 use Rattle.prove_sums.specs.Reports.{IsProveReport, IsVerifyReport, NamesRoot}
 use Rattle.prove_sums.specs.Verdicts.{IsHonestProof, IsWordCommitment, VerifiesSum}

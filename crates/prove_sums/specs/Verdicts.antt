@@ -19,9 +19,9 @@ use Rattle.protocols.specs.CommitmentScheme.{matrix_rows, row_levels, word_level
 use Rattle.protocols.specs.JointTables.{IsHonestOpeningOf, VerifiesTables, sent_tables}
 use Rattle.protocols.specs.Tables.{AreExtendedColumns}
 use Rattle.protocols.specs.ProductSums.{IsSummed, sum_statement}
-use Rattle.merkle_trees.specs.Commitments.{IsTreeOver, root_of, row_at}
-use Rattle.merkle_trees.specs.MerkleTrees.{rows_root}
-use Rattle.merkle_trees.specs.declared.merkle_tree.MerkleTree.{MerkleTree}
+use Rattle.transcripts.specs.Commitments.{IsTreeOver, root_of, row_at}
+use Rattle.transcripts.specs.MerkleTrees.{rows_root}
+use Rattle.transcripts.specs.declared.merkle_tree.MerkleTree.{MerkleTree}
 use Rattle.field_element.specs.Element.{repr_of}
 use Rattle.prove_sums.specs.Bits.{AreFor, NoneIsFor}
 use Rattle.prove_sums.specs.ProofFiles.{IsFileOf, IsNoFile, file_bytes, number_in}

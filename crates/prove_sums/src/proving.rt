@@ -3,7 +3,7 @@ ghost use Rattle.std.specs.Prelude.{◌≡◌, ◌^◌, ◌<◌, ◌≤◌, fals
 ghost use Rattle.std.specs.List.{flat_map};
 ghost use Rattle.transcripts.specs.Grinding.{MayGrind};
 ghost use Rattle.field_bytes.specs.Streams.{joined_bytes};
-ghost use Rattle.merkle_trees.specs.Commitments.{IsTreeOver, row_at};
+ghost use Rattle.transcripts.specs.Commitments.{IsTreeOver, row_at};
 ghost use Rattle.protocols.specs.CommitmentScheme.{StopsOpening, matrix_rows};
 ghost use Rattle.prove_sums.specs.Verdicts.{HoldsTable, IsHonestProof};
 

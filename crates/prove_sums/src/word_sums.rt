@@ -5,7 +5,7 @@ ghost use Rattle.field_element.specs.Element.{repr_of};
 ghost use Rattle.transcripts.specs.HashChallengers.{hash_state};
 ghost use Rattle.transcript_elements.specs.Challengers.{challenger_failed, inner_of};
 ghost use Rattle.sum_checks.specs.declared.error.ProtocolError.TheVariants.{Memory};
-ghost use Rattle.merkle_trees.specs.{Commitments.{IsTreeOver, digest_at, row_at}, MerkleTrees.{rows_root}};
+ghost use Rattle.transcripts.specs.{Commitments.{IsTreeOver, digest_at, row_at}, MerkleTrees.{rows_root}};
 ghost use Rattle.protocols.specs.CommitmentScheme.{StopsOpening, matrix_rows};
 ghost use Rattle.prove_sums.specs.ProofFiles.{file_bytes};
 ghost use Rattle.prove_sums.specs.Verdicts.{passes_number, word_times, word_vector, HoldsTable, IsHonestSum, IsSumVerdict};

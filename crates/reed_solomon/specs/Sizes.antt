@@ -32,9 +32,3 @@ ReconstructError k m present shards error =
     (length present ≢ k + m → error ≡ InvalidShardFlags)
     × (length present ≡ k + m → (HasShardSize (k + m) (length shards) → ⊥) → ShardSizeError (length shards) error)
     × (length present ≡ k + m → HasShardSize (k + m) (length shards) → error ≡ TooFewShardsPresent)
-
--- why so many bytes of data and of parity are not those of shards of one size, where the data have k
-abbrev pub SeparateError : ℕ → ℕ → ℕ → ReedSolomonError → Type 0
-SeparateError k data_bytes parity_bytes error =
-    ((HasShardSize k data_bytes → ⊥) → ShardSizeError data_bytes error)
-    × (HasShardSize k data_bytes → ShardSizeError parity_bytes error)

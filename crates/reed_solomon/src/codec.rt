@@ -1,7 +1,7 @@
 // The code: how many shards of data and of parity there are, and what is done with them.
-ghost use Rattle.std.specs.Prelude.{◌≡◌, ◌+◌, ◌*◌, ◌/◌, ◌%◌, ◌<◌, ◌≤◌, ◌↔◌, length, IsTrue, IsOk, IfOk, IfErr, OnErr, ◌++◌};
+ghost use Rattle.std.specs.Prelude.{◌≡◌, ◌+◌, ◌*◌, ◌/◌, ◌%◌, ◌<◌, ◌≤◌, ◌↔◌, length, IsTrue, IsOk, IfOk, IfErr, OnErr};
 ghost use Rattle.reed_solomon.specs.Shards.{AreCodewords, AreReconstructed, IsEncoded};
-ghost use Rattle.reed_solomon.specs.Sizes.{CanReconstruct, HasShardSize, ReconstructError, SeparateError, ShardSizeError};
+ghost use Rattle.reed_solomon.specs.Sizes.{CanReconstruct, HasShardSize, ReconstructError, ShardSizeError};
 ghost use Rattle.reed_solomon.specs.declared.error.ReedSolomonError.TheVariants.{TooFewDataShards, TooFewParityShards, TooManyShards};
 
 use crate::error::ReedSolomonError;
@@ -78,36 +78,6 @@ impl ReedSolomon {
         let size = shard_size(total, shards.len())?;
         let (front, parity) = shards.split_at_mut(self.data_shards * size);
         write_parity(front, size, self.data_shards, parity, self.parity_shards);
-        Ok(())
-    }
-
-    /// Writes the shards of parity of data that stand apart. Each slice has its shards, of one size, one after the other. The
-    /// error is the first that applies, of the data and then of the parity.
-    pub fn encode_sep(
-        &self,
-        data_bytes: &[u8],
-        parity_bytes: &mut [u8],
-    ) -> Result<(), ReedSolomonError>
-        ensures accepted { IsOk result ↔ (HasShardSize self.now.data_shards (length data_bytes.now)
-            × HasShardSize self.now.parity_shards (length parity_bytes.old)
-            × (length data_bytes.now / self.now.data_shards ≡ length parity_bytes.old / self.now.parity_shards)) }
-        ensures encoded { IsOk result → IsEncoded self.now.data_shards (self.now.data_shards + self.now.parity_shards)
-            (length data_bytes.now / self.now.data_shards) (data_bytes.now ++ parity_bytes.old) (data_bytes.now ++ parity_bytes.new) }
-        ensures long { length parity_bytes.new ≡ length parity_bytes.old }
-        ensures refused { IfErr result (SeparateError self.now.data_shards (length data_bytes.now) (length parity_bytes.old)) }
-        ensures same { OnErr result (parity_bytes.new ≡ parity_bytes.old) }
-    {
-        let size = shard_size(self.data_shards, data_bytes.len())?;
-        if shard_size(self.parity_shards, parity_bytes.len())? != size {
-            return Err(ReedSolomonError::IncorrectShardSize);
-        }
-        write_parity(
-            data_bytes,
-            size,
-            self.data_shards,
-            parity_bytes,
-            self.parity_shards,
-        );
         Ok(())
     }
 

@@ -4,7 +4,7 @@ ghost use Rattle.std.specs.Prelude.{◌≡◌, ◌<◌, ◌^◌};
 use crate::fault::Fault;
 use crate::reading::{count, word};
 use bits_packed::PackedGf2;
-use bits_rows::{Divisible, M128, Underlier, Word};
+use packed_lanes::{Divisible, M128, Underlier, Word};
 use std::alloc::Global;
 
 /// A call of packed bits.

@@ -1,7 +1,7 @@
 // The byte field of AES: matrices of 8 by 8 bits, and linearized polynomials.
 use crate::fault::Fault;
 use crate::reading::{byte, bytes, word};
-use field_aes::{ByteMatrix, LinearizedPoly8b, RijndaelMaps};
+use field_bytes::{ByteMatrix, LinearizedPoly8b, RijndaelMaps};
 use field_element::Rijndael8b;
 use std::alloc::Global;
 

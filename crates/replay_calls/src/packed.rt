@@ -1,7 +1,7 @@
 // Packings of sixteen bytes of AES: what is done lane by lane is the same in every packing.
 use crate::fault::Fault;
 use crate::reading::{bytes, word};
-use field_aes::{ByteLanes, ByteMatrix, RijndaelMaps};
+use field_bytes::{ByteLanes, ByteMatrix, RijndaelMaps};
 use field_element::{PackedRijndael8b, Rijndael8b};
 use packed_lanes::PackedValue;
 use std::alloc::Global;

@@ -4,10 +4,10 @@ use Rattle.std.specs.Prelude.{cond, slice_index}
 use Rattle.std.proofs.lemmas.List.{append-nil}
 use native.Mathlib.Numerals.{add-one}
 use Rattle.field_base.specs.Powers.{value_of}
-use Rattle.secret_sharing.specs.Fields.{product_in}
-use Rattle.secret_sharing.specs.Refusals.{AreShares}
-use Rattle.secret_sharing.specs.Wrong.{AreNearPolynomials, is_wrong_share}
-use Rattle.secret_sharing.specs.declared.field.ShareField.{ShareField}
+use Rattle.error_codes.specs.Fields.{product_in}
+use Rattle.error_codes.specs.Refusals.{AreShares}
+use Rattle.error_codes.specs.Wrong.{AreNearPolynomials, is_wrong_share}
+use Rattle.error_codes.specs.declared.field.ShareField.{ShareField}
 use Rattle.secret.specs.Combining.{IsSecretOf, entries_at}
 use Rattle.secret.specs.Records.{number_of}
 

@@ -12,7 +12,7 @@ use Rattle.sha2.specs.Sha256.{sha256}
 use Rattle.secret.specs.Records.{IsEnd, check_sum, line_of, lines_of, record_of, row_of, SaysRecord}
 use Rattle.secret.specs.declared.lines.LineFault.{LineFault}
 use Rattle.secret.specs.declared.lines.LineFault.TheVariants.{Memory}
-use Rattle.secret_sharing.specs.declared.field.ShareField.{ShareField}
+use Rattle.error_codes.specs.declared.field.ShareField.{ShareField}
 
 pub no_lines : (field : ShareField) (needed : ℕ) (identity : List ℕ) (size : ℕ) (shares text : List ℕ) → text ≡ []
     → text ≡ lines_of field needed identity size shares 0

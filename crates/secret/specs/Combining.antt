@@ -1,10 +1,10 @@
 -- A secret from the records of shares.
 use Rattle.std.specs.Prelude.{◌≡◌, ℕ, zero, suc, ◌<◌, List, [], ◌∷◌, ◌++◌, Bool, cond, length, slice_index}
 use Rattle.field_base.specs.Powers.{value_of}
-use Rattle.secret_sharing.specs.Fields.{product_in}
-use Rattle.secret_sharing.specs.Refusals.{AreShares}
-use Rattle.secret_sharing.specs.Wrong.{AreNearPolynomials, is_wrong_share}
-use Rattle.secret_sharing.specs.declared.field.ShareField.{ShareField}
+use Rattle.error_codes.specs.Fields.{product_in}
+use Rattle.error_codes.specs.Refusals.{AreShares}
+use Rattle.error_codes.specs.Wrong.{AreNearPolynomials, is_wrong_share}
+use Rattle.error_codes.specs.declared.field.ShareField.{ShareField}
 use Rattle.secret.specs.Records.{number_of}
 
 -- the first n entries of a list whose places are marked

@@ -2,8 +2,8 @@
 use Rattle.std.specs.Prelude.{◌≡◌, ℕ, zero, suc, ◌+◌, ◌*◌, ◌<◌, List, [], ◌∷◌, ◌++◌, Ok, codes, drop, length, slice_index, take}
 use Rattle.hex.specs.Hex.{decode_of, encode_lower}
 use Rattle.sha2.specs.Sha256.{sha256}
-use Rattle.secret_sharing.specs.declared.field.ShareField.{ShareField}
-use Rattle.secret_sharing.specs.declared.field.ShareField.TheVariants.{Gfshare, Rijndael}
+use Rattle.error_codes.specs.declared.field.ShareField.{ShareField}
+use Rattle.error_codes.specs.declared.field.ShareField.TheVariants.{Gfshare, Rijndael}
 
 -- the number of a field: the low byte of its modulus
 abbrev pub number_of : ShareField → ℕ

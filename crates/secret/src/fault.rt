@@ -2,7 +2,7 @@
 ghost use Rattle.std.specs.Prelude.{◌≡◌};
 ghost use Rattle.secret.specs.declared.fault.Fault.TheVariants.{Memory};
 
-use secret_sharing::SharingError;
+use error_codes::SharingError;
 use std::alloc::{AllocError, AllocFailed};
 use thiserror::Error;
 

@@ -5,8 +5,8 @@ ghost use Rattle.hex.specs.declared.error.FromHexError.TheVariants.{OutOfMemory}
 ghost use Rattle.secret.specs.Records.{check_sum, line_of, number_of, record_of, IsEnd, SaysRecord};
 ghost use Rattle.secret.specs.declared.lines.LineFault.TheVariants.{Memory};
 
+use error_codes::ShareField;
 use hex::FromHexError;
-use secret_sharing::ShareField;
 use sha2::{Digest, Sha256};
 use std::alloc::{AllocError, Global};
 

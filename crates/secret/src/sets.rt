@@ -3,7 +3,7 @@ ghost use Rattle.std.specs.Prelude.{◌≡◌};
 
 use crate::bytes::{overwrite, wipe};
 use anyhow::{Context, Result};
-use secret_sharing::ShareField;
+use error_codes::ShareField;
 use std::random::RandomSource;
 
 /// What is chosen: the field, how many shares there are, and how many are needed.

@@ -7,17 +7,17 @@ ghost use Rattle.secret.specs.Records.{HasField, lines_of, number_of};
 ghost use Rattle.secret.specs.Texts.{AreGathered, AreOfSet, AreOneSet, CutsLine, IsSecretOfText, TextSays};
 ghost use Rattle.secret.specs.declared.fault.Fault.TheVariants.{Memory, Mistyped, NoShare, Sharing};
 ghost use Rattle.secret.specs.declared.lines.LineFault.TheVariants as line_fault;
-ghost use Rattle.secret_sharing.specs.Refusals.{RefusesSplit};
-ghost use Rattle.secret_sharing.specs.declared.error.SharingError.{SharingError};
-ghost use Rattle.secret_sharing.specs.Sharing.{AreSplit};
-ghost use Rattle.secret_sharing.specs.declared.field.ShareField.{ShareField};
+ghost use Rattle.error_codes.specs.Refusals.{RefusesSplit};
+ghost use Rattle.error_codes.specs.declared.sharing_error.SharingError.{SharingError};
+ghost use Rattle.error_codes.specs.Sharing.{AreSplit};
+ghost use Rattle.error_codes.specs.declared.field.ShareField.{ShareField};
 
 use crate::bytes::wipe;
 use crate::fault::Fault;
 use crate::lines::{HEAD, LineFault, push_line, read_record, record_of};
 use crate::sets::{Choice, Drawn};
+use error_codes::{ShareField, combine_correcting, split};
 use memchr::memchr;
-use secret_sharing::{ShareField, combine_correcting, split};
 use std::alloc::{AllocError, Global};
 
 /// The lines of the shares of a secret. It fails where memory is refused, or where `split` of `secret_sharing` does, with its error.

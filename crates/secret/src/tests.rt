@@ -3,7 +3,7 @@
 use crate::fault::Fault;
 use crate::sets::{Choice, Drawn};
 use crate::sharing::{combine_text, split_text};
-use secret_sharing::{ShareField, SharingError};
+use error_codes::{ShareField, SharingError};
 use std::alloc::Global;
 use std::test::Fail;
 

@@ -1,6 +1,6 @@
 // The words of the command line.
 use crate::sets::Choice;
-use secret_sharing::ShareField;
+use error_codes::ShareField;
 
 /// What is to be done.
 #[derive(Clone, Copy, Drop)]

@@ -1,6 +1,5 @@
 -- Files to which bytes are added one after the other.
-use Rattle.std.proofs.Common.{◌≡◌, inl, inr, ℕ, ◌+◌, ◌<◌, ◌≤◌, List, [], ◌++◌, Some, refl, sym, ◌∙◌, ap, subst, append_assoc, arith}
-use Rattle.std.specs.Io.KnownBytes.{Appends}
+use Rattle.std.proofs.Common.{◌≡◌, inl, inr, ℕ, ◌+◌, ◌<◌, ◌≤◌, List, ◌++◌, refl, sym, ◌∙◌, ap, subst, append_assoc, arith}
 use Rattle.std.proofs.lemmas.Bool.{cases_lt}
 use Rattle.shard_files.specs.Files.{AppendsToEach, IsAppended}
 
@@ -59,10 +58,3 @@ appended_twice index one two before now next first second =
       grown = second.grown ∙ ap (λ (l : List ℕ). l ++ two) first.grown ∙ append_assoc (before index) one two;
       others = λ other apart. second.others other apart ∙ first.others other apart;
     }
-
-same_list : (a b : List ℕ) → Some a ≡ Some b → a ≡ b
-same_list a b same = cc
-
--- what was added to no bytes is all that there is
-pub added_to_none : (now bytes : List ℕ) → Appends (Some []) (Some now) bytes → now ≡ bytes
-added_to_none now bytes added = added

@@ -96,12 +96,6 @@ put_there total size index shard old had start gap start_is gap_is within flags 
           | inr apart ↦ inl (sym (get_or-set_other had index other true false apart) ∙ has)
         ]
 
--- where it has no place, or another size, or one of its number is at hand, nothing changes
-pub not_put : (total size index : ℕ) (shard old : List ℕ) (had : List Bool) → (index < total → length shard ≡ size → IsPresent had index)
-    → Puts total size index shard old had old had
-not_put total size index shard old had there =
-    record { keeps = λ other inside has. (has, refl); found = λ other inside has. inl has; put = there }
-
 -- ---- a file is looked at
 
 -- one that gives no shard of this origin
@@ -286,21 +280,6 @@ module _ (origin : Origin) (files : Holdings) (stripe : ℕ) (whole shards : Lis
             let given = gathered.found index inside has in
             gives.true_ones index given.0 (shard_at origin.size shards index) inside given.1 (shard_long origin.size (shard_total origin) index shards shards_long inside) given.2
 
-    -- and shards that are the gathered ones where these are at hand are given, if those were enough
-    pub given_enough : length whole ≡ shard_total origin * origin.size → HaveSameShards origin present whole shards
-        → origin.data_shards ≤ present_count present → GivesEnough origin files stripe whole
-    given_enough long same enough =
-        record {
-          long = long;
-          left = present;
-          left_long = flags;
-          enough = enough;
-          there = λ index has.
-              let inside = inside_of present flags index has in
-              let found = gathered.found index inside has in
-              (found.0, found.1, subst (GivesPiece files found.0 (numbered origin index) stripe) (sym (same index inside has)) found.2);
-        }
-
 -- the same of a group whose origin is known
 module _ (origin own : Origin) (same : own ≡ origin) (files : Holdings) (stripe : ℕ) (shards : List ℕ) (present : List Bool)
     (gathered : IsGathered origin files stripe files.places shards present)
@@ -321,11 +300,3 @@ module _ (origin own : Origin) (same : own ≡ origin) (files : Holdings) (strip
     group_count whole gives =
         subst (λ (o : Origin). o.data_shards ≤ present_count present) (sym same)
         (enough_there origin files stripe whole shards present gathered shards_long flags_long gives)
-
-    pub group_given : (whole : List ℕ) → length whole ≡ shard_total own * own.size → HaveSameShards own present whole shards
-        → own.data_shards ≤ present_count present → GivesEnough origin files stripe whole
-    group_given whole whole_long kept enough =
-        given_enough origin files stripe whole shards present gathered shards_long flags_long
-        (subst (λ (o : Origin). length whole ≡ shard_total o * o.size) same whole_long)
-        (subst (λ (o : Origin). HaveSameShards o present whole shards) same kept)
-        (subst (λ (o : Origin). o.data_shards ≤ present_count present) same enough)

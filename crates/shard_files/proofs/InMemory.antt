@@ -126,9 +126,6 @@ pub bytes_there : (file : List ℕ) (start count : ℕ) → start + count ≤ le
     → bytes_from file start count ≡ Some (take count (drop start file))
 bytes_there file start count room = grind (arith, nat_tests)
 
-pub bytes_not_there : (file : List ℕ) (start count : ℕ) → length file < start + count → bytes_from file start count ≡ None
-bytes_not_there file start count short = grind (arith, nat_tests)
-
 some_none : (bytes : List ℕ) → None ≡ Some bytes → ⊥
 some_none bytes same = cc
 

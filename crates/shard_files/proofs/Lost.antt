@@ -1,8 +1,7 @@
 -- Files of shards that are lost, to which bytes are added one after the other.
-use Rattle.std.proofs.Common.{◌≡◌, ◌≢◌, ◌⊎◌, inl, inr, ℕ, ◌+◌, ◌<◌, ◌≤◌, Bool, true, false, List, [], ◌++◌, length, get_or, take, refl, sym, ◌∙◌, ap, subst, append_assoc, arith}
-use Rattle.std.proofs.lemmas.Bool.{cases_lt, true≢false}
+use Rattle.std.proofs.Common.{◌≡◌, ℕ, ◌+◌, ◌<◌, Bool, List, [], ◌++◌, length, get_or, take, refl, sym, ◌∙◌, ap, append_assoc, arith}
 use Rattle.std.proofs.lemmas.List.{length-take-le, take_more}
-use Rattle.shard_files.specs.Files.{AppendsToLost, IsAppended, pieces_from, shard_file}
+use Rattle.shard_files.specs.Files.{AppendsToLost, pieces_from, shard_file}
 use Rattle.shard_files.specs.Groups.{numbered}
 use Rattle.shard_files.specs.Heads.{head_file}
 use Rattle.shard_files.specs.declared.head.Origin.{Origin}
@@ -10,54 +9,6 @@ use Rattle.shard_files.proofs.Written.{piece_of, pieces_more}
 
 pub lost_none : (lost : List Bool) (bytes before : ℕ → List ℕ) → AppendsToLost 0 lost bytes before before
 lost_none lost bytes before = record { grown = λ index below is. absurd (omega (arith, below)); others = λ index other. refl }
-
-module _ (count : ℕ) (lost : List Bool) (bytes before now : ℕ → List ℕ) (so_far : AppendsToLost count lost bytes before now) where
-  -- the next one is lost, and its bytes are added
-  pub lost_more : (next : ℕ → List ℕ) → get_or lost count false ≡ true → IsAppended count (bytes count) now next
-      → AppendsToLost (count + 1) lost bytes before next
-  lost_more next is one =
-      record { grown = grown; others = others }
-    where
-      grown : (index : ℕ) → index < count + 1 → get_or lost index false ≡ true → next index ≡ before index ++ bytes index
-      grown index below has =
-          elim (cases_lt index count) [
-            | inl less ↦ one.others index (omega (arith, less)) ∙ so_far.grown index less has
-            | inr more ↦
-                let same : count ≡ index = omega (arith, more, below) in
-                subst (λ (n : ℕ). next n ≡ before n ++ bytes n) same
-                (one.grown ∙ ap (λ (l : List ℕ). l ++ bytes count) (so_far.others count (inr (omega arith))))
-          ]
-
-      apart : (index : ℕ) → get_or lost index false ≡ false → index ≢ count
-      apart index gone same = true≢false (sym is ∙ ap (λ (n : ℕ). get_or lost n false) (sym same) ∙ gone)
-
-      others : (index : ℕ) → (get_or lost index false ≡ false) ⊎ (count + 1 ≤ index) → next index ≡ before index
-      others index other =
-          elim other [
-            | inl gone ↦ one.others index (apart index gone) ∙ so_far.others index (inl gone)
-            | inr above ↦ one.others index (omega (arith, above)) ∙ so_far.others index (inr (omega (arith, above)))
-          ]
-
-  -- the next one is not lost
-  pub lost_less : get_or lost count false ≡ false → AppendsToLost (count + 1) lost bytes before now
-  lost_less gone =
-      record { grown = grown; others = others }
-    where
-      grown : (index : ℕ) → index < count + 1 → get_or lost index false ≡ true → now index ≡ before index ++ bytes index
-      grown index below has =
-          elim (cases_lt index count) [
-            | inl less ↦ so_far.grown index less has
-            | inr more ↦
-                let same : index ≡ count = omega (arith, more, below) in
-                absurd (true≢false (sym has ∙ ap (λ (n : ℕ). get_or lost n false) same ∙ gone))
-          ]
-
-      others : (index : ℕ) → (get_or lost index false ≡ false) ⊎ (count + 1 ≤ index) → now index ≡ before index
-      others index other =
-          elim other [
-            | inl is ↦ so_far.others index (inl is)
-            | inr above ↦ so_far.others index (inr (omega (arith, above)))
-          ]
 
 -- the same bytes in two parts
 pub lost_twice : (count : ℕ) (lost : List Bool) (one two both before now next : ℕ → List ℕ)

@@ -1,15 +1,11 @@
 -- What was seen, once one more file was looked at, and which file is chosen.
-use Rattle.std.proofs.Common.{◌≡◌, ◌≢◌, ◌⊎◌, ◌↔◌, inl, inr, ℕ, zero, suc, ◌+◌, ◌<◌, ◌≤◌, Bool, true, false, List, [], ◌∷◌, ◌++◌, length, get_or, map, set, take, Some, None, refl, sym, ◌∙◌, ap, subst, arith}
+use Rattle.std.proofs.Common.{◌≡◌, ◌≢◌, ◌⊎◌, ◌↔◌, inl, inr, ℕ, zero, suc, ◌+◌, ◌<◌, ◌≤◌, Bool, true, false, List, [], ◌∷◌, length, get_or, map, set, Some, None, refl, sym, ◌∙◌, ap, subst, arith}
 use Rattle.std.proofs.lemmas.Bool.{cases_lt, true≢false}
-use Rattle.shard_files.specs.Heads.{format_name, head_file, IsHead, IsOrigin}
-use Rattle.shard_files.specs.Scans.{count_at, EnoughSeen, HasMost, identity_at, IsChoice, IsFinding, IsKnown, IsOnly, IsPlaced, IsWanted, origin_at, StillSeen}
-use Rattle.shard_files.specs.Stripes.{IsPossible, shard_total}
+use Rattle.shard_files.specs.Heads.{IsHead}
+use Rattle.shard_files.specs.Scans.{count_at, EnoughSeen, HasMost, identity_at, IsChoice, IsKnown, IsOnly, IsWanted, origin_at}
 use Rattle.shard_files.specs.declared.head.Head.{Head}
-use Rattle.shard_files.specs.declared.head.Origin.{Origin}
 use Rattle.shard_files.specs.declared.scan.Choice.{Choice}
 use Rattle.shard_files.specs.declared.scan.Choice.TheVariants.{Nothing, Only, Several, TooFew}
-use Rattle.shard_files.specs.declared.scan.Finding.{Finding}
-use Rattle.shard_files.specs.declared.scan.Finding.TheVariants.{Damaged, OldFormat, OtherCode, Shard, Unread}
 use Rattle.shard_files.specs.declared.scan.Seen.{Seen}
 
 -- ---- what is read of a file that was seen
@@ -23,10 +19,6 @@ read_map f (first ∷ items) (suc place) item other below = read_map f items pla
 module _ (seen : List Seen) (place : ℕ) (file : Seen) (below : place < length seen) (is : file ≡ get_or seen place file) where
   pub count_read : file.count ≡ count_at seen place
   count_read = ap (λ (s : Seen). s.count) is ∙ read_map (λ (s : Seen). s.count) seen place file 0 below
-
-  pub identity_read : file.layout.origin.identity ≡ identity_at seen place
-  identity_read =
-      ap (λ (s : Seen). s.layout.origin.identity) is ∙ read_map (λ (s : Seen). s.layout.origin.identity) seen place file [] below
 
   data_read : file.layout.origin.data_shards ≡ get_or (map (λ (s : Seen). s.layout.origin.data_shards) seen) place 0
   data_read =
@@ -44,18 +36,6 @@ module _ (seen : List Seen) (place : ℕ) (file : Seen) (below : place < length 
 
 -- ---- files that were seen stand where they stood
 
-none_some : (origin : Origin) → None ≡ Some origin → ⊥
-none_some origin same = cc
-
-pub origin_push : (seen : List Seen) (file : Seen) → origin_at (seen ++ file ∷ []) (length seen) ≡ Some file.layout.origin
-origin_push [] file = refl
-origin_push (first ∷ seen) file = origin_push seen file
-
-pub still_push : (seen : List Seen) (file : Seen) → StillSeen seen (seen ++ file ∷ [])
-still_push [] file place origin is = absurd (none_some origin is)
-still_push (first ∷ seen) file zero origin is = is
-still_push (first ∷ seen) file (suc place) origin is = still_push seen file place origin is
-
 pub origin_set : (seen : List Seen) (place : ℕ) (file : Seen) → place < length seen → Some file.layout.origin ≡ origin_at seen place
     → (at : ℕ) → origin_at (set seen place file) at ≡ origin_at seen at
 origin_set [] place file below is at = refl
@@ -69,43 +49,6 @@ origin_set (first ∷ seen) (suc place) file below is (suc at) = origin_set seen
 -- the head of a shard that there may be is one
 pub known_head : (head : Head) → IsKnown head → IsHead head
 known_head head known = record { origin_fits = known.fits; index_fits = omega (arith, known.inside, known.possible.few) }
-
-module _ (seen : List Seen) (head : Head) (bytes : List ℕ) (is : bytes ≡ head_file head)
-    (only : (other : Head) → IsKnown other → bytes ≡ head_file other → head ≡ other)
-  where
-    -- by a head that has a layout
-    pub placed : (finding : Finding) → IsPossible head.origin → IsOrigin head.origin → IsPlaced seen head.origin head.index finding
-        → IsFinding seen bytes finding
-    placed Unread possible fits says = says
-    placed Damaged possible fits says =
-        λ other known same.
-        let inside : head.index < shard_total head.origin =
-        subst (λ (h : Head). h.index < shard_total h.origin) (sym (only other known same)) known.inside in
-        absurd (omega (arith, says, inside))
-    placed (OldFormat version) possible fits says = absurd says
-    placed (OtherCode code) possible fits says = absurd says
-    placed (Shard place own) possible fits says =
-        (head, is, record { possible = possible; fits = fits; inside = says.0 }, sym says.1, says.2)
-
-    -- and by one that has none
-    pub by_code : (finding : Finding) → (IsPossible head.origin → ⊥)
-        → (finding ≡ Damaged) ⊎ ((finding ≡ OtherCode head.origin.code) × (2 < head.origin.code)) → IsFinding seen bytes finding
-    by_code finding none says =
-        elim says [
-          | inl damaged ↦ subst (IsFinding seen bytes) (sym damaged)
-              (λ other known same. none (subst (λ (h : Head). IsPossible h.origin) (sym (only other known same)) known.possible))
-          | inr other ↦ subst (IsFinding seen bytes) (sym other.0) (head, is, refl, other.1)
-        ]
-
--- by bytes of no head
-pub no_head : (seen : List Seen) (bytes : List ℕ) (finding : Finding) → ((head : Head) → IsHead head → bytes ≡ head_file head → ⊥)
-    → (finding ≡ Damaged) ⊎ ((version : ℕ) × (finding ≡ OldFormat version) × ((version ≡ 1) ⊎ (version ≡ 2)) × (take 8 bytes ≡ format_name version))
-    → IsFinding seen bytes finding
-no_head seen bytes finding none says =
-    elim says [
-      | inl damaged ↦ subst (IsFinding seen bytes) (sym damaged) (λ head known same. none head (known_head head known) same)
-      | inr old ↦ subst (IsFinding seen bytes) (sym old.1) (old.2, old.3)
-    ]
 
 -- ---- one more file
 

@@ -82,15 +82,6 @@ module _ (width : ℕ) (times : ℕ → ℕ → ℕ) (ring : IsRing width 1 time
             (pow_pos width)
       ]
 
-  product_value-lt : (row : ℕ → ℕ) (term : Product) → product_value times row term < 2 ^ width
-  product_value-lt row term = ring.below term.coefficient (product_below times (λ k. row (slice_index term.factors k)) (length term.factors))
-
-  pub terms_value-lt : (terms : List Product) (row : ℕ → ℕ) → terms_value times terms row < 2 ^ width
-  unfolding terms_value
-  terms_value-lt [] row = pow_pos width
-  terms_value-lt (term ∷ terms) row =
-      xor_lt width (product_value times row term) (terms_value times terms row) (product_value-lt row term) (terms_value-lt terms row)
-
   module _ (terms : List Product) (count : ℕ) (within : AreWithin count terms) where
     -- ---- the sum over a cube is the sum of those over both halves
 

@@ -8,7 +8,7 @@ use Rattle.std.proofs.lemmas.Nat.Bits.{bit_at-suc, bit_at_lowest}
 use native.Mathlib.Nat.{mod-lt, mod-eq_of_lt, zero-mul, zero-add, pow-suc, mul-mod_left, mul-div_cancel, div-add-mod', mul_assoc}
 use lib.Bits.{xor_shifted}
 use Rattle.field_base.proofs.CarrylessProduct.{xor_half, xor_odd}
-use Rattle.tags.specs.MultiplierLemmas.{reverse_bits-lt}
+use Rattle.tags.specs.lemmas.Multiplier.{reverse_bits-lt}
 
 -- the low k bits of n in the other order
 abbrev pub reversed : ℕ → ℕ → ℕ

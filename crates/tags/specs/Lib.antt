@@ -10,4 +10,4 @@ pub mod Collisions
 pub mod EncodedParts
 pub mod Pieces
 pub mod Prepared
-pub mod MultiplierLemmas
+pub mod lemmas

@@ -4,7 +4,7 @@ ghost use Rattle.std.specs.Prelude.{◌≡◌, ◌<◌, ◌^◌, ℕ, List, map}
 ghost use Rattle.std.specs.Int.{to_be_bytes, to_le_bytes, w64};
 ghost use Rattle.tags.specs.Gcm.{ghash};
 ghost use Rattle.tags.specs.Hash.{polynomial_hash};
-ghost use Rattle.tags.specs.MultiplierLemmas.{ghash_element-lt, polyval_multiplier-lt};
+ghost use Rattle.tags.specs.lemmas.Multiplier.{ghash_element-lt, polyval_multiplier-lt};
 ghost use Rattle.tags.specs.Polyval.{polyval};
 ghost use Rattle.tags.specs.Reversed.{ghash_element, ghash_times, polyval_element, polyval_multiplier};
 

@@ -3,5 +3,5 @@ pub mod Challengers
 pub mod Joined
 pub mod Sampled
 pub mod Seeds
-pub mod StateLemmas
 pub mod Tags
+pub mod lemmas

@@ -5,14 +5,14 @@ ghost use Rattle.transcripts.specs.GuardedAnswers.{GuardedAnswer};
 ghost use Rattle.transcript_elements.specs.Challengers.{state_after, state_of};
 ghost use Rattle.transcripts.specs.Lists.{InTurn};
 ghost use Rattle.transcript_elements.specs.Sampled.{coefficient_bytes, SamplesCoefficients};
-ghost use Rattle.transcript_elements.specs.StateLemmas.{same_samples};
-ghost use Rattle.transcripts.specs.StateLemmas.{same_value};
+ghost use Rattle.transcript_elements.specs.lemmas.State.{same_samples};
+ghost use Rattle.transcripts.specs.lemmas.State.{same_value};
 ghost use Rattle.transcripts.specs.States.{GivesByState, LeadsByState};
 
 use crate::byte_level::ByteLevel;
 use crate::challenger::BinaryChallenger;
 use field_base::traits::PrimeCharacteristicRing;
-use field_space::BasedVectorSpace;
+use field_element::BasedVectorSpace;
 use transcripts::{
     ByteChallenger, CanObserve, CanSample, CanSampleBits, ChallengerError, Transcript,
 };

@@ -5,7 +5,7 @@ ghost use Rattle.transcripts.specs.ByteCalls.{after, observing};
 ghost use Rattle.transcripts.specs.Digests.{roots_of, words_of};
 ghost use Rattle.transcripts.specs.Guarded.{guarded_after, guarded_failed, guarded_refused, guarded_state};
 ghost use Rattle.transcripts.specs.GuardedAnswers.{GuardedAnswer};
-ghost use Rattle.transcripts.specs.StateLemmas.{same_value};
+ghost use Rattle.transcripts.specs.lemmas.State.{same_value};
 ghost use Rattle.transcript_elements.specs.Challengers.{state_after, state_of};
 
 use crate::challenger::BinaryChallenger;

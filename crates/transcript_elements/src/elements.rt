@@ -6,8 +6,8 @@ ghost use Rattle.transcripts.specs.GuardedAnswers.{GuardedAnswer};
 ghost use Rattle.field_bytes.specs.Bytes.{low_bytes, number_of_bytes};
 ghost use Rattle.transcript_elements.specs.Challengers.{challenger_failed, challenger_refused, state_after, state_of, StopsWithin};
 ghost use Rattle.transcript_elements.specs.Sampled.{SamplesBits, squeezed_element};
-ghost use Rattle.transcript_elements.specs.StateLemmas.{same_bits};
-ghost use Rattle.transcripts.specs.StateLemmas.{same_value};
+ghost use Rattle.transcript_elements.specs.lemmas.State.{same_bits};
+ghost use Rattle.transcripts.specs.lemmas.State.{same_value};
 
 use crate::byte_level::ByteLevel;
 use crate::challenger::BinaryChallenger;

@@ -2,11 +2,11 @@
 ghost use Rattle.std.specs.Prelude.{◌≡◌};
 ghost use Rattle.transcript_elements.specs.Challengers.{state_of};
 ghost use Rattle.transcript_elements.specs.Sampled.{SamplesCoefficients};
-ghost use Rattle.transcript_elements.specs.StateLemmas.{same_elements};
+ghost use Rattle.transcript_elements.specs.lemmas.State.{same_elements};
 
 use crate::byte_level::ByteLevel;
 use crate::challenger::BinaryChallenger;
-use field_space::BasedVectorSpace;
+use field_element::BasedVectorSpace;
 use transcripts::{ByteChallenger, CanSample, ChallengerError};
 
 impl<F: ByteLevel, Inner: ByteChallenger, E: BasedVectorSpace<F>> CanSample<E>

@@ -4,7 +4,7 @@ ghost use Rattle.std.proofs.Common.{ap};
 ghost use Rattle.transcripts.specs.ByteCalls.{after};
 ghost use Rattle.transcripts.specs.Grinding.{candidate_count, FailsSearch, IsLeastPassing};
 ghost use Rattle.transcripts.specs.GuardedAnswers.{GuardedAnswer};
-ghost use Rattle.transcripts.specs.StateLemmas.{same_value};
+ghost use Rattle.transcripts.specs.lemmas.State.{same_value};
 ghost use Rattle.transcript_elements.specs.Challengers.{challenger_failed, challenger_refused, state_after, state_of, StopsWithin};
 ghost use Rattle.transcript_elements.specs.Sampled.{challenger_passes, check_calls, passes};
 

@@ -1,3 +1,10 @@
+pub mod Commitments
+pub mod Filling
+pub mod MerkleTrees
+pub mod Openings
+pub mod Outcomes
+pub mod Queries
+pub mod Runs
 pub mod ByteCalls
 pub mod Digests
 pub mod Grinding
@@ -7,5 +14,5 @@ pub mod HashBuffers
 pub mod HashChallengers
 pub mod Lists
 pub mod Recorders
-pub mod StateLemmas
 pub mod States
+pub mod lemmas

@@ -1,16 +1,26 @@
 //! Transcripts: what is observed and what is sampled, by traits; a recorder of what was observed; digests and caps as they are observed;
 //! challengers over bytes, and one over a hash function.
+//!
+//! Commitments by Merkle trees over any hash function: trees over words and over rows of bytes, paths to the root and to a cap, openings
+//! of many rows at once, and provers and verifiers that open places which a transcript gives after a proof of work.
 #![tactic(auto)]
 
 mod byte_challenger;
 mod byte_runs;
+pub mod caps;
+pub mod commitment;
 mod digest;
+mod digests;
 mod error;
 mod grinding;
 mod guarded;
 mod hash_challenger;
 mod hasher;
+pub mod merkle_paths;
+pub mod merkle_tree;
 mod observe;
+pub mod openings;
+pub mod queries;
 mod recorder;
 mod sample;
 mod sample_bits;

@@ -56,7 +56,7 @@ impl<T: Drop, A: Allocator> Transcript for Recorder<T, A> {
 
 impl<T: Drop, A: Allocator> CanObserve<T> for Recorder<T, A> {
     ghost use Rattle.transcripts.specs.Recorders.{items_of};
-    ghost use Rattle.transcripts.specs.StateLemmas.{same_value};
+    ghost use Rattle.transcripts.specs.lemmas.State.{same_value};
 
     // The value goes last.
     ghost observes = { λ old value new. items_of new ≡ items_of old ++ value ∷ [] };

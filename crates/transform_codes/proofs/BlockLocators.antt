@@ -16,7 +16,7 @@ use Rattle.field_base.proofs.TowerRing.{tower_ring}
 use Rattle.field_base.proofs.Polynomials.{IsPolynomial, polynomial-unique}
 use Rattle.ghash_slices.specs.Cantor.{point, polynomial_value}
 use Rattle.ghash_slices.proofs.CantorValues.{points_are_distinct}
-use Rattle.additive_transforms.specs.LevelVectorLemmas.{level_vectors}
+use Rattle.additive_transforms.specs.lemmas.LevelVector.{level_vectors}
 use Rattle.additive_transforms.specs.Words.{level_element}
 use Rattle.word_tables.specs.Cantor.{cantor_vector}
 use Rattle.word_tables.proofs.LevelLaws.{level_cantor}

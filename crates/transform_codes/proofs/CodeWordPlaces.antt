@@ -10,7 +10,7 @@ use Rattle.field_base.proofs.TowerLaws.{tower_field}
 use Rattle.field_base.proofs.Polynomials.{polynomial-unique}
 use Rattle.ghash_slices.specs.Cantor.{point, polynomial_value}
 use Rattle.ghash_slices.proofs.CantorValues.{points_are_distinct}
-use Rattle.additive_transforms.specs.LevelVectorLemmas.{level_vectors}
+use Rattle.additive_transforms.specs.lemmas.LevelVector.{level_vectors}
 use Rattle.word_tables.specs.Cantor.{cantor_vector}
 use Rattle.word_tables.proofs.LevelLaws.{level_cantor}
 use Rattle.transform_codes.specs.Codes.{IsCodedColumn, value_at}

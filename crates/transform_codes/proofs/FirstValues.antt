@@ -22,7 +22,7 @@ use Rattle.ghash_slices.specs.Cantor.{point, polynomial_value, subspace_value}
 use Rattle.ghash_slices.specs.Stages.{factor}
 use Rattle.ghash_slices.proofs.CantorValues.{factors_are_subspace_values, subspace_value-sum}
 use Rattle.ghash_slices.proofs.StageSums.{sum_of_factors-next}
-use Rattle.additive_transforms.specs.LevelVectorLemmas.{level_vectors}
+use Rattle.additive_transforms.specs.lemmas.LevelVector.{level_vectors}
 use Rattle.additive_transforms.specs.Words.{level_element}
 use Rattle.word_tables.specs.Cantor.{cantor_vector}
 use Rattle.transform_codes.specs.Columns.{HoldFirstValues, HoldWordValues}

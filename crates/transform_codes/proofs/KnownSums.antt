@@ -19,7 +19,7 @@ use Rattle.field_base.proofs.Polynomials.{IsPolynomial, polynomial-lt}
 use Rattle.ghash_slices.specs.Cantor.{point, polynomial_value}
 use Rattle.ghash_slices.proofs.CantorValues.{points_are_distinct, sum_below-image}
 use Rattle.ghash_slices.proofs.StageSums.{sum_below-xor}
-use Rattle.additive_transforms.specs.LevelVectorLemmas.{level_vectors}
+use Rattle.additive_transforms.specs.lemmas.LevelVector.{level_vectors}
 use Rattle.additive_transforms.proofs.BlockPoints.{point-lt}
 use Rattle.word_tables.specs.Cantor.{cantor_vector}
 use Rattle.word_tables.proofs.LevelLaws.{level_cantor}

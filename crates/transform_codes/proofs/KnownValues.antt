@@ -10,7 +10,7 @@ use native.Mathlib.Nat.{mod-lt}
 use lib.Arith.{digits_lt}
 use lib.Bits.{xor_comm, xor_zero_r}
 use Rattle.additive_transforms.specs.Columns.{column_of}
-use Rattle.additive_transforms.specs.LevelVectorLemmas.{level_vectors}
+use Rattle.additive_transforms.specs.lemmas.LevelVector.{level_vectors}
 use Rattle.additive_transforms.specs.Words.{level_element}
 use Rattle.additive_transforms.proofs.BlockPoints.{point-joined}
 use Rattle.additive_transforms.proofs.CantorSums.{value-none, value-same}

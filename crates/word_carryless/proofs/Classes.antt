@@ -9,7 +9,7 @@ use native.Mathlib.Nat.{mod-eq_of_lt}
 use lib.Bits.{xor_assoc}
 use Rattle.field_base.specs.Carryless.{carryless}
 use Rattle.field_base.proofs.RingLemmas.{xor_left_comm}
-use Rattle.field_base.specs.BitRingLemmas.{two_cases}
+use Rattle.field_base.specs.lemmas.BitRing.{two_cases}
 use Rattle.field_base.proofs.CarrylessProduct.{carryless_sum, sum_carryless}
 use Rattle.word_carryless.specs.Masked.{class_mask}
 use Rattle.word_carryless.proofs.ClassMasks.{class-mask}

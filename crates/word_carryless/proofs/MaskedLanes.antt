@@ -6,9 +6,8 @@ use Rattle.std.specs.Simd.Lanes.{chunk}
 use Rattle.std.proofs.lemmas.Simd.{length-chunk, get_or-chunk}
 use Rattle.word_tables.proofs.BlockLemmas.{done_before}
 use Rattle.field_base.specs.Carryless.{carryless}
-use Rattle.word_carryless.specs.Masked.{CarryIsolationInLanes, IsInClass, in_class}
+use Rattle.word_carryless.specs.Masked.{CarryIsolationInLanes, IsInClass}
 use Rattle.word_carryless.proofs.CarryIsolation.{carry_isolation, masked_carryless}
-use Rattle.word_carryless.proofs.ClassMasks.{class-mask}
 use Rattle.word_carryless.proofs.LaneProducts.{products_in_lanes}
 
 -- ---- lanes
@@ -36,12 +35,6 @@ masked_lanes (suc n) i j y (x ∷ xs) long i_small j_small x_class y_class =
     ap₂ (λ (z : ℕ) (zs : List ℕ). z ∷ zs)
     (masked_carryless i j x y i_small j_small (x_class 0 0 (omega arith)) y_class)
     (masked_lanes n i j y xs (omega arith) i_small j_small (all_rest (IsInClass i) x xs x_class) y_class)
-
--- words of which the bits of a class are kept are of the class
-pub kept_class : (i : ℕ) (xs : List ℕ) → All (IsInClass i) (in_class i xs)
-kept_class i [] k d below = absurd (omega (arith, below))
-kept_class i (x ∷ xs) zero d below = class-mask i x
-kept_class i (x ∷ xs) (suc k) d below = kept_class i xs k d (omega (arith, below))
 
 -- ---- blocks of a slice
 

@@ -5,7 +5,7 @@ use Rattle.std.proofs.Math.Nat.{two-pow-succ}
 use Rattle.std.proofs.lemmas.Nat.{and_mask, pow_below}
 use native.Mathlib.Nat.{mod-eq_of_lt, mod-lt, one-mul, zero-mul}
 use lib.Bits.{and_zero_r, xor_assoc}
-use Rattle.field_base.specs.BitRingLemmas.{two_cases}
+use Rattle.field_base.specs.lemmas.BitRing.{two_cases}
 use Rattle.field_base.specs.Carryless.{carryless, carryless_in}
 use Rattle.field_base.specs.LinearMaps.{linear_image}
 use Rattle.field_base.specs.Powers.{repeated_square}

@@ -24,9 +24,7 @@ pub use crate::lanes::{
     multiply_mod_128_twice, spill, times_tail,
 };
 pub use crate::laws::{carry_isolation, carry_isolation_in_lanes, class_is_places};
-pub use crate::masked::{
-    Classes, keep_class, masked_product, masked_products, multiply_low_64, word_of_class,
-};
+pub use crate::masked::{Classes, masked_product, masked_products, multiply_low_64, word_of_class};
 pub use crate::modular::{multiply_mod_64, multiply_mod_128, square_mod_64, square_mod_128};
 pub use crate::nibbles::{bytes_of_128, number_of_bytes};
 pub use crate::power_maps::{

@@ -38,24 +38,6 @@ pub fn word_of_class(word: u64, i: u32) -> u64
     word & (CLASS_0 << i)
 }
 
-/// Keeps the bits of each word that are of class `i`.
-pub fn keep_class(words: &mut [u64], i: u32)
-    requires { i < 4 }
-    ensures bits { words.new ≡ in_class i words.old }
-    ensures class { All (IsInClass i) words.new }
-{
-    keep_bits(words, i);
-}
-
-fn keep_bits(words: &mut [u64], i: u32)
-    requires { i < 4 }
-    ensures { words.new ≡ in_class i words.old }
-{
-    for place in 0..words.len() {
-        words[place] = word_of_class(words[place], i);
-    }
-}
-
 /// The low 64 bits of the carryless product of a word of class `i` and a word of class `j`.
 ///
 /// It is the integer product modulo 2^64, masked to class `(i + j) % 4`.

@@ -5,9 +5,9 @@ use Rattle.std.proofs.lemmas.Nat.{xor_comm}
 use lib.Bits.{xor_assoc, xor_self, xor_zero_r}
 use Rattle.word_polynomial.specs.Cubic.{cubic, triple}
 use Rattle.field_base.specs.Ring.{IsRing}
-use Rattle.word_polynomial.specs.CubicFieldLemmas.{adjugate_0, adjugate_1, adjugate_2, cubic-square}
-use Rattle.word_polynomial.specs.CubicRingLemmas.{cubic-triples}
-use Rattle.word_polynomial.specs.TripleLemmas.{same₃}
+use Rattle.word_polynomial.specs.lemmas.CubicField.{adjugate_0, adjugate_1, adjugate_2, cubic-square}
+use Rattle.word_polynomial.specs.lemmas.CubicRing.{cubic-triples}
+use Rattle.word_polynomial.specs.lemmas.Triple.{same₃}
 use Rattle.field_base.proofs.RingLemmas.{sum_times, times-zero, xor_cancel, xor_left_comm}
 
 module _ (width : ℕ) (times : ℕ → ℕ → ℕ) (ring : IsRing width 1 times) where

@@ -3,7 +3,7 @@ ghost use Rattle.std.specs.Prelude.{◌≡◌, ◌≢◌, ◌<◌, ◌≤◌, �
 ghost use Rattle.std.proofs.Common.{lit<};
 ghost use Rattle.field_base.specs.Remainder.{mul_mod, poly64_modulus};
 ghost use Rattle.word_polynomial.specs.Cubic.{cubic, triple};
-ghost use Rattle.word_polynomial.specs.Field192Lemmas.{field_192, generator_nonzero_192, generator_order_192};
+ghost use Rattle.word_polynomial.specs.lemmas.Field192.{field_192, generator_nonzero_192, generator_order_192};
 
 use crate::moduli::Poly64Kernel;
 use crate::{

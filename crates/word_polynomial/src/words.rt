@@ -6,7 +6,7 @@ ghost use Rattle.std.proofs.Common.{lit<, lit≤, rules};
 ghost use Rattle.field_base.specs.Room.{few_fit};
 ghost use Rattle.word_polynomial.specs.Cubic.{triple};
 ghost use Rattle.word_polynomial.specs.Triple.{triple_number};
-ghost use Rattle.word_polynomial.specs.TripleLemmas.{fits_192, same_number, triple-chunks, triple_of_number, words_law};
+ghost use Rattle.word_polynomial.specs.lemmas.Triple.{fits_192, same_number, triple-chunks, triple_of_number, words_law};
 
 use crate::triple::Triple;
 use field_base::Stored;

@@ -3,7 +3,7 @@
 use Rattle.std.proofs.Common.{◌≡◌, ℕ, zero, suc, ◌*◌, ◌%◌, ◌^◌, refl, sym, ◌∙◌, ap, ap₂, lit<}
 use Rattle.std.specs.Prelude.{bit_xor}
 use native.Mathlib.Nat.{mod-lt}
-use Rattle.field_base.specs.BitRingLemmas.{two_cases}
+use Rattle.field_base.specs.lemmas.BitRing.{two_cases}
 use Rattle.field_base.specs.Quadratic.{low_half, high_half, pair}
 use Rattle.field_base.specs.Tower.{root, tower_mul}
 use Rattle.field_base.proofs.TowerProducts.{tower_mul-square, tower_mul-root_zero, tower_mul-root_suc}

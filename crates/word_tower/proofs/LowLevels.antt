@@ -2,7 +2,7 @@
 use Rattle.std.proofs.Common.{◌≡◌, ◌≢◌, ℕ, suc, ◌+◌, ◌*◌, ◌%◌, ◌^◌, ◌<◌, refl, sym, zero, ◌∙◌, ap, subst, arith, lit<}
 use Rattle.std.proofs.lemmas.Nat.{pow_pos}
 use native.Mathlib.Nat.{mod-lt, mod-eq_of_lt}
-use Rattle.field_base.specs.BitRingLemmas.{two_cases, bit_times_itself}
+use Rattle.field_base.specs.lemmas.BitRing.{two_cases, bit_times_itself}
 use Rattle.field_base.specs.Tower.{root, tower_mul}
 use Rattle.field_base.proofs.FieldLemmas.{inverse-unique}
 use Rattle.field_base.proofs.RingLemmas.{times-mod, mod-times}

@@ -2,7 +2,7 @@
 ghost use Rattle.std.specs.Prelude.{◌≡◌, ◌<◌, ◌≤◌, ◌*◌, ◌%◌, ◌/◌, ◌^◌, ℕ, refl};
 ghost use Rattle.std.proofs.lemmas.Nat.{pow_pos};
 ghost use native.Mathlib.Nat.{mod-lt};
-ghost use Rattle.field_base.specs.BitRingLemmas.{level_basis};
+ghost use Rattle.field_base.specs.lemmas.BitRing.{level_basis};
 ghost use Rattle.field_base.specs.Powers.{repeated_square};
 ghost use Rattle.field_base.specs.Tower.{root, tower_mul};
 ghost use Rattle.field_base.specs.TowerBasis.{tower_generator};

@@ -4,14 +4,14 @@ ghost use Rattle.std.proofs.Common.{◌∙◌, ap};
 ghost use Rattle.std.specs.Prelude.{bit_xor};
 ghost use native.Mathlib.Nat.{one-mul};
 ghost use Rattle.field_base.specs.Operators.{algebra_gives};
-ghost use Rattle.packed_lanes.specs.BitImageLemmas.{bit_same, bit_sum};
-ghost use Rattle.bits_packed.specs.EveryLaneLemmas.{every_product, times_every};
+ghost use Rattle.packed_lanes.specs.lemmas.BitImage.{bit_same, bit_sum};
+ghost use Rattle.bits_packed.specs.lemmas.EveryLane.{every_product, times_every};
 ghost use Rattle.bits_packed.specs.Lanes.{bitwise_product};
 
 use crate::packed::PackedGf2;
-use bits_rows::Underlier;
 use field_base::Gf2;
 use field_base::traits::Algebra;
+use packed_lanes::Underlier;
 
 impl<U: Underlier> Algebra<Gf2> for PackedGf2<U> {
     ghost use Rattle.field_base.specs.Bit.{bit_number};

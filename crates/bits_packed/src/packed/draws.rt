@@ -1,8 +1,8 @@
 // Random packed bits, drawn a word at a time.
-ghost use Rattle.bits_rows.specs.Parts.{IsDrawn};
+ghost use Rattle.packed_lanes.specs.Parts.{IsDrawn};
 
 use crate::packed::PackedGf2;
-use bits_rows::Underlier;
+use packed_lanes::Underlier;
 use rand::distr::SampleStandard;
 use rand_core::Rng;
 

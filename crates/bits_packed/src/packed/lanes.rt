@@ -3,12 +3,12 @@ ghost use Rattle.std.specs.Prelude.{◌≡◌, ◌-◌};
 ghost use Rattle.std.specs.Array.{index_steps};
 ghost use Rattle.std.specs.Iterator.{CallableAtEachTurn, YieldsFirstBy, at_most};
 ghost use Rattle.field_base.specs.Bit.{bit_number};
-ghost use Rattle.bits_rows.specs.Parts.{IsFilled};
+ghost use Rattle.packed_lanes.specs.Parts.{IsFilled};
 ghost use Rattle.bits_packed.specs.Lanes.{lanes_from, bits_of};
 
 use crate::packed::PackedGf2;
-use bits_rows::Underlier;
 use field_base::Gf2;
+use packed_lanes::Underlier;
 
 /// An iterator over the lanes of packed bits, the lowest first.
 #[derive(Drop)]

@@ -6,9 +6,9 @@ ghost use Rattle.bits_packed.specs.Lanes.{bitwise_product};
 mod bits;
 
 use crate::packed::{PackedGf2, value};
-use bits_rows::{Underlier, bits_and, bits_xor};
 use field_base::Gf2;
 use field_base::traits::TowerLevel;
+use packed_lanes::{Underlier, bits_and, bits_xor};
 use std::ops::{Add, AddAssign, Div, DivAssign, Mul, MulAssign, Neg, Sub, SubAssign};
 
 impl<U: Underlier> Add<PackedGf2<U>> for PackedGf2<U> {

@@ -2,10 +2,10 @@
 ghost use Rattle.std.specs.Prelude.{◌≡◌, ◌<◌, ◌*◌, ◌/◌, ◌%◌, ◌^◌, ◌++◌, IfOk, IsTrue, OnOk, map};
 ghost use Rattle.std.specs.List.{flat_map};
 ghost use Rattle.field_base.specs.Chunks.{chunk, chunks};
-ghost use Rattle.bits_rows.specs.Parts.{IsWithPart};
+ghost use Rattle.packed_lanes.specs.Parts.{IsWithPart};
 
 use crate::packed::PackedGf2;
-use bits_rows::{Divisible, Underlier, narrow_word};
+use packed_lanes::{Divisible, Underlier, narrow_word};
 use std::alloc::{AllocError, Allocator};
 
 // Appends the bytes of packed bits.

@@ -4,13 +4,13 @@ ghost use mathlib.Core.HLevel.{is_prop→PathP};
 ghost use Rattle.std.proofs.Math.Bool.{Bool-set};
 ghost use Rattle.field_base.specs.Operators.{given};
 ghost use Rattle.field_base.specs.Powers.{product_of, sum_of};
-ghost use Rattle.bits_packed.specs.BitsRingLemmas.{bits_ring, equal_numbers, ones_fit};
+ghost use Rattle.bits_packed.specs.lemmas.BitsRing.{bits_ring, equal_numbers, ones_fit};
 ghost use Rattle.bits_packed.specs.Lanes.{bitwise_product};
 
 use crate::packed::PackedGf2;
-use bits_rows::Underlier;
 use field_base::Gf2;
 use field_base::traits::{PrimeCharacteristicRing, Represented, product_of_items, sum_of_items};
+use packed_lanes::Underlier;
 use std::iter::{Product, Sum};
 
 impl<U: Underlier> Represented for PackedGf2<U> {

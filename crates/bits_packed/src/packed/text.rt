@@ -1,6 +1,6 @@
 // The text of packed bits.
 use crate::packed::PackedGf2;
-use bits_rows::{Underlier, Word};
+use packed_lanes::{Underlier, Word};
 use std::fmt;
 
 // The word in hexadecimal, with all of its digits.

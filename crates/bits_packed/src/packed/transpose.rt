@@ -1,11 +1,11 @@
 // Blocks of lanes interleaved, and square matrices of bits transposed.
 ghost use Rattle.std.specs.Prelude.{◌≡◌, ◌≤◌, ◌<◌, ◌+◌, ◌*◌, ◌/◌, ◌^◌, ℕ, length, map};
-ghost use Rattle.bits_rows.specs.Parts.{HasFirstBlocks, HasSecondBlocks, IsBlockSize};
+ghost use Rattle.packed_lanes.specs.Parts.{HasFirstBlocks, HasSecondBlocks, IsBlockSize};
 ghost use Rattle.bits_packed.specs.Lanes.{AreInterleavedLanes, AreTransposed};
 ghost use Rattle.bits_packed.specs.Rounds.{AreRounds, IsPairInterleaved, PassGoesByGroup, PassGoesOn, RoundsGoOn, first_row};
 
 use crate::packed::{PackedGf2, value};
-use bits_rows::{Underlier, Word, interleave_words};
+use packed_lanes::{Underlier, Word, interleave_words};
 
 // Interleaves by blocks below the width, and returns both results.
 #[inline]

@@ -6,7 +6,7 @@ ghost use Rattle.std.specs.Cmp.Rules.{comparing};
 ghost use Rattle.std.specs.Fmt.{WritesOnOk};
 ghost use Rattle.field_element.specs.Coefficients.{stored_words};
 ghost use Rattle.word_polynomial.specs.Triple.{events_of, hexadecimal_of};
-ghost use Rattle.word_polynomial.specs.TripleLemmas.{same_number, words_law};
+ghost use Rattle.word_polynomial.specs.lemmas.Triple.{same_number, words_law};
 
 use crate::element::Coefficients;
 use field_base::ReadWord;

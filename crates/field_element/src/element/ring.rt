@@ -4,7 +4,7 @@ ghost use Rattle.std.proofs.Common.{sym, subst, ◌∙◌};
 ghost use Rattle.field_base.specs.Operators.{given};
 ghost use Rattle.field_base.specs.Orders.{HasFullOrder};
 ghost use Rattle.field_base.specs.Powers.{repeated_square};
-ghost use Rattle.field_element.specs.RangeLemmas.{number_of_stored, one_in_range, stored_in_range, zero_in_range};
+ghost use Rattle.field_element.specs.lemmas.Range.{number_of_stored, one_in_range, stored_in_range, zero_in_range};
 
 use crate::element::{
     Element, HasPacking, add_scaled_elements, dot_of_elements, invert_elements, multiply_elements,

@@ -4,8 +4,8 @@ ghost use Rattle.std.proofs.Common.{sym, ◌∙◌, ap};
 ghost use Rattle.std.proofs.lemmas.List.{length-replicate};
 ghost use Rattle.field_base.specs.Operators.{given, ring_gives};
 ghost use Rattle.field_base.specs.Chunks.{joined};
-ghost use Rattle.packed_lanes.specs.LaneListLemmas.{every_bit, every_zero, map-every};
-ghost use Rattle.packed_lanes.specs.PackedLemmas.{packed_equal, packed_product, packed_sum};
+ghost use Rattle.packed_lanes.specs.lemmas.LaneList.{every_bit, every_zero, map-every};
+ghost use Rattle.packed_lanes.specs.lemmas.Packed.{packed_equal, packed_product, packed_sum};
 
 use crate::packed::{Packed, WiderField};
 use field_base::Gf2;

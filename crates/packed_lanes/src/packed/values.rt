@@ -7,11 +7,11 @@ ghost use Rattle.field_base.specs.Bit.{bit_number as bit_of};
 ghost use Rattle.field_base.specs.Operators.{algebra_gives};
 ghost use Rattle.field_base.specs.Powers.{product_of, sum_of};
 ghost use Rattle.field_base.specs.Chunks.{joined};
-ghost use Rattle.packed_lanes.specs.BitImageLemmas.{bit_same, bit_sum};
-ghost use Rattle.packed_lanes.specs.LaneListLemmas.{every_bit, every_product, every_same, every_sum, number_of_every};
+ghost use Rattle.packed_lanes.specs.lemmas.BitImage.{bit_same, bit_sum};
+ghost use Rattle.packed_lanes.specs.lemmas.LaneList.{every_bit, every_product, every_same, every_sum, number_of_every};
 ghost use Rattle.packed_lanes.specs.Packed.{EachLaneIs};
-ghost use Rattle.packed_lanes.specs.PackedLemmas.{packed_bit_product, packed_product_bit, packed_product_one};
-ghost use Rattle.packed_lanes.specs.PackedLemmas.{packed_sum_bit, packed_sum_one};
+ghost use Rattle.packed_lanes.specs.lemmas.Packed.{packed_bit_product, packed_product_bit, packed_product_one};
+ghost use Rattle.packed_lanes.specs.lemmas.Packed.{packed_sum_bit, packed_sum_one};
 
 mod operators;
 

@@ -1,10 +1,7 @@
-// Matrices of bytes: triangular factors of a worked matrix and of drawn ones, whose product is the matrix, powers of a companion matrix,
-// and draws. What is left of matrices of bytes is worked in the tests of the C library.
+// Matrices of bytes: triangular factors of a worked matrix and of drawn ones, whose product is the matrix, and draws. What is left of matrices of bytes is worked in the tests of the C library.
 use field_base::traits::{PrimeCharacteristicRing, TowerLevel};
 use field_element::Rijndael8b;
-use field_slices::matrices::{
-    Elements, companion_into, multiply_into, plu_decompose, power_into, random_into,
-};
+use field_slices::matrices::{Elements, multiply_into, plu_decompose, random_into};
 use rand::rngs::SmallRng;
 use rand::{RngExt, SeedableRng};
 
@@ -83,43 +80,7 @@ fn worked_and_drawn_factors_multiply_back() -> bool {
     multiplied
 }
 
-/// The powers of x modulo x^4 + x + 1, which is primitive over GF(2): bit i is the coefficient of x^i.
-static POWERS: [u8; 16] = [1, 2, 4, 8, 3, 6, 12, 11, 5, 10, 7, 14, 15, 13, 9, 1];
-
-/// Whether the first columns of the powers of the companion matrix of x^4 + x + 1 are these.
-fn companion_runs_through_its_field() -> bool {
-    let coefficients = [byte(1), byte(1), byte(0), byte(0)];
-    let mut companion = [Rijndael8b::ZERO; 16];
-    companion_into(Elements::<Rijndael8b>::new(), &mut companion, &coefficients);
-    for exponent in 0..16 {
-        let mut power = companion;
-        let mut spare = companion;
-        power_into(
-            Elements::<Rijndael8b>::new(),
-            &mut power,
-            &companion,
-            4,
-            exponent,
-            &mut spare,
-        );
-        let bits = POWERS[exponent as usize];
-        if power[0] != byte(bits & 1)
-            || power[4] != byte(bits >> 1 & 1)
-            || power[8] != byte(bits >> 2 & 1)
-            || power[12] != byte(bits >> 3)
-        {
-            return false;
-        }
-    }
-    true
-}
-
 #[test]
 fn triangular_factors_and_draws(rt: HostRuntime) {
     assert!(rt; worked_and_drawn_factors_multiply_back());
-}
-
-#[test]
-fn powers_of_a_companion_matrix(rt: HostRuntime) {
-    assert!(rt; companion_runs_through_its_field());
 }

@@ -5,11 +5,10 @@ use bits_packed::{
     PackedGf2x8, PackedGf2x16, PackedGf2x32, PackedGf2x64, PackedGf2x128, PackedGf2x256,
     PackedGf2x512,
 };
-use bits_rows::{M256, Underlier};
 use field_base::Gf2;
 use field_base::traits::PrimeCharacteristicRing;
 use field_element::{Ghash128, PackedGhash128};
-use packed_lanes::PackedValue;
+use packed_lanes::{M256, PackedValue, Underlier};
 use std::array;
 
 fn packing_of(lanes: [u128; 4]) -> PackedGhash128 {

@@ -1,6 +1,7 @@
 // Slices of elements, and slices as packings. `batch_multiplicative_inverse`, `powers_vec`, `shifted_powers_vec` and `eq_poly` of two or
 // three elements, each granted in a heap with room, and refused in one without; nothing is left behind. `pack_slice` and
 // `packed_powers_vec` of 0 to 9 values, each growth refused in turn.
+use crate::{Ending, Growing, Rest, is_refused_in_turn};
 use field_base::traits::PrimeCharacteristicRing;
 use field_element::Ghash128;
 use field_slices::{
@@ -10,7 +11,6 @@ use field_slices::{
 use linked_list_allocator::LocalHeap;
 use std::alloc::{AllocError, Allocator, Global};
 use std::test::Fail;
-use test_support::{Ending, Growing, Rest, is_refused_in_turn};
 
 /// Whether every call that takes memory is granted it, or every one refused.
 fn all_are<A: Allocator>(alloc: &A, granted: bool) -> bool {

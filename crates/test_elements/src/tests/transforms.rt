@@ -1,13 +1,13 @@
 // Calls of transforms that take memory, each growth refused in turn, and granted where there is memory: `LowStageTwiddles::new` with bases
 // of 3 to 257 elements; and `forward_with`, `forward`, `forward_numbers` and `Transform::new` at 2^0 to 2^8 values. What they leave, also
 // where memory is refused, the contracts say. Fewer than 16 values take no memory, but for `Transform::new`.
+use crate::{Ending, Growing, Rest, fill, is_refused_in_turn};
 use additive_transforms::{
     PolyKernel, Transform as KeptTransform, forward, forward_numbers, forward_with,
 };
 use ghash_slices::LowStageTwiddles;
 use linked_list_allocator::LocalHeap;
 use std::alloc::{AllocError, Allocator, Global};
-use test_support::{Ending, Growing, Rest, fill, is_refused_in_turn};
 
 // Twiddles with a basis of so many elements.
 #[derive(Drop)]

@@ -1,12 +1,12 @@
 // Vectors of zeros. `zero_vec` has one body for every ring; it is tried over the field of GHASH and over GF(2), at each length
 // from 0 to 257: each growth is refused in turn, nothing is left behind, and the call succeeds where there is memory.
+use crate::{Ending, Growing, Rest, is_refused_in_turn};
 use field_base::traits::PrimeCharacteristicRing;
 use field_base::{Gf2, Stored};
 use field_element::{Element, HasPacking};
 use linked_list_allocator::LocalHeap;
 use std::alloc::{AllocError, Global};
 use std::marker::PhantomData;
-use test_support::{Ending, Growing, Rest, is_refused_in_turn};
 use word_polynomial::GhashKernel;
 
 /// So many zeros.

@@ -5,7 +5,7 @@ use field_element::BinaryField8;
 use linked_list_allocator::LocalHeap;
 use protocols::extension::{encode, extend};
 use std::alloc::{AllocError, Allocator, Global};
-use test_support::{Ending, Growing, Rest, is_refused_in_turn};
+use test_elements::{Ending, Growing, Rest, is_refused_in_turn};
 
 // How many elements the code word of a message of 2^levels elements has, up to 8 of them and a rate down to 1/16, or 0.
 fn length_of<F: TowerLevel, A: Allocator + Copy>(

@@ -5,7 +5,7 @@
 //   other symbols in 21 columns, and sends the row that the point folds the code words to.
 // - Of a field of 256 elements and places one in each of four blocks of 16, `proximity::few_cheats_in_blocks` allows at most the share
 //   21 / 256 + (43 / 64)^4 of points and places that accept: 2857 of 10,000.
-ghost use Rattle.merkle_trees.specs.Openings.{AreAscending};
+ghost use Rattle.transcripts.specs.Openings.{AreAscending};
 
 use crate::tests::tables::{drawn, is_accepted};
 use additive_transforms::element_point;
@@ -16,7 +16,7 @@ use protocols::merkle_tree::MerkleTree;
 use protocols::proof_bytes::encode;
 use protocols::tables::{TableColumns, open_columns};
 use std::alloc::{AllocError, Global};
-use test_support::next_word;
+use test_elements::next_word;
 use transcript_elements::ByteLevel;
 use transcripts::Sha256Hasher;
 

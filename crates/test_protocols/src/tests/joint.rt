@@ -10,7 +10,7 @@ use protocols::commitment_scheme::{Parameters, commit};
 use protocols::joint_tables::{OpenedTables, open_tables, verify_tables};
 use std::alloc::{AllocError, Allocator, Global};
 use std::test::Fail;
-use test_support::{Ending, Growing, Rest, is_refused_in_turn};
+use test_elements::{Ending, Growing, Rest, is_refused_in_turn};
 use transcripts::{CanSample, Sha256Hasher};
 
 type Wide = BinaryField32;

@@ -10,7 +10,7 @@ use protocols::commitment::{accepts, prove};
 use protocols::merkle_tree::MerkleTree;
 use std::alloc::{AllocError, Global};
 use std::test::Fail;
-use test_support::next_word;
+use test_elements::next_word;
 use transcripts::{GrindError, MerkleCap, Sha256Hasher};
 use word_tower::{Bits64, Tower};
 

@@ -6,7 +6,7 @@ use protocols::merkle_tree::MerkleTree;
 use protocols::openings::verify_many;
 use std::alloc::{AllocError, Global};
 use std::test::Fail;
-use test_support::{Ending, Growing, Rest, is_refused_in_turn};
+use test_elements::{Ending, Growing, Rest, is_refused_in_turn};
 use transcripts::{MerkleCap, Sha256Hasher};
 
 // Eight rows of three bytes.

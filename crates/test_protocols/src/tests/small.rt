@@ -6,14 +6,13 @@ use super::challengers::asked::hashed;
 use super::tables::increment;
 use field_base::traits::PrimeCharacteristicRing;
 use field_bytes::ShortElement;
-use field_element::{BinaryField8, BinaryField32};
-use field_space::BasedVectorSpace;
+use field_element::{BasedVectorSpace, BinaryField8, BinaryField32};
 use linked_list_allocator::LocalHeap;
 use protocols::ProtocolError;
 use protocols::commitment_scheme::{ClaimedValue, Parameters, ValueOpening, commit};
 use protocols::small_tables::{OpenedSmall, SmallField, SmallOpening, open_small, verify_small};
 use std::alloc::{AllocError, Allocator, Global};
-use test_support::{Ending, Growing, Rest, is_refused_in_turn};
+use test_elements::{Ending, Growing, Rest, is_refused_in_turn};
 use transcript_elements::ByteLevel;
 use transcripts::Sha256Hasher;
 

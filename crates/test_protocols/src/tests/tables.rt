@@ -8,7 +8,7 @@ use protocols::tables::{
     ClaimedRow, ColumnOpening, column_values, commit_table, open_columns, verify_columns,
 };
 use std::alloc::{AllocError, Global};
-use test_support::next_word;
+use test_elements::next_word;
 use transcript_elements::ByteLevel;
 use transcripts::Sha256Hasher;
 

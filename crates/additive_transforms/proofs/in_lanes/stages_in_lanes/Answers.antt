@@ -2,7 +2,7 @@ use Rattle.std.proofs.Common.{◌^◌}
 use Rattle.std.proofs.lemmas.Nat.{pow_pos}
 use Rattle.field_base.specs.Tower.{tower_mul}
 use Rattle.field_base.proofs.TowerRing.{tower_ring}
-use Rattle.additive_transforms.specs.LevelVectorLemmas.{level_vectors}
+use Rattle.additive_transforms.specs.lemmas.LevelVector.{level_vectors}
 use Rattle.additive_transforms.specs.Rows.{level_of}
 use Rattle.additive_transforms.proofs.LaneStages.{joint-lt, rows_back, rows_on, six_bits, six_stages}
 use Rattle.additive_transforms.proofs.in_lanes.stages_in_lanes.Goals as goal

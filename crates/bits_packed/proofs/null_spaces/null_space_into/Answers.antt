@@ -1,6 +1,6 @@
 use Rattle.std.proofs.Common.{length}
 use Rattle.std.specs.Prelude.{slice_index}
-use Rattle.field_base.specs.BitRingLemmas.{bits_ring}
+use Rattle.field_base.specs.lemmas.BitRing.{bits_ring}
 use Rattle.field_base.specs.Tower.{tower_mul}
 use Rattle.field_slices.proofs.NullSpaces.{rank-columns}
 use Rattle.bits_packed.specs.BitMatrices.{bit_entry, words_for}

@@ -1,6 +1,6 @@
 use Rattle.std.proofs.Common.{◌≡◌, ◌+◌, ◌-◌, length, ◌∙◌, arith}
 use Rattle.std.specs.Prelude.{slice_index}
-use Rattle.field_base.specs.BitRingLemmas.{bits_ring}
+use Rattle.field_base.specs.lemmas.BitRing.{bits_ring}
 use Rattle.field_base.specs.Tower.{tower_mul}
 use Rattle.field_slices.proofs.NullSpaces.{free-here, vector-fits}
 use Rattle.field_slices.proofs.NullSpaces.{vectors_start, vectors_pass, vectors_add, vectors_count, vectors_end, vectors_same}

@@ -1,7 +1,7 @@
 use Rattle.std.proofs.Common.{◌*◌, ◌%◌, ◌∙◌, refl, arith}
 use Rattle.std.specs.Prelude.{slice_index}
 use Rattle.std.proofs.lemmas.List.{get_or-set_other}
-use Rattle.field_base.specs.BitRingLemmas.{bits_ring}
+use Rattle.field_base.specs.lemmas.BitRing.{bits_ring}
 use Rattle.field_base.specs.Tower.{tower_mul}
 use Rattle.field_slices.proofs.Elimination.{echelon_noted, echelon_skip}
 use Rattle.field_slices.proofs.RowSpaces.{space_same}

@@ -1,7 +1,7 @@
 use Rattle.std.proofs.Common.{◌≡◌, ◌+◌, ◌*◌, ◌/◌, ℕ, refl, arith, subst}
 use Rattle.std.proofs.lemmas.Grind.{div_ceil_times}
 use Rattle.std.specs.Prelude.{slice_index}
-use Rattle.field_base.specs.BitRingLemmas.{bits_ring}
+use Rattle.field_base.specs.lemmas.BitRing.{bits_ring}
 use Rattle.field_base.specs.Tower.{tower_mul}
 use Rattle.field_slices.specs.Matrices.{HaveSameRowSpace, IsReducedEchelon, IsSolution}
 use Rattle.field_slices.proofs.LinearSystems.{solution_found, solution_missing}

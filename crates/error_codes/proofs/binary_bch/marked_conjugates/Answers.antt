@@ -4,7 +4,7 @@ use Rattle.error_codes.specs.BinaryBch.{IsSquaring}
 use Rattle.error_codes.specs.ByteFields.{byte_times}
 use Rattle.error_codes.specs.Filling.{is_marked}
 use Rattle.error_codes.proofs.BinaryCodes.{conjugates-more, conjugates-none}
-use Rattle.error_codes.specs.ByteFieldLemmas.{bytes_are_fields}
+use Rattle.error_codes.specs.lemmas.ByteField.{bytes_are_fields}
 use Rattle.error_codes.proofs.binary_bch.marked_conjugates.Goals as goal
 
 pub loop-m-init : goal.loop-m-init

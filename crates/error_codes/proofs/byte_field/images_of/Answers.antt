@@ -1,5 +1,5 @@
 use Rattle.error_codes.specs.ByteFields.{byte_times}
-use Rattle.error_codes.specs.ByteFieldLemmas.{bytes_are_fields}
+use Rattle.error_codes.specs.lemmas.ByteField.{bytes_are_fields}
 use Rattle.error_codes.proofs.WordColumns.{images_are}
 use Rattle.error_codes.proofs.byte_field.images_of.Goals as goal
 

@@ -1,7 +1,7 @@
 use Rattle.std.proofs.Common.{◌∙◌, ap, arith, lit<}
 use Rattle.field_base.proofs.FieldLemmas.{power-inverts}
 use Rattle.error_codes.specs.ByteFields.{byte_times}
-use Rattle.error_codes.specs.ByteFieldLemmas.{bytes_are_fields}
+use Rattle.error_codes.specs.lemmas.ByteField.{bytes_are_fields}
 use Rattle.error_codes.proofs.byte_field.invert.Goals as goal
 
 pub returns : goal.returns

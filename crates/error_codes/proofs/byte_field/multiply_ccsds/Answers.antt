@@ -1,5 +1,5 @@
 use Rattle.std.proofs.Common.{◌∙◌, arith}
-use Rattle.error_codes.specs.ByteFieldLemmas.{ccsds_products}
+use Rattle.error_codes.specs.lemmas.ByteField.{ccsds_products}
 use Rattle.error_codes.proofs.byte_field.multiply_ccsds.Goals as goal
 
 pub power_of_sum-requires : goal.power_of_sum-requires

@@ -1,5 +1,5 @@
 use Rattle.std.proofs.Common.{◌∙◌, arith}
-use Rattle.error_codes.specs.ByteFieldLemmas.{rijndael_products}
+use Rattle.error_codes.specs.lemmas.ByteField.{rijndael_products}
 use Rattle.error_codes.proofs.byte_field.multiply_rijndael.Goals as goal
 
 pub power_of_sum-requires : goal.power_of_sum-requires

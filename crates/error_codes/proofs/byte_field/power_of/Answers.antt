@@ -1,7 +1,7 @@
 use Rattle.std.proofs.Common.{◌≡◌, ◌<◌, ℕ, refl, sym, ◌∙◌, arith, ◌%◌, lit<, subst}
 use Rattle.field_base.proofs.PowerLemmas.{power_start, power_step, power_skip, power_end}
 use Rattle.error_codes.specs.ByteFields.{byte_times}
-use Rattle.error_codes.specs.ByteFieldLemmas.{bytes_are_fields}
+use Rattle.error_codes.specs.lemmas.ByteField.{bytes_are_fields}
 use Rattle.error_codes.proofs.byte_field.power_of.Goals as goal
 use Rattle.error_codes.proofs.byte_field.power_of.Goals.{then-rest-eq1, else-rest-eq1}
 

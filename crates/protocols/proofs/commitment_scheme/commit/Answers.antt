@@ -1,6 +1,6 @@
 use Rattle.std.proofs.Common.{◌+◌, ◌^◌, ℕ, map, ◌∙◌, ap, subst}
 use Rattle.field_bytes.specs.Streams.{joined_bytes}
-use Rattle.merkle_trees.specs.Commitments.{IsTreeOver, row_at}
+use Rattle.transcripts.specs.Commitments.{IsTreeOver, row_at}
 use Rattle.protocols.specs.CommitmentScheme.{matrix_rows}
 use Rattle.protocols.specs.Tables.{AreExtendedColumns}
 use Rattle.protocols.proofs.BlockPlaces.{matrix-whole}

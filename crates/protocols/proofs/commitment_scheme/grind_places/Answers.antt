@@ -1,5 +1,5 @@
 use Rattle.std.proofs.Common.{◌^◌, ℕ, List, inl, length, sym, ◌∙◌, ap, subst}
-use Rattle.merkle_trees.specs.Openings.{AreAscending}
+use Rattle.transcripts.specs.Openings.{AreAscending}
 use Rattle.sum_checks.specs.Refusals.{error_of_call}
 use Rattle.protocols.specs.CommitmentScheme.{block_places, place_bits, word_levels}
 use Rattle.protocols.proofs.BlockPlaces.{ascending, blocks-whole}

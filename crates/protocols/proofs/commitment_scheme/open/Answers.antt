@@ -4,8 +4,8 @@ use Rattle.std.specs.List.{range_with_len}
 use Rattle.std.proofs.lemmas.List.{length-drop, length-map, length-take-le, take-append-drop}
 use Rattle.std.proofs.lemmas.List.FromFn.{length-map-range_with_len}
 use Rattle.field_slices.specs.Multilinear.{multilinear_value}
-use Rattle.merkle_trees.specs.Commitments.{row_at}
-use Rattle.merkle_trees.specs.Openings.{AreAscending}
+use Rattle.transcripts.specs.Commitments.{row_at}
+use Rattle.transcripts.specs.Openings.{AreAscending}
 use Rattle.protocols.specs.CommitmentScheme.{ArePlacesDrawn, StopsOpening, matrix_rows, row_levels, word_levels}
 use Rattle.protocols.specs.Tables.{IsHonestOpening}
 use Rattle.protocols.proofs.BlockPlaces.{columns-counted, columns-held}

@@ -1,7 +1,7 @@
 use Rattle.std.proofs.Common.{◌≡◌, ◌++◌, ◌*◌, ◌^◌, ℕ, length, map, take, sym, ◌∙◌, ap}
 use Rattle.std.proofs.lemmas.List.{length-map}
 use Rattle.protocols.specs.CodeWords.{IsCodeWordOf}
-use Rattle.merkle_trees.specs.Commitments.{row_at}
+use Rattle.transcripts.specs.Commitments.{row_at}
 use Rattle.protocols.proofs.CodeColumns.{rows-more, rows-size}
 use Rattle.protocols.proofs.interleaved.extend_rows.Goals as goal
 

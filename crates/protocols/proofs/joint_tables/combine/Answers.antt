@@ -4,7 +4,7 @@ use Rattle.std.specs.List.{range_with_len}
 use Rattle.std.proofs.Math.Nat.{pow-le-pow_right}
 use Rattle.std.proofs.lemmas.List.{length-map}
 use Rattle.field_slices.specs.Multilinear.{multilinear_value}
-use Rattle.merkle_trees.specs.Commitments.{row_at}
+use Rattle.transcripts.specs.Commitments.{row_at}
 use Rattle.protocols.specs.JointTables.{sent_column, stacked}
 use Rattle.protocols.proofs.HonestTables.{listed-same, row_symbols, stacked-symbols}
 use Rattle.protocols.proofs.StackedTables.{value-same}

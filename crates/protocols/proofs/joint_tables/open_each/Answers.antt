@@ -1,7 +1,7 @@
 use Rattle.std.proofs.Common.{◌≡◌, ◌+◌, ◌*◌, ◌^◌, ◌∷◌, [], ℕ, List, length, map, get_or, sym, ◌∙◌, ap, subst, arith}
 use Rattle.std.proofs.lemmas.List.{length-append}
 use Rattle.std.proofs.lemmas.List.Elements.{All-get_or}
-use Rattle.merkle_trees.specs.Openings.{AreAscending}
+use Rattle.transcripts.specs.Openings.{AreAscending}
 use Rattle.protocols.specs.CommitmentScheme.{matrix_rows, row_levels, word_levels}
 use Rattle.protocols.specs.Tables.{IsHonestOpening}
 use Rattle.protocols.proofs.BlockPlaces.{columns-counted}

@@ -4,8 +4,8 @@ use Rattle.std.specs.List.{range_with_len}
 use Rattle.std.proofs.lemmas.List.{length-map}
 use Rattle.std.proofs.lemmas.Nat.{pow-add}
 use Rattle.field_slices.specs.Multilinear.{multilinear_value}
-use Rattle.merkle_trees.specs.Commitments.{root_of}
-use Rattle.merkle_trees.specs.Openings.{AreAscending}
+use Rattle.transcripts.specs.Commitments.{root_of}
+use Rattle.transcripts.specs.Openings.{AreAscending}
 use Rattle.protocols.specs.CommitmentScheme.{ArePlacesDrawn, StopsOpening, matrix_rows, row_levels, word_levels}
 use Rattle.protocols.specs.JointTables.{AreTablesCombined, EachBelow, sent_tables}
 use Rattle.protocols.specs.Tables.{IsHonestOpening}

@@ -2,8 +2,8 @@ use Rattle.std.proofs.Common.{◌≡◌, ◌+◌, ◌*◌, ◌<◌, ◌^◌, ℕ
 use Rattle.std.proofs.lemmas.Bool.{true≢false}
 use native.Mathlib.Nat.{mul_assoc}
 use Rattle.field_bytes.specs.Streams.{joined_bytes}
-use Rattle.merkle_trees.specs.Commitments.{row_at}
-use Rattle.merkle_trees.specs.Openings.{OpensRows}
+use Rattle.transcripts.specs.Commitments.{row_at}
+use Rattle.transcripts.specs.Openings.{OpensRows}
 use Rattle.protocols.specs.CommitmentScheme.{matrix_rows, word_levels}
 use Rattle.protocols.proofs.ProofBytes.{length-proof}
 use Rattle.protocols.proofs.TableOpenings.{column-bytes, opens-same}

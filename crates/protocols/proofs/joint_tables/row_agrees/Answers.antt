@@ -5,7 +5,7 @@ use Rattle.std.proofs.lemmas.Bool.{true≢false}
 use Rattle.std.proofs.lemmas.List.{length-append, length-map, map-append, take-map}
 use Rattle.std.proofs.lemmas.Nat.{pow-add}
 use Rattle.field_slices.specs.Multilinear.{multilinear_value}
-use Rattle.merkle_trees.specs.Commitments.{row_at}
+use Rattle.transcripts.specs.Commitments.{row_at}
 use Rattle.protocols.specs.CommitmentScheme.{matrix_rows, row_levels}
 use Rattle.protocols.specs.JointTables.{sent_column, stacked}
 use Rattle.protocols.specs.Tables.{AgreesAt}

@@ -1,7 +1,7 @@
 use Rattle.std.proofs.Common.{◌^◌, ℕ, List, length, map, take, ◌∙◌, ap, ap₂, arith}
 use Rattle.std.specs.List.{range_with_len}
 use Rattle.field_slices.specs.Multilinear.{multilinear_value}
-use Rattle.merkle_trees.specs.Commitments.{row_at}
+use Rattle.transcripts.specs.Commitments.{row_at}
 use Rattle.protocols.specs.CommitmentScheme.{matrix_rows, row_levels}
 use Rattle.protocols.proofs.BlockPlaces.{columns-held}
 use Rattle.protocols.proofs.joint_tables.row_of_values.Goals as goal

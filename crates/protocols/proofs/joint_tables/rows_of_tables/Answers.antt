@@ -3,7 +3,7 @@ use Rattle.std.specs.List.{range_with_len}
 use Rattle.std.proofs.lemmas.List.{length-append}
 use Rattle.std.proofs.lemmas.List.Elements.{All-get_or}
 use Rattle.field_slices.specs.Multilinear.{multilinear_value}
-use Rattle.merkle_trees.specs.Commitments.{row_at}
+use Rattle.transcripts.specs.Commitments.{row_at}
 use Rattle.protocols.specs.CommitmentScheme.{matrix_rows, row_levels}
 use Rattle.protocols.proofs.HonestTables.{below-more, mapped-before, mapped-last}
 use Rattle.protocols.proofs.joint_tables.rows_of_tables.Goals as goal

@@ -1,7 +1,7 @@
 use Rattle.std.proofs.Common.{◌≡◌, ◌^◌, [], length, map, take, get_or}
 use Rattle.std.specs.List.{range_with_len}
 use Rattle.field_slices.specs.Multilinear.{multilinear_value}
-use Rattle.merkle_trees.specs.Commitments.{row_at}
+use Rattle.transcripts.specs.Commitments.{row_at}
 use Rattle.protocols.specs.CommitmentScheme.{matrix_rows, row_levels}
 use Rattle.protocols.specs.JointTables.{EachBelow}
 use Rattle.protocols.proofs.joint_tables.rows_of_tables.Given as goal

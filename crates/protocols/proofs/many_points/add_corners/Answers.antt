@@ -4,7 +4,7 @@ use Rattle.std.specs.List.{range_with_len}
 use Rattle.std.proofs.lemmas.List.FromFn.{length-map-range_with_len}
 use Rattle.field_base.proofs.Places.{number-at}
 use Rattle.field_slices.specs.Multilinear.{eq_corner}
-use Rattle.merkle_trees.specs.Commitments.{row_at}
+use Rattle.transcripts.specs.Commitments.{row_at}
 use Rattle.protocols.proofs.HonestOpenings.{row-counted}
 use Rattle.protocols.proofs.HonestTables.{listed-at}
 use Rattle.protocols.proofs.OpenedColumns.{column-long}

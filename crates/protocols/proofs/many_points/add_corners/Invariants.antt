@@ -1,7 +1,7 @@
 use Rattle.std.proofs.Common.{◌≡◌, ◌^◌, map}
 use Rattle.std.specs.List.{range_with_len}
 use Rattle.field_slices.specs.Multilinear.{eq_corner}
-use Rattle.merkle_trees.specs.Commitments.{row_at}
+use Rattle.transcripts.specs.Commitments.{row_at}
 use Rattle.protocols.proofs.ScaledTables.{scaled_at}
 use Rattle.protocols.proofs.many_points.add_corners.Given as goal
 

@@ -1,7 +1,7 @@
 use Rattle.std.proofs.Common.{◌≡◌, ◌≤◌, ◌^◌, ℕ, List, length, map, sym, ◌∙◌, ap, subst, arith}
 use Rattle.field_slices.specs.Multilinear.{multilinear_value}
 use Rattle.field_slices.proofs.PowerLists.{pushed}
-use Rattle.merkle_trees.specs.Commitments.{row_at}
+use Rattle.transcripts.specs.Commitments.{row_at}
 use Rattle.protocols.proofs.HonestOpenings.{row-counted}
 use Rattle.protocols.proofs.OpenedColumns.{column-long}
 use Rattle.protocols.proofs.ScaledTables.{row-inside}

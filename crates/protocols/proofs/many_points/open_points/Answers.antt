@@ -3,7 +3,7 @@ use Rattle.std.specs.Prelude.{slice_index}
 use Rattle.std.specs.List.{range_with_len}
 use Rattle.std.proofs.lemmas.List.{length-map}
 use Rattle.field_slices.specs.Multilinear.{multilinear_value}
-use Rattle.merkle_trees.specs.Commitments.{row_at}
+use Rattle.transcripts.specs.Commitments.{row_at}
 use Rattle.sum_checks.proofs.Soundness.{honest_reduces}
 use Rattle.protocols.specs.CommitmentScheme.{StopsOpening}
 use Rattle.protocols.specs.JointTables.{AreTablesCombined, IsHonestOpeningOf, sent_tables}

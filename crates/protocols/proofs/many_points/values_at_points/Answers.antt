@@ -3,7 +3,7 @@ use Rattle.std.proofs.Math.Nat.{div-lt_iff_lt-mul, mod-lt, mul-le-mul}
 use Rattle.std.proofs.lemmas.List.Elements.{All-get_or}
 use Rattle.field_slices.specs.Multilinear.{multilinear_value}
 use Rattle.field_slices.proofs.PowerLists.{pushed}
-use Rattle.merkle_trees.specs.Commitments.{row_at}
+use Rattle.transcripts.specs.Commitments.{row_at}
 use Rattle.protocols.proofs.HonestTables.{mapped-at}
 use Rattle.protocols.proofs.OpenedColumns.{column-long}
 use Rattle.protocols.proofs.ScaledTables.{factor-some, row-inside}

@@ -2,7 +2,7 @@ use Rattle.std.proofs.Common.{◌≡◌, ◌≤◌, ◌^◌, ℕ, List, length, 
 use Rattle.std.specs.List.{range_with_len}
 use Rattle.std.proofs.lemmas.List.{length-map, length-replicate, take_at}
 use Rattle.field_slices.specs.Multilinear.{eq_corner}
-use Rattle.merkle_trees.specs.Commitments.{row_at}
+use Rattle.transcripts.specs.Commitments.{row_at}
 use Rattle.protocols.proofs.HonestOpenings.{row-counted}
 use Rattle.protocols.proofs.ScaledTables.{scaled-whole, scaled_at, zeros-at}
 use Rattle.protocols.proofs.many_points.weigh_corners.Goals as goal

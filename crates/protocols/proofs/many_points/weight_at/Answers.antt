@@ -1,6 +1,6 @@
 use Rattle.std.proofs.Common.{◌≡◌, ◌≤◌, ◌^◌, ℕ, List, length, map, sym, ◌∙◌, ap, subst, arith}
 use Rattle.field_slices.proofs.PowerLists.{pushed}
-use Rattle.merkle_trees.specs.Commitments.{row_at}
+use Rattle.transcripts.specs.Commitments.{row_at}
 use Rattle.sum_checks.specs.ZeroCheck.{eq_point}
 use Rattle.protocols.proofs.HonestOpenings.{row-counted}
 use Rattle.protocols.proofs.OpenedColumns.{column-long}

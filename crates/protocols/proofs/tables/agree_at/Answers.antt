@@ -2,7 +2,7 @@ use Rattle.std.proofs.Common.{◌≡◌, ◌<◌, ℕ, length, map, sym, ◌∙�
 use Rattle.std.specs.Prelude.{slice_index}
 use Rattle.field_slices.specs.Multilinear.{multilinear_value}
 use Rattle.field_base.proofs.Places.{number-at}
-use Rattle.merkle_trees.specs.Commitments.{row_at}
+use Rattle.transcripts.specs.Commitments.{row_at}
 use Rattle.protocols.proofs.TableRows.{each-more}
 use Rattle.protocols.proofs.tables.agree_at.Goals as goal
 

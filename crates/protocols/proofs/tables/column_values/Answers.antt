@@ -1,7 +1,7 @@
 use Rattle.std.proofs.Common.{◌^◌, ℕ, length, map, ◌∙◌, ap}
 use Rattle.field_slices.specs.Multilinear.{multilinear_value}
 use Rattle.field_slices.proofs.PowerLists.{pushed}
-use Rattle.merkle_trees.specs.Commitments.{row_at}
+use Rattle.transcripts.specs.Commitments.{row_at}
 use Rattle.protocols.proofs.tables.column_values.Goals as goal
 
 pub columns-preserved : goal.columns-preserved

@@ -3,7 +3,7 @@ use Rattle.std.specs.Prelude.{slice_index}
 use Rattle.std.proofs.lemmas.List.{length-drop, length-take-le}
 use Rattle.std.proofs.Math.Nat.{add-mul}
 use native.Mathlib.Nat.{one-mul}
-use Rattle.merkle_trees.specs.Commitments.{row_at}
+use Rattle.transcripts.specs.Commitments.{row_at}
 use Rattle.protocols.proofs.CodeColumns.{rows-more, rows-size}
 use Rattle.protocols.proofs.tables.columns_at.Goals as goal
 

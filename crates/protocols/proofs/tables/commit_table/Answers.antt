@@ -2,8 +2,8 @@ use Rattle.std.proofs.Common.{◌≡◌, ◌+◌, ◌*◌, ◌^◌, ◌<◌, ℕ
 use Rattle.std.proofs.lemmas.Nat.{pow-add}
 use native.Mathlib.Nat.{mul_assoc}
 use Rattle.field_bytes.specs.Streams.{joined_bytes}
-use Rattle.merkle_trees.specs.Commitments.{row_at}
-use Rattle.merkle_trees.specs.MerkleTrees.{row_input}
+use Rattle.transcripts.specs.Commitments.{row_at}
+use Rattle.transcripts.specs.MerkleTrees.{row_input}
 use Rattle.protocols.specs.Tables.{AreExtendedColumns, column_at}
 use Rattle.protocols.proofs.ProofBytes.{length-proof}
 use Rattle.protocols.proofs.TableOpenings.{column-bytes, extended-columns}

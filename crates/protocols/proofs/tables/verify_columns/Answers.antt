@@ -5,8 +5,8 @@ use Rattle.std.proofs.lemmas.List.{length-map, take-map}
 use native.Mathlib.Nat.{mul_assoc}
 use Rattle.field_bytes.specs.Streams.{joined_bytes}
 use Rattle.field_slices.specs.Multilinear.{multilinear_value}
-use Rattle.merkle_trees.specs.Commitments.{row_at}
-use Rattle.merkle_trees.specs.Openings.{OpensRows}
+use Rattle.transcripts.specs.Commitments.{row_at}
+use Rattle.transcripts.specs.Openings.{OpensRows}
 use Rattle.protocols.proofs.ProofBytes.{length-proof}
 use Rattle.protocols.proofs.TableOpenings.{agrees-by, column-bytes, opens-same, row-long, vectors-fit}
 use Rattle.protocols.proofs.tables.verify_columns.Goals as goal

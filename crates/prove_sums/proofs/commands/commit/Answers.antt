@@ -1,8 +1,8 @@
 use Rattle.std.proofs.Common.{rules, ◌≡◌, ◌^◌, ℕ, List, length, sym, ◌∙◌, ap, subst}
 use Rattle.field_bytes.specs.Streams.{joined_bytes}
 use Rattle.field_element.specs.Element.{repr_of}
-use Rattle.merkle_trees.specs.Commitments.{row_at}
-use Rattle.merkle_trees.specs.MerkleTrees.{rows_root}
+use Rattle.transcripts.specs.Commitments.{row_at}
+use Rattle.transcripts.specs.MerkleTrees.{rows_root}
 use Rattle.protocols.specs.CommitmentScheme.{matrix_rows}
 use Rattle.prove_sums.specs.Tables.{IsTable}
 use Rattle.prove_sums.proofs.commands.commit.Goals as goal

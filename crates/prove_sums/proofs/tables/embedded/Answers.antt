@@ -2,7 +2,7 @@ use Rattle.std.proofs.Common.{ℕ, ◌%◌, ◌^◌, List, length, map, ◌∙�
 use Rattle.field_bytes.specs.Bytes.{number_of_bytes}
 use Rattle.field_element.specs.Element.{repr_of}
 use Rattle.field_slices.proofs.PowerLists.{pushed}
-use Rattle.merkle_trees.specs.Commitments.{row_at}
+use Rattle.transcripts.specs.Commitments.{row_at}
 use Rattle.protocols.proofs.ProofBytes.{part-fits, part-size}
 use Rattle.additive_transforms.specs.Images.{tower_image}
 use Rattle.prove_sums.proofs.TableWords.{words-embedded}

@@ -2,7 +2,7 @@ use Rattle.std.proofs.Common.{◌≡◌, ◌%◌, ◌^◌, map}
 use Rattle.std.specs.List.{range_with_len}
 use Rattle.field_bytes.specs.Bytes.{number_of_bytes}
 use Rattle.field_element.specs.Element.{repr_of}
-use Rattle.merkle_trees.specs.Commitments.{row_at}
+use Rattle.transcripts.specs.Commitments.{row_at}
 use Rattle.prove_sums.proofs.tables.embedded.Given as goal
 
 -- the words so far are those of the bytes

@@ -1,8 +1,8 @@
 // A closure that counts its calls: `PackedGf2x512::from_fn` and `M256::from_words_fn` call it with each index once, in order.
 use bits_packed::PackedGf2x512;
-use bits_rows::{M256, Underlier};
 use field_base::Gf2;
 use field_base::traits::{PrimeCharacteristicRing, TowerLevel};
+use packed_lanes::{M256, Underlier};
 
 // How often a closure was called, and whether its arguments were 0, 1, 2 and so on.
 #[derive(Clone, Copy)]

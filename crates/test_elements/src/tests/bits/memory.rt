@@ -1,13 +1,13 @@
 // Rows and packed bits that are taken apart into vectors: a worked row, and `split_copied`, `narrow_copied` and `bytes_copied` of 0 to 257
 // rows of 16 bits and of 0 to 65 of 128 bits, drawn from the seed 29 plus their number. Each growth is refused in turn, nothing is left
 // behind, and where there is memory the call succeeds. A call that refuses some lengths, some rows or some contents fails here.
+use crate::{Ending, Growing, Rest, is_refused_in_turn, next_number};
 use bits_packed::{PackedGf2, PackedGf2x8, PackedGf2x16};
-use bits_rows::{Divisible, M128, Underlier};
 use linked_list_allocator::LocalHeap;
+use packed_lanes::{Divisible, M128, Underlier};
 use std::alloc::{AllocError, Global};
 use std::marker::PhantomData;
 use std::test::Fail;
-use test_support::{Ending, Growing, Rest, is_refused_in_turn, next_number};
 
 // The parts of a row of 16 bits by the three calls, as the bytes of a number.
 fn parts_of(alloc: Global, row: u16) -> Result<[u8; 6], AllocError> {

@@ -1,6 +1,6 @@
 // Worked rows of packed bits and of blocks. Wider rows are lines of `replay_calls`.
 use bits_packed::PackedGf2x8;
-use bits_rows::{Divisible, M128, Underlier};
+use packed_lanes::{Divisible, M128, Underlier};
 
 // Whether these eight rows transpose to rows that are all `want`.
 fn transposes_to(rows: [u8; 8], want: u8) -> bool {

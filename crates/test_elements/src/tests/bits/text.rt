@@ -1,6 +1,6 @@
 // The printed text of packed bits and of blocks.
 use bits_packed::{PackedGf2x8, PackedGf2x128};
-use bits_rows::M128;
+use packed_lanes::M128;
 use std::alloc::Global;
 use std::fmt::Debug;
 use std::test::Fail;

@@ -1,12 +1,12 @@
 // Vectors of images of the tower in a field of polynomials: `from_tower_vec` of 0 to 257 elements for `Poly64` and for `Ghash128`, of which
 // the first is a worked row and the others are drawn, from the seed 31 plus their number. Each growth is refused in turn, nothing is left
 // behind, and where there is memory the call succeeds. A call that refuses some lengths or some elements fails here.
+use crate::{Ending, Growing, Rest, is_refused_in_turn, next_number};
 use field_base::Unsigned;
 use field_element::{Element, element_of_word, word_of};
 use linked_list_allocator::LocalHeap;
 use std::alloc::{AllocError, Global};
 use std::marker::PhantomData;
-use test_support::{Ending, Growing, Rest, is_refused_in_turn, next_number};
 use word_polynomial::{GhashModulus, Modulus, Poly64Modulus, Polynomials};
 use word_tower::{Bits64, Bits128, Level, Tower};
 

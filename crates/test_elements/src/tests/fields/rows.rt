@@ -1,8 +1,8 @@
 // Worked rows: Cantor vectors of eight bits, bits by the parity of a number, and matrices of 8 by 8 bits. The sum and the square of Cantor
 // vector 2 are lines of `binfield`. And that no instruction multiplies.
-use field_aes::ByteMatrix;
 use field_base::traits::{PrimeCharacteristicRing, TowerLevel};
 use field_base::{Gf2, QuotientMap};
+use field_bytes::ByteMatrix;
 use field_element::BinaryField8;
 use ghash_slices::HAS_HARDWARE_CLMUL;
 

@@ -1,8 +1,8 @@
 // Elements to JSON and back, and numbers that are refused, from a text and from a value that is given away. No contract says when
 // reading succeeds, nor which text an error holds. In the levels below a byte 2, 4 and 16, and each larger byte, get the error
 // `Value is out of range`; each smaller byte is read.
-use field_aes::LinearizedPoly8b;
 use field_base::{Gf2, ReadWord};
+use field_bytes::LinearizedPoly8b;
 use field_element::{Coefficients, Element, HasPacking};
 use serde::{Deserialize, DeserializeOwned, Serialize};
 use serde_json::{Error, Value};

@@ -1,12 +1,12 @@
 // Printed texts: `{:?}` prints the name of an element's type and its number, `{:x}` and its like the number in hexadecimal, and `{}` the
 // number. Two rows of the latter are worked: the numbers of representations above the field, and the text of the inverse of y.
+use crate::is_text;
 use field_base::traits::{PrimeCharacteristicRing, TowerLevel};
 use field_base::{Gf2, Stored, Unsigned};
 use field_element::{Element, HasPacking, Poly64, Poly192, element_of_word};
 use std::alloc::Global;
 use std::fmt;
 use std::fmt::{Debug, Display, HasDigits, LowerHex, UpperHex};
-use test_support::is_text;
 use word_polynomial::{GhashKernel, Poly64Kernel, RijndaelKernel};
 use word_tower::{Bits2, Bits4, Bits8, Bits16, Bits32, Bits64, Bits128, Tower};
 

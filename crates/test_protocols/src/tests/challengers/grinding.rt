@@ -1,7 +1,7 @@
 // Searches for witnesses over SHA-256, outside vectors, and the texts of the errors.
 use std::alloc::Global;
 use std::fmt::Display;
-use test_support::is_text;
+use test_elements::is_text;
 use transcript_elements::TranscriptError;
 use transcripts::{ChallengerError, GrindError};
 

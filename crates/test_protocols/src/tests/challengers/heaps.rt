@@ -11,7 +11,7 @@ use super::asked::{Asked, Hashed, Row, Said, element, hashed};
 use linked_list_allocator::LocalHeap;
 use std::alloc::{AllocError, Allocator, Global};
 use std::marker::PhantomData;
-use test_support::{Ending, Growing, Rest, fill_bytes, is_refused_in_turn, next_number};
+use test_elements::{Ending, Growing, Rest, fill_bytes, is_refused_in_turn, next_number};
 use transcript_elements::{ByteLevel, TranscriptField};
 use transcripts::{ChallengerError, Recorder};
 

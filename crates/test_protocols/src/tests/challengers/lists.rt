@@ -9,7 +9,7 @@ use super::many_calls::CALLS;
 use linked_list_allocator::LocalHeap;
 use std::alloc::{AllocError, Global};
 use std::marker::PhantomData;
-use test_support::{Ending, Growing, Rest, is_refused_in_turn};
+use test_elements::{Ending, Growing, Rest, is_refused_in_turn};
 use transcript_elements::{ByteLevel, Call, run_calls};
 use transcripts::ChallengerError;
 

@@ -11,7 +11,7 @@
 use super::asked::{Asked, EVERY_CALL, Row, Said, only_fails};
 use std::alloc::Global;
 use std::cell::Cell;
-use test_support::{Copies, Double, Seen};
+use test_elements::{Copies, Double, Seen};
 use transcript_elements::{BinaryChallenger, ByteLevel};
 
 /// What a double has seen: the numbers of bytes that were observed and sampled, and the last eight that were observed.

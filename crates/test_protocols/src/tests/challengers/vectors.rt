@@ -6,12 +6,12 @@ use super::asked::{
     Asked, EVERY_CALL, Row, Said, error_said, hashed, number_of, observed_said, only_fails,
 };
 use super::heaps::{InHeap, ending_of};
-use field_space::BasedVectorSpace;
+use field_element::BasedVectorSpace;
 use linked_list_allocator::LocalHeap;
 use std::alloc::{AllocError, Global};
 use std::cell::Cell;
 use std::marker::PhantomData;
-use test_support::{Copies, Double, Ending, Growing, Rest, Seen, is_refused_in_turn};
+use test_elements::{Copies, Double, Ending, Growing, Rest, Seen, is_refused_in_turn};
 use transcript_elements::{BinaryChallenger, ByteLevel, FieldChallenger};
 use transcripts::{ByteChallenger, CanSample, ChallengerError};
 

@@ -1,5 +1,4 @@
-use Rattle.std.proofs.Common.{◌≡◌, ℕ, ◌∙◌, ap, arith, lit<}
-use Rattle.field_base.specs.Powers.{repeated_square}
+use Rattle.std.proofs.Common.{arith, lit<}
 use Rattle.field_base.specs.Remainder.{mul_mod, ghash_modulus}
 use Rattle.field_base.proofs.RemainderRing.{ghash_ring}
 use Rattle.word_carryless.proofs.Chains.{squared_more, squared_none}
@@ -12,8 +11,3 @@ pub loop-preserved : goal.loop-preserved
 loop-preserved c =
     squared_more 128 (mul_mod 128 ghash_modulus) ghash_ring (lit< tt) c.loop.counter c.args.x c.loop.square c.square_mod_128-square.result
     c.square_mod_128-square.ensures c.loop.invariant
-
-pub returns : goal.returns
-returns c =
-    let last : c.loop.counter ≡ c.args.count = omega arith in
-    c.loop.invariant ∙ ap (λ (n : ℕ). repeated_square 1 (mul_mod 128 ghash_modulus) n c.args.x) last

@@ -2,7 +2,7 @@ use Rattle.std.proofs.Common.{sym, refl, lit<}
 use Rattle.std.proofs.lemmas.Nat.{xor_lt}
 use Rattle.field_base.specs.Remainder.{mul_mod, poly64_modulus}
 use Rattle.word_tables.proofs.Isomorphisms.{field_64}
-use Rattle.word_polynomial.specs.CubicFieldLemmas.{cubic_frobenius}
+use Rattle.word_polynomial.specs.lemmas.CubicField.{cubic_frobenius}
 use Rattle.word_polynomial.proofs.cubic.automorphism_192.Goals as goal
 
 pub invariant_of-result : goal.invariant_of-result

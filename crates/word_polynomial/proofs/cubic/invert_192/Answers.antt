@@ -2,8 +2,8 @@ use Rattle.std.proofs.Common.{◌≡◌, ℕ, refl, sym, ◌∙◌, ap, lit<, ru
 use Rattle.std.specs.Prelude.{bit_xor}
 use Rattle.field_base.specs.Remainder.{mul_mod, poly64_modulus}
 use Rattle.field_base.specs.Chunks.{chunk}
-use Rattle.word_polynomial.specs.CubicFieldLemmas.{cubic_norm, norm_of_nonzero, scaled_adjugate}
-use Rattle.word_polynomial.specs.TripleLemmas.{first-triple, second-triple, third-triple, triple-low}
+use Rattle.word_polynomial.specs.lemmas.CubicField.{cubic_norm, norm_of_nonzero, scaled_adjugate}
+use Rattle.word_polynomial.specs.lemmas.Triple.{first-triple, second-triple, third-triple, triple-low}
 use Rattle.word_tables.proofs.Isomorphisms.{field_64}
 use Rattle.word_polynomial.proofs.Products.{adjugate_of_zero}
 use Rattle.word_polynomial.proofs.cubic.invert_192.Goals as goal

@@ -4,7 +4,7 @@ use Rattle.field_base.specs.Powers.{repeated_square}
 use Rattle.field_base.specs.Remainder.{mul_mod, poly64_modulus}
 use Rattle.field_base.proofs.FieldLemmas.{field_repeated_square-mod_bits}
 use Rattle.field_base.proofs.PowerLemmas.{repeated_square-add}
-use Rattle.word_polynomial.specs.Field192Lemmas.{field_192}
+use Rattle.word_polynomial.specs.lemmas.Field192.{field_192}
 use Rattle.word_polynomial.specs.Triple.{triple_number}
 use Rattle.word_polynomial.proofs.cubic.reduce_squarings_192.Goals as goal
 

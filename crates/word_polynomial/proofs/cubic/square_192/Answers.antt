@@ -1,6 +1,6 @@
 use Rattle.std.proofs.lemmas.Nat.{xor_lt}
 use Rattle.field_base.specs.Remainder.{mul_mod, poly64_modulus}
-use Rattle.word_polynomial.specs.CubicFieldLemmas.{cubic-square}
+use Rattle.word_polynomial.specs.lemmas.CubicField.{cubic-square}
 use Rattle.field_base.proofs.RemainderRing.{poly64_ring}
 use Rattle.word_polynomial.proofs.cubic.square_192.Goals as goal
 

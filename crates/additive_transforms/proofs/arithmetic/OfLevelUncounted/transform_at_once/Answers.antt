@@ -3,7 +3,7 @@ use Rattle.std.proofs.lemmas.Nat.{pow_pos}
 use native.Mathlib.Nat.{mod-lt}
 use Rattle.field_base.specs.Tower.{tower_mul}
 use Rattle.field_base.proofs.TowerRing.{tower_ring}
-use Rattle.additive_transforms.specs.LevelVectorLemmas.{level_vectors}
+use Rattle.additive_transforms.specs.lemmas.LevelVector.{level_vectors}
 use Rattle.additive_transforms.specs.Words.{cantor_vector, level_element}
 use Rattle.additive_transforms.proofs.LaneWords.{four_bytes, two_bytes}
 use Rattle.additive_transforms.proofs.StagesFrom.{all_from}

@@ -2,7 +2,7 @@ use Rattle.std.proofs.Common.{◌++◌, ◌/◌, ◌∙◌, ap}
 use Rattle.std.specs.List.{flat_map}
 use Rattle.std.proofs.lemmas.List.{take_all}
 use Rattle.field_base.specs.Chunks.{chunks}
-use Rattle.bits_rows.proofs.PartLists.{row_pushed}
+use Rattle.packed_lanes.proofs.PartLists.{row_pushed}
 use Rattle.bits_packed.proofs.packed.PackedGf2.bytes_copied.Goals as goal
 
 pub loop-place-preserved : goal.loop-place-preserved

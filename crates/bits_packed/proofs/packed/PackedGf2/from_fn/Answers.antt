@@ -1,7 +1,7 @@
 use Rattle.std.proofs.Common.{arith, rules}
 use Rattle.field_base.specs.Bit.{bit_number}
 use Rattle.field_base.proofs.Calls.{may_call}
-use Rattle.bits_rows.proofs.WordLists.{nothing_filled}
+use Rattle.packed_lanes.proofs.WordLists.{nothing_filled}
 use Rattle.bits_packed.proofs.LaneLists.{all_filled, lane_filled}
 use Rattle.bits_packed.proofs.packed.PackedGf2.from_fn.Goals as goal
 

@@ -1,7 +1,7 @@
 use Rattle.std.specs.Array.{index_steps}
 use Rattle.std.specs.Iterator.{CallableAtEachTurn}
 use Rattle.field_base.specs.Bit.{bit_number}
-use Rattle.bits_rows.proofs.WordLists.{Filled}
+use Rattle.packed_lanes.proofs.WordLists.{Filled}
 use Rattle.bits_packed.proofs.packed.PackedGf2.from_fn.Given as goal
 
 -- the lanes from this one on may be asked for, and those so far are those of the calls

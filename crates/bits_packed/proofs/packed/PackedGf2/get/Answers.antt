@@ -1,5 +1,5 @@
 use Rattle.std.proofs.Common.{◌%◌, ℕ, ◌∙◌, ap}
-use Rattle.bits_rows.proofs.LaneLemmas.{power_some}
+use Rattle.packed_lanes.proofs.LaneLemmas.{power_some}
 use Rattle.bits_packed.proofs.LaneAccess.{lane_get_at}
 use Rattle.bits_packed.proofs.packed.PackedGf2.get.Goals as goal
 

@@ -1,6 +1,6 @@
 use Rattle.std.proofs.Common.{◌<◌, sym, subst, ◌∙◌}
-use Rattle.bits_rows.proofs.BlockLemmas.{block_some}
-use Rattle.bits_rows.specs.Parts.{IsBlockSize}
+use Rattle.packed_lanes.proofs.BlockLemmas.{block_some}
+use Rattle.packed_lanes.specs.Parts.{IsBlockSize}
 use Rattle.bits_packed.specs.Lanes.{AreInterleavedLanes}
 use Rattle.bits_packed.proofs.Interleavings.{blocks_interleaved, proper_block, whole_interleaved}
 use Rattle.bits_packed.proofs.LaneAccess.{row_divides}

@@ -3,7 +3,7 @@ use Rattle.std.specs.List.{flat_map}
 use Rattle.std.proofs.lemmas.List.{take_all}
 use Rattle.field_base.specs.Chunks.{chunks}
 use Rattle.field_base.proofs.ChunkLists.{chunk_pushed, none_pushed}
-use Rattle.bits_rows.proofs.PartLists.{row_pushed}
+use Rattle.packed_lanes.proofs.PartLists.{row_pushed}
 use Rattle.bits_packed.proofs.packed.PackedGf2.narrow_copied.Goals as goal
 
 pub loop-i-init : goal.loop-i-init

@@ -1,7 +1,7 @@
 use Rattle.std.proofs.Common.{◌≡◌, ◌<◌, ◌%◌, ◌*◌, ◌^◌, ℕ, ◌∙◌, sym, subst, arith}
 use native.Mathlib.Nat.{mod-eq_of_lt}
 use Rattle.field_base.specs.Bit.{bit_number}
-use Rattle.bits_rows.proofs.LaneLemmas.{power_some}
+use Rattle.packed_lanes.proofs.LaneLemmas.{power_some}
 use Rattle.bits_packed.specs.Lanes.{IsWithLane}
 use Rattle.bits_packed.proofs.LaneAccess.{lane_set_at, two_fit}
 use Rattle.bits_packed.proofs.packed.PackedGf2.set.Goals as goal

@@ -1,6 +1,6 @@
 use Rattle.std.proofs.Common.{◌≡◌, ◌<◌, ◌≤◌, ◌+◌, ◌*◌, ℕ, ◌∙◌, ap, sym, subst, refl, inl, arith, rules}
 use Rattle.std.proofs.lemmas.Nat.{pow-add, pow_pos}
-use Rattle.bits_rows.specs.Parts.{IsBlockSize}
+use Rattle.packed_lanes.specs.Parts.{IsBlockSize}
 use Rattle.bits_packed.proofs.LaneAccess.{row_bits}
 use Rattle.bits_packed.proofs.Rounds.{all_mixed, double_inside, nothing_mixed, same_length}
 use Rattle.bits_packed.proofs.packed.PackedGf2.transpose.Goals as goal

@@ -1,6 +1,6 @@
 use Rattle.std.proofs.Common.{◌≤◌, ◌/◌, ℕ, sym, subst}
-use Rattle.bits_rows.specs.Parts.{IsBlockSize}
-use Rattle.bits_rows.proofs.LaneLemmas.{power_some}
+use Rattle.packed_lanes.specs.Parts.{IsBlockSize}
+use Rattle.packed_lanes.proofs.LaneLemmas.{power_some}
 use Rattle.bits_packed.proofs.LaneAccess.{block_of_words, word_block}
 use Rattle.bits_packed.proofs.packed.transpose.interleave_blocks.Goals as goal
 

@@ -1,5 +1,5 @@
 use Rattle.std.proofs.Common.{◌*◌, map}
-use Rattle.bits_rows.proofs.BlockLemmas.{block_some}
+use Rattle.packed_lanes.proofs.BlockLemmas.{block_some}
 use Rattle.bits_packed.proofs.EightRows.{eight_done}
 use Rattle.bits_packed.proofs.LaneAccess.{row_divides}
 use Rattle.bits_packed.proofs.Rounds.{eightfold_fits}

@@ -1,5 +1,5 @@
 use Rattle.std.proofs.Common.{◌*◌, refl, arith}
-use Rattle.bits_rows.proofs.BlockLemmas.{block_some}
+use Rattle.packed_lanes.proofs.BlockLemmas.{block_some}
 use Rattle.bits_packed.proofs.Rounds.{count_some, group_first, group_passes, groups_fill}
 use Rattle.bits_packed.proofs.packed.transpose.interleave_group.Goals as goal
 

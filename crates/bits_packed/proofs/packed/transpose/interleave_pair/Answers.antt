@@ -1,4 +1,4 @@
-use Rattle.bits_rows.proofs.BlockLemmas.{block_some}
+use Rattle.packed_lanes.proofs.BlockLemmas.{block_some}
 use Rattle.bits_packed.proofs.RoundPairs.{pair_written}
 use Rattle.bits_packed.proofs.packed.transpose.interleave_pair.Goals as goal
 

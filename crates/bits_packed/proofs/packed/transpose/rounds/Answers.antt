@@ -1,5 +1,5 @@
 use Rattle.std.proofs.Common.{◌*◌, refl, arith}
-use Rattle.bits_rows.proofs.BlockLemmas.{block_some}
+use Rattle.packed_lanes.proofs.BlockLemmas.{block_some}
 use Rattle.bits_packed.proofs.LaneAccess.{row_bits}
 use Rattle.bits_packed.proofs.Rounds.{blocks_divide, count_some, groups_end, pass_none}
 use Rattle.bits_packed.proofs.packed.transpose.rounds.Goals as goal

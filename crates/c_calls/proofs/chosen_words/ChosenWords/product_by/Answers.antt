@@ -1,7 +1,7 @@
 use Rattle.std.proofs.Common.{ℕ, ◌^◌, ◌<◌, sym, subst}
 use Rattle.any_field.proofs.WordRemainders.{context-ring}
 use Rattle.c_calls.specs.Fields.{wide_number}
-use Rattle.c_calls.specs.LowLemmas.{low_number-lt}
+use Rattle.c_calls.specs.lemmas.Low.{low_number-lt}
 use Rattle.c_calls.proofs.ChosenScalars.{product-named}
 use Rattle.c_calls.proofs.chosen_words.ChosenWords.product_by.Goals as goal
 

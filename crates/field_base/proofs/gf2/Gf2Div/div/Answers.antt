@@ -1,4 +1,4 @@
-use Rattle.field_base.specs.BitRingLemmas.{bit_over_bit}
+use Rattle.field_base.specs.lemmas.BitRing.{bit_over_bit}
 use Rattle.field_base.proofs.gf2.Gf2Div.div.Goals as goal
 
 pub returns : goal.returns

@@ -1,4 +1,4 @@
-use Rattle.field_base.specs.BitRingLemmas.{bit_times_itself}
+use Rattle.field_base.specs.lemmas.BitRing.{bit_times_itself}
 use Rattle.field_base.proofs.gf2.Gf2Field.try_inverse.Goals as goal
 
 pub returns-else-self-eq0-clause-inverse : goal.returns-else-self-eq0-clause-inverse

@@ -1,4 +1,4 @@
-use Rattle.field_base.specs.BitRingLemmas.{bit_and-bits}
+use Rattle.field_base.specs.lemmas.BitRing.{bit_and-bits}
 use Rattle.field_base.specs.Tower.{tower_mul}
 use Rattle.field_base.proofs.gf2.Gf2Mul.mul.Goals as goal
 

@@ -1,5 +1,5 @@
 use Rattle.std.proofs.Common.{sym}
-use Rattle.field_base.specs.BitRingLemmas.{root_zero-times}
+use Rattle.field_base.specs.lemmas.BitRing.{root_zero-times}
 use Rattle.field_base.proofs.gf2.Gf2TowerLevel.mul_alpha.Goals as goal
 
 pub returns : goal.returns

@@ -1,7 +1,7 @@
 use Rattle.std.proofs.Common.{◌∙◌, sym, ap}
 use native.Mathlib.Nat.{mod-eq_of_lt}
 use Rattle.field_base.specs.Chunks.{chunks}
-use Rattle.word_polynomial.specs.TripleLemmas.{fits_192}
+use Rattle.word_polynomial.specs.lemmas.Triple.{fits_192}
 use Rattle.field_element.specs.Coefficients.{stored_words}
 use Rattle.field_element.proofs.cubic.Poly192.new.Goals as goal
 

@@ -1,7 +1,7 @@
 use Rattle.std.proofs.Common.{◌≡◌, ℕ, ◌%◌, ◌^◌, sym, ◌∙◌, ap, arith}
 use native.Mathlib.Nat.{zero-mod}
 use Rattle.field_base.specs.Bit.{bit_number as bit_of}
-use Rattle.field_element.specs.BitProductLemmas.{times_none, times_one}
+use Rattle.field_element.specs.lemmas.BitProduct.{times_none, times_one}
 use Rattle.field_element.specs.Element.{repr_of}
 use Rattle.field_element.proofs.element.bits.times_bit.Goals as goal
 

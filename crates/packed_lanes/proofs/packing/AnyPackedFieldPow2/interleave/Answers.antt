@@ -1,4 +1,4 @@
-use Rattle.packed_lanes.specs.OneLaneLemmas.{one_lane_interleaved}
+use Rattle.packed_lanes.specs.lemmas.OneLane.{one_lane_interleaved}
 use Rattle.packed_lanes.proofs.packing.AnyPackedFieldPow2.interleave.Goals as goal
 
 pub returns : goal.returns

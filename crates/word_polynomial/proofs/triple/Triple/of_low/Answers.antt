@@ -1,4 +1,4 @@
-use Rattle.word_polynomial.specs.TripleLemmas.{triple-low}
+use Rattle.word_polynomial.specs.lemmas.Triple.{triple-low}
 use Rattle.word_polynomial.proofs.triple.Triple.of_low.Goals as goal
 
 pub returns : goal.returns

@@ -1,6 +1,6 @@
 use Rattle.std.proofs.Common.{sym}
 use Rattle.std.proofs.lemmas.Nat.{xor_lt}
-use Rattle.word_polynomial.specs.TripleLemmas.{triple_sum}
+use Rattle.word_polynomial.specs.lemmas.Triple.{triple_sum}
 use Rattle.word_polynomial.proofs.triple.Triple.xor.Goals as goal
 
 pub invariant_of-result : goal.invariant_of-result

@@ -1,6 +1,6 @@
 use Rattle.field_base.proofs.WordValues.{values_fit}
 use Rattle.word_polynomial.specs.Triple.{triple_number}
-use Rattle.word_polynomial.specs.TripleLemmas.{fits_192}
+use Rattle.word_polynomial.specs.lemmas.Triple.{fits_192}
 use Rattle.word_polynomial.proofs.words.TripleStored.words_fit.Goals as goal
 
 pub returns : goal.returns

@@ -1,5 +1,5 @@
 use Rattle.std.proofs.Common.{map, replicate, ◌∙◌, ap}
-use Rattle.packed_lanes.specs.LaneListLemmas.{map-replicate}
+use Rattle.packed_lanes.specs.lemmas.LaneList.{map-replicate}
 use Rattle.packed_lanes.proofs.packed.operators.PackedDefault.default.Goals as goal
 
 pub returns : goal.returns

@@ -1,6 +1,6 @@
 use Rattle.std.proofs.Common.{◌≡◌, ◌∙◌, ap}
 use Rattle.field_base.specs.Chunks.{joined}
-use Rattle.packed_lanes.specs.LaneListLemmas.{map-every}
+use Rattle.packed_lanes.specs.lemmas.LaneList.{map-every}
 use Rattle.packed_lanes.proofs.packed.operators.PackedProduct.product.Goals as goal
 
 pub product_of_items-requires-clause-starts : goal.product_of_items-requires-clause-starts

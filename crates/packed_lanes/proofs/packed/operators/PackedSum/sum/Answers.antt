@@ -1,6 +1,6 @@
 use Rattle.std.proofs.Common.{◌≡◌, ◌∙◌, ap}
 use Rattle.field_base.specs.Chunks.{joined}
-use Rattle.packed_lanes.specs.LaneListLemmas.{every_zero, map-every}
+use Rattle.packed_lanes.specs.lemmas.LaneList.{every_zero, map-every}
 use Rattle.packed_lanes.proofs.packed.operators.PackedSum.sum.Goals as goal
 
 pub sum_of_items-requires-clause-starts : goal.sum_of_items-requires-clause-starts

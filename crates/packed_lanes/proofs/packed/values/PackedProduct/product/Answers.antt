@@ -1,4 +1,4 @@
-use Rattle.packed_lanes.specs.LaneListLemmas.{map-every}
+use Rattle.packed_lanes.specs.lemmas.LaneList.{map-every}
 use Rattle.packed_lanes.proofs.packed.values.PackedProduct.product.Goals as goal
 
 pub returns : goal.returns

@@ -1,6 +1,0 @@
-pub mod Lanes
-pub mod LaneLemmas
-pub mod Layout
-pub mod Tails
-pub mod TailLemmas
-pub mod Called

@@ -1,0 +1,3 @@
+-- What proofs of impls cite of these definitions: no contract names it.
+pub mod BitsRing
+pub mod EveryLane

@@ -1,7 +1,0 @@
-use Rattle.std.proofs.Common.{◌∙◌}
-use Rattle.std.proofs.lemmas.List.{map-id}
-use Rattle.bits_rows.specs.JoinedLemmas.{chunks_of_whole}
-use Rattle.bits_rows.proofs.block.BlockUnderlier.words.Goals as goal
-
-pub returns : goal.returns
-returns g c = map-id c.args.self.now.words ∙ chunks_of_whole 64 g.row.N c.args.self.now.words c.checked-row.ensures.whole

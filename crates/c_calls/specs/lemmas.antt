@@ -1,0 +1,4 @@
+-- What proofs of impls cite of these definitions: no contract names it.
+pub mod ByteForm
+pub mod Low
+pub mod Wide

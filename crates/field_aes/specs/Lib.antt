@@ -1,2 +1,0 @@
-pub mod Linearized
-pub mod Polynomial

@@ -1,0 +1,6 @@
+-- What proofs of impls cite of these definitions: no contract names it.
+pub mod BitProduct
+pub mod GhashLane
+pub mod LevelProduct
+pub mod LevelSpace
+pub mod Range

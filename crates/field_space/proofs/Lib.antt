@@ -1,4 +1,0 @@
-pub mod FrobeniusRounds
-pub mod LevelShifts
-pub mod PowerItems
-pub mod Spaces

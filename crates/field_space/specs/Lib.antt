@@ -1,4 +1,0 @@
-pub mod Items
-pub mod LevelSpaceLemmas
-pub mod PowerItems
-pub mod Vectors

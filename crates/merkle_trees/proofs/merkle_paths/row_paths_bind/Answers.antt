@@ -1,5 +1,0 @@
-use Rattle.merkle_trees.proofs.Binding.{row_paths_bind}
-use Rattle.merkle_trees.proofs.merkle_paths.row_paths_bind.Goals as goal
-
-pub returns : goal.returns
-returns c = row_paths_bind

@@ -1,5 +1,0 @@
-use Rattle.merkle_trees.proofs.PathChecks.{leads_as_cap}
-use Rattle.merkle_trees.proofs.merkle_paths.verify.Goals as goal
-
-pub returns : goal.returns
-returns g c = leads_as_cap _ _ _ _ _ _ _ c.verify_to_cap.ensures

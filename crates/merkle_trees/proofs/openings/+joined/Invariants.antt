@@ -1,4 +1,0 @@
-use Rattle.merkle_trees.proofs.openings.+joined.Given as goal
-
-abbrev pub decreases-joined : goal.decreases-joined
-decreases-joined g l = l.levels

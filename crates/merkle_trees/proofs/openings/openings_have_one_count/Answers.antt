@@ -1,5 +1,0 @@
-use Rattle.merkle_trees.proofs.NodeCounts.{openings_have_one_count}
-use Rattle.merkle_trees.proofs.openings.openings_have_one_count.Goals as goal
-
-pub returns : goal.returns
-returns c = openings_have_one_count

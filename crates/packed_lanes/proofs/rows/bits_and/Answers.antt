@@ -1,0 +1,11 @@
+use Rattle.std.proofs.Common.{rules}
+use Rattle.std.specs.Prelude.{bit_and}
+use lib.Bits.{and_lt}
+use Rattle.packed_lanes.proofs.LaneLemmas.{part_and, power_some, row_of_zipped}
+use Rattle.packed_lanes.proofs.rows.bits_and.Goals as goal
+
+pub returns : goal.returns
+returns g c =
+    row_of_zipped g.U.Underlier.number g.U.Underlier.is_whole g.U.Word.Word.BITS _ _ _ _ _ g.U.Word.Word.number _ bit_and
+    (power_some _ _ g.met.U.Word.Word.bits_law) g.met.U.Underlier.bits_law (and_lt _) (part_and _) g.U.Underlier.range_law c.requires.left_whole
+    c.requires.right_whole c.zip.ensures.whole (λ x y z is. search rules) c.zip.ensures.each

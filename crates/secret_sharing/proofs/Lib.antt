@@ -1,7 +1,0 @@
-mod Products
-mod Interpolating
-mod Loops
-mod Secrecy
-mod RightShares
-mod Located
-mod NearShares

@@ -1,7 +1,0 @@
-use Rattle.std.proofs.Common.{◌≡◌, slice_index}
-use Rattle.error_codes.specs.Correcting.{code_value}
-use Rattle.secret_sharing.specs.Fields.{product_in}
-use Rattle.secret_sharing.proofs.locating.reverse_value.Given as goal
-
-abbrev pub invariant-loop-i : goal.invariant-loop-i
-invariant-loop-i l = l.value ≡ code_value (product_in l.field) l.i (slice_index l.register.coefficients) l.x

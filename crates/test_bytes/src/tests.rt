@@ -1,6 +1,0 @@
-mod answers;
-mod challengers;
-mod codes;
-mod hashes;
-mod shards;
-mod support;

@@ -1,0 +1,5 @@
+use Rattle.transcripts.proofs.PathChecks.{leads_as_cap}
+use Rattle.transcripts.proofs.merkle_paths.verify.Goals as goal
+
+pub returns : goal.returns
+returns g c = leads_as_cap _ _ _ _ _ _ _ c.verify_to_cap.ensures
