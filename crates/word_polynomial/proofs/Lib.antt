@@ -1,3 +1,4 @@
+mod LooksAhead
 pub mod Fermat
 pub mod Products
 mod ShiftAndAdd

@@ -23,7 +23,7 @@ impl Triple {
 }
 
 // The number that stands next in an array.
-#[tactic(auto, using(field_base::proofs::Steps::number_after_a_look))]
+#[tactic(auto, using(crate::proofs::LooksAhead::number_after_a_look))]
 fn read_item<F: Format>(from: &mut Deserializer<'_, '_, F>) -> Result<u64, F::Error>
     ensures { IfOk result (λ number. Begins F.gives F.stays from.old (unsigned number) from.new) }
 {
