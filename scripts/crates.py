@@ -1,10 +1,12 @@
-"""The crates, as crates.txt lists them, and what their proofs cost, as docs/GATE.md has it."""
+"""The crates, as crates.txt lists them, and what their proofs cost, as the table of the gate has it."""
 
 import re
 
 import files
 
 
+# The page that has the table of the gate.
+GATE = "docs/GATE.md"
 CRATE = re.compile(r"([a-z0-9_]+)[^:#]*:([^#]*)")
 
 
@@ -48,10 +50,16 @@ def chain(names):
 
 
 def gate():
-    """The processor seconds of each crate's proofs from nothing, of its tests and of its edits, by the table of docs/GATE.md."""
-    page = (files.TOP / "docs/GATE.md").read_text(encoding="utf-8")
+    """The processor seconds of each crate's proofs from nothing, of its tests and of its edits, by the table."""
+    page = (files.TOP / GATE).read_text(encoding="utf-8")
     rows = re.findall(r"^\| `(\w+)` \| ([\d,]*) ?\| ?([\d,]*) ?\| ?([\d,]*) ?\|$", page, re.MULTILINE)
     return {name: [int(it.replace(",", "") or 0) for it in seconds] for name, *seconds in rows}
+
+
+def gate_seconds():
+    """The processor seconds of the whole gate by the line above the table, with what is told apart by no crate."""
+    page = (files.TOP / GATE).read_text(encoding="utf-8")
+    return int(re.search(r"^.* ([\d,]+) processor seconds", page.partition("<!-- gate -->")[2], re.MULTILINE)[1].replace(",", ""))
 
 
 def costs():

@@ -6,7 +6,10 @@ another. A generated file says in its first lines that it is one, and which comm
 A script that imports this answers --help by its own first text, and does nothing else.
 """
 
+import functools
 import pathlib
+import re
+import subprocess
 import sys
 
 TOP = pathlib.Path(__file__).resolve().parent.parent
@@ -21,6 +24,25 @@ def is_check():
 def generated(command):
     """What the head of a file says that `scripts/COMMAND` writes."""
     return f"Written by scripts/{command}; do not edit."
+
+
+@functools.cache
+def tracked():
+    """The files that git holds, by their paths from the top."""
+    listed = subprocess.run(["git", "ls-files", "-z"], cwd=TOP, capture_output=True, check=True).stdout.decode()
+    return [it for it in listed.split("\0") if it and (TOP / it).is_file()]
+
+
+@functools.cache
+def lines_of(path):
+    """The lines of a file, by its path from the top."""
+    return (TOP / path).read_text(encoding="utf-8", errors="replace").splitlines()
+
+
+def by_hand(pattern):
+    """The files that git holds whose paths match, but for those that scripts write: one of their first ten lines says so."""
+    found = [it for it in tracked() if re.fullmatch(pattern, it)]
+    return [it for it in found if "do not edit" not in " ".join(lines_of(it)[:10]).lower()]
 
 
 def keep(path, content):

@@ -1,8 +1,8 @@
 #!/usr/bin/env python3
-"""Writes what proofs cost by the table of the gate in docs/GATE.md: the table of costs above it, that of changes in CONTRIBUTING.md, and the
-minutes that other pages quote.
+"""Writes what proofs cost by the table of the gate: the table of costs above it, that of changes in CONTRIBUTING.md, and the minutes that
+other pages quote.
 
-make_costs.py [--check]: the table of the gate is written by `scripts/gate-cost --page docs/GATE.md`, which then runs this. scripts/vendor and
+make_costs.py [--check]: the table of the gate is written by `scripts/gate-cost --page PAGE`, which then runs this. scripts/vendor and
 scripts/build-library read the same table when they are called, so that one thing has one figure everywhere.
 """
 import re
@@ -11,7 +11,7 @@ import sys
 import crates
 import files
 
-PAGE, CHANGES = "docs/GATE.md", "CONTRIBUTING.md"
+CHANGES = "CONTRIBUTING.md"
 BLOCK = re.compile(r"(<!-- costs -->\n).*?(<!-- end -->)", re.DOTALL)
 # Crates whose change a contributor may ask about, from the top down.
 CHANGED = ("prove_sums", "tags", "reed_solomon", "word_tower", "field_base")
@@ -33,8 +33,7 @@ QUOTES = [
 def minutes_of(name):
     """The processor minutes of a crate and all below it from nothing, or of the whole gate."""
     if name == "gate":
-        rest = re.search(r"^\| not told apart \| ([\d,]+)", (files.TOP / PAGE).read_text(encoding="utf-8"), re.MULTILINE)
-        return round((sum(map(sum, crates.gate().values())) + int(rest[1].replace(",", "") if rest else 0)) / 60)
+        return round(crates.gate_seconds() / 60)
     costs = crates.costs()
     return round(sum(costs.get(it, 0) for it in crates.chain([name])) / 60)
 
@@ -74,8 +73,8 @@ def put(text, pattern, number):
 
 
 def main():
-    pages = {page: (files.TOP / page).read_text(encoding="utf-8") for page in [PAGE, *(page for page, _, _ in QUOTES)]}
-    for page, rows in ((PAGE, table()), (CHANGES, table_of_changes())):
+    pages = {page: (files.TOP / page).read_text(encoding="utf-8") for page in [crates.GATE, *(page for page, _, _ in QUOTES)]}
+    for page, rows in ((crates.GATE, table()), (CHANGES, table_of_changes())):
         pages[page] = BLOCK.sub(lambda found, rows=rows: found[1] + rows + found[2], pages[page])
     for page, name, pattern in QUOTES:
         pages[page] = put(pages[page], pattern, minutes_of(name))

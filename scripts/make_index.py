@@ -16,7 +16,7 @@ import files
 # The commands by what they are for: a heading, and what their names match.
 GROUPS = [
     ("Tests of what is built", r"test-.*|run-tutorial|try-mutations"),
-    ("Checks that take seconds", r"check-.*|spec-words"),
+    ("Checks that take seconds", r"check-.*|spec-words|repeats.py|without_ensures.py"),
     ("Writers of files that the repository holds; `--check` compares", r"make[_-].*|write-help|draw-crates"),
     ("Commands", r".*"),
 ]
