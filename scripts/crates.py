@@ -50,9 +50,9 @@ def chain(names):
 
 
 def gate():
-    """The processor seconds of each crate's proofs from nothing, of its tests and of its edits, by the table."""
+    """The processor seconds of each crate's proofs from nothing and of its tests, by the table."""
     page = (files.TOP / GATE).read_text(encoding="utf-8")
-    rows = re.findall(r"^\| `(\w+)` \| ([\d,]*) ?\| ?([\d,]*) ?\| ?([\d,]*) ?\|$", page, re.MULTILINE)
+    rows = re.findall(r"^\| `(\w+)` \| ([\d,]*) ?\| ?([\d,]*) ?\|$", page, re.MULTILINE)
     return {name: [int(it.replace(",", "") or 0) for it in seconds] for name, *seconds in rows}
 
 
@@ -64,16 +64,16 @@ def gate_seconds():
 
 def costs():
     """The processor seconds of each crate's proofs from nothing."""
-    return {name: proofs for name, (proofs, _, _) in gate().items()}
+    return {name: proofs for name, (proofs, _) in gate().items()}
 
 
 def longest_chain():
-    """The crates of the longest chain of proofs, lowest first, and its seconds: those of its last crate are with tests and edits."""
+    """The crates of the longest chain of proofs, lowest first, and its seconds: those of its last crate are with tests."""
     seconds, ends = {}, {}
     for name, below in dependencies().items():
-        proofs, tests, edits = gate().get(name, (0, 0, 0))
+        proofs, tests = gate().get(name, (0, 0))
         before, names = max(((seconds[it], ends[it]) for it in below if it in seconds), default=(0, []))
         seconds[name], ends[name] = before + proofs, [*names, name]
-        ends[name, "whole"] = before + proofs + tests + edits
+        ends[name, "whole"] = before + proofs + tests
     last = max(seconds, key=lambda name: ends[name, "whole"])
     return ends[last], ends[last, "whole"]

@@ -42,7 +42,7 @@ def table():
     """The table of costs."""
     names, seconds = crates.longest_chain()
     rows = [
-        ("`rt ci`: every crate, test, program and edit", minutes_of("gate")),
+        ("`rt ci`: every crate, test and program", minutes_of("gate")),
         ("the library for C, Python and Rust (`scripts/build-library`)", minutes_of("binary_field_c")),
         ("`binary_field` with all that it depends on (`scripts/vendor`)", minutes_of("binary_field")),
         ("`tags` with all that it depends on", minutes_of("tags")),
@@ -52,7 +52,7 @@ def table():
 
 
 def table_of_changes():
-    """The table of what a change of a crate costs in the gate: that crate and all above it, with tests and edits."""
+    """The table of what a change of a crate costs in the gate: that crate and all above it, with tests."""
     gate, rows = crates.gate(), []
     for name in CHANGED:
         above = [it for it in crates.dependencies() if name in crates.chain([it])]
