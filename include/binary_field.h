@@ -1961,7 +1961,7 @@ uint32_t bf_tag_gcm_ghash_final(bf_ghash_state *state, size_t associated_length,
     uint8_t *hash, size_t hash_length) BF_CHECKED BF_NONNULL(1);
 
 /* equal: 1 where the two have the same bytes, else 0. What a compiler made of it was looked at: all bytes are read
- * whatever they are, and one test comes at the end; unlike lengths return at once. docs/TIMING.md says what was
+ * whatever they are, and one test comes at the end; unlike lengths return at once. docs/THEOREMS.md says what was
  * looked at of other functions. */
 uint32_t bf_tags_are_equal(const uint8_t *left, size_t left_length, const uint8_t *right, size_t right_length,
     uint8_t *equal) BF_CHECKED BF_NONNULL(5);

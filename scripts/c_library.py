@@ -236,7 +236,7 @@ OTHER_FUNCTIONS = [
      "in bytes, each below 2^61; the message is then empty, under the same key; hash has 16 bytes"),
     ("tags_are_equal", [("in", "left", "u8"), ("in", "right", "u8"), ("result", "equal", "u8")],
      "1 where the two have the same bytes, else 0. What a compiler made of it was looked at: all bytes are read whatever they are, and one test "
-     "comes at the end; unlike lengths return at once. docs/TIMING.md says what was looked at of other functions"),
+     "comes at the end; unlike lengths return at once. docs/THEOREMS.md says what was looked at of other functions"),
     ("rs_encode", [("count", "data"), ("count", "parity"), ("inout", "shards", "u8")],
      "writes the shards of parity, which stand behind those of data; all shards stand one after the other and have one size"),
     ("rs_verify", [("count", "data"), ("count", "parity"), ("in", "shards", "u8"), ("result", "whole", "u8")],

@@ -6,7 +6,7 @@ import files
 
 
 # The page that has the table of the gate.
-GATE = "docs/GATE.md"
+GATE = "docs/PROVING.md"
 CRATE = re.compile(r"([a-z0-9_]+)[^:#]*:([^#]*)")
 
 

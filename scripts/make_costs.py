@@ -23,7 +23,6 @@ QUOTES = [
     ("README.md", "binary_field", r", (\d+) with `binary_field`"),
     ("README.md", "binary_field_c", r"proves and builds it in (\d+) processor minutes"),
     ("CONTRIBUTING.md", "gate", r"The gate takes (\d+) processor minutes"),
-    ("docs/LINES.md", "binfield", r"--build`, some (\d+) processor minutes\)"),
     ("docs/TUTORIAL.md", "field_base", r"proves it: (\d+) processor minutes for `field_base`"),
     ("docs/TUTORIAL.md", "binary_field", r"takes some (\d+) processor minutes\):"),
     ("docs/TUTORIAL.md", "binary_field_c", r"some (\d+) processor minutes at first"),

@@ -4,6 +4,9 @@ src/, or scripts/help/PROGRAM.txt. With --check it compares instead, and tells a
 
 A text begins with `usage:` and the forms of the command, then has paragraphs, and may end with a line `Example: ..`. One of a program
 with commands, which scripts/write-help writes, has a line `$ PROGRAM .. --help` before each help.
+
+What a page says besides stands in scripts/help/PROGRAM-lines.txt: headings in capitals, paragraphs, terms with their meaning indented
+below, and what is indented alone, commands with what they print, which scripts/run-tutorial runs.
 """
 
 import re
@@ -80,6 +83,21 @@ def page_of_commands(name, text, about):
     return "\n".join(parts) + "\n"
 
 
+def sections(name):
+    """The sections that the page of a program has besides its help."""
+    path = files.TOP / f"scripts/help/{name}-lines.txt"
+    for part in path.read_text(encoding="utf-8").strip().split("\n\n") if path.is_file() else []:
+        first, _, rest = part.partition("\n")
+        if part.isupper():
+            yield f".SH {part}"
+        elif part.startswith("    "):
+            yield f".PP\n.nf\n{roff(textwrap.dedent(part))}\n.fi"
+        elif rest.startswith("    "):
+            yield f".TP\n{roff(first)}\n{roff(textwrap.dedent(rest))}"
+        else:
+            yield f".PP\n{roff(part)}"
+
+
 def page(name, text, about):
     """The manual page of a program."""
     if f"\n$ {name} --help\n" in text:
@@ -92,6 +110,7 @@ def page(name, text, about):
     parts = [*heads(name, about), roff(forms), ".fi"]
     if rest.strip():
         parts += [".SH DESCRIPTION", paragraphs(rest)]
+    parts += sections(name)
     if example:
         parts += [".SH EXAMPLE", ".nf", roff(example.strip()), ".fi"]
     return "\n".join(parts) + "\n"

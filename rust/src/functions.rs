@@ -3328,8 +3328,8 @@ unsafe extern "C" {
         hash_length: usize,
     ) -> u32;
     /// equal: 1 where the two have the same bytes, else 0. What a compiler made of it was looked at: all bytes are
-    /// read whatever they are, and one test comes at the end; unlike lengths return at once. docs/TIMING.md says what
-    /// was looked at of other functions.
+    /// read whatever they are, and one test comes at the end; unlike lengths return at once. docs/THEOREMS.md says
+    /// what was looked at of other functions.
     pub fn bf_tags_are_equal(
         left: *const u8,
         left_length: usize,

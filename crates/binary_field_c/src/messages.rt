@@ -123,7 +123,7 @@ pub extern "C" fn bf_tag_gcm_ghash_final(
 }
 
 /// 1 where the two have the same bytes, else 0. What a compiler made of it was looked at: all bytes are read whatever they are, and one
-/// test comes at the end; unlike lengths return at once. docs/TIMING.md says what was looked at of other functions.
+/// test comes at the end; unlike lengths return at once. docs/THEOREMS.md says what was looked at of other functions.
 #[unsafe(no_mangle)]
 pub extern "C" fn bf_tags_are_equal(left: &[u8], right: &[u8], equal: &mut u8) -> u32
     ensures { Compares left.now right.now equal.new result }

@@ -16,7 +16,7 @@
 //! rows. scripts/make_vectors.py writes both. A definition is asked at one instance for each kind of code: what a field has of its own
 //! at a level of the tower and at a field of polynomials, rows of bits at one width, lanes in one packing. The arithmetic of every
 //! field is in the lines of `binfield`; sums, products, views over smaller fields and operators between two fields, whose
-//! contracts say them by that arithmetic and by places of bits alone, have rows in `examples`.
+//! contracts say them by that arithmetic and by places of bits alone, have rows in `test_protocols`.
 //! What a function of the C library defines, as changes of basis, linear maps, slices and low stages, is replayed through it.
 #![tactic(auto)]
 

@@ -20,7 +20,7 @@ use error_codes::{ShareField, combine_correcting, split};
 use memchr::memchr;
 use std::alloc::{AllocError, Global};
 
-/// The lines of the shares of a secret. It fails where memory is refused, or where `split` of `secret_sharing` does, with its error.
+/// The lines of the shares of a secret. It fails where memory is refused, or where `split` of `error_codes` does, with its error.
 pub(crate) fn split_text(
     alloc: Global,
     choice: &Choice,
