@@ -18,7 +18,7 @@ import cantor
 import fields
 import files
 from c_library import sentence
-from make_c_header import ARRAYS, sections, told
+from make_c_header import ARRAYS, STACK, other_sections, told
 
 WRITTEN = files.generated("make_bindings.py")
 # The words of the library as Rust passes them, and as an element holds them.
@@ -26,11 +26,10 @@ PASSED = {"u8": "u8", "u16": "u16", "u32": "u32", "u64": "u64", "u128": "[u64; 2
 PASSED |= {it: f"[u64; {c_library.STATE_WORDS}]" for it in ("ghash_state", "polyval_state")}
 PASSED["field"] = f"[u64; {c_library.FIELD_WORDS}]"
 HELD = PASSED | {"u128": "u128"}
-# What a field of the Rust crate calls of the functions that every field has.
-RUST_FUNCTIONS = (
-    "add", "multiply", "multiply_by", "add_scaled", "square", "inverse", "batch_inverse", "square_root", "power", "product", "dot_product", "evaluate",
-    "add_in_place", "multiply_in_place", "multiply_by_in_place", "square_in_place", "inverse_in_place", "square_root_in_place", "power_in_place",
-)
+# How the sentence begins that tells of a field below a byte which words are elements.
+BELOW = "BF_NOT_AN_ELEMENT unless each word that is read is below"
+# The columns of a line of Rust, and what stands for a space at which no line is cut.
+COLUMNS, KEPT = 140, "\N{NO-BREAK SPACE}"
 
 
 # ---- Python
@@ -95,50 +94,103 @@ def python_fields():
 def rust_declared(parameters):
     """The parameters of a function as Rust declares them."""
     for kind, name, word in parameters:
-        it = PASSED[word]
+        it = PASSED.get(word, word)
         if kind in ARRAYS:
             yield f"{name}: *{'const' if kind == 'in' else 'mut'} {it}"
             yield f"{name}_length: usize"
         elif kind in ("result", "state"):
             yield f"{name}: *mut {it}"
-        elif kind == "scalar" and it.startswith("["):
-            yield f"{name}: *const {it}"
-        elif kind == "count":
-            yield f"{name}: usize"
+        elif kind == "scalar":
+            yield f"{name}: {'$scalar' if it == '$word' else passed_alone(it)}"
         else:
-            yield f"{name}: {it}"
+            yield f"{name}: {'usize' if kind == 'count' else it}"
 
 
-def rust_function(name, parameters, bits, text):
-    """A function that Rust declares, with its comment. A doc comment reads an index in brackets as a link, and a line that begins with a
-    star as that of a list, so that no line does."""
-    comment = told(name, parameters, bits, text).replace("[", "\\[").replace("]", "\\]").replace(" * ", "\N{NO-BREAK SPACE}* ")
-    lines = textwrap.wrap(comment, 110, break_long_words=False)
-    out = [f"    /// {line}\n".replace("\N{NO-BREAK SPACE}", " ") for line in lines]
-    rows = "".join(f"        {it},\n" for it in rust_declared(parameters))
-    return "".join([*out, f"    pub fn bf_{name}(\n{rows}    ) -> u32;\n"])
+def passed_alone(it):
+    """The type of one element that is read."""
+    return f"*const {it}" if it.startswith("[") else it
+
+
+def rust_comment(text, indent="    "):
+    """A doc comment. It reads an index in brackets as a link, and a line that begins with a sign as that of a list, so that no line does."""
+    kept = re.sub(r" ([*+-]) ", rf"{KEPT}\1 ", text.replace("[", "\\[").replace("]", "\\]"))
+    lines = textwrap.wrap(kept.strip(), COLUMNS, initial_indent=f"{indent}/// ", subsequent_indent=f"{indent}/// ", break_long_words=False)
+    return "".join(f"{it}\n".replace(KEPT, " ") for it in lines)
+
+
+def rust_function(name, parameters, indent="    "):
+    """A function as Rust declares a foreign one. A line is cut between parameters alone."""
+    shown = ", ".join(it.replace(" ", KEPT) for it in rust_declared(parameters))
+    whole = f"pub{KEPT}fn{KEPT}{name}({shown}){KEPT}->{KEPT}u32;"
+    lines = textwrap.wrap(whole, COLUMNS, initial_indent=indent, subsequent_indent=f"{indent}    ", break_long_words=False)
+    return "".join(f"{it}\n".replace(KEPT, " ") for it in lines)
+
+
+def rust_of_each_field():
+    """The functions that every field has, in a macro. A text has two sentences that some fields have alone: which words are no elements, and
+    what is taken of the stack; so they are taken from the text of a field that has both, of 8 bits by its name and of one by its words."""
+    indent, own = " " * 16, {f"{BELOW} 2.": "read", STACK["t8_matrix_multiply"]: "stack"}
+    for name, parameters, text in [*c_library.FIELD_FUNCTIONS, *c_library.MATRIX_FUNCTIONS]:
+        if name == "generator":
+            continue
+        said = told(f"t8_{name}", c_library.typed(parameters, "u8"), 1, text)
+        for part in re.split(f"({'|'.join(map(re.escape, own))})", said):
+            if part in own:
+                yield f"{indent}$(#[doc = ${own[part]}])?\n"
+            else:
+                yield rust_comment(part, indent)
+        yield f'{indent}#[link_name = concat!("bf_", stringify!($field), "_{name}")]\n'
+        yield rust_function(name, c_library.typed(parameters, "$word"), indent)
+
+
+def rust_rows_of_fields():
+    """The fields as that macro takes them."""
+    for field in fields.FIELDS:
+        word, stack = PASSED[field.word], STACK.get(f"{field.name}_matrix_multiply")
+        more = [f'read "{BELOW} {1 << field.bits}."'] * (field.bits < 8) + [f'stack "{stack}"'] * bool(stack)
+        yield f"    {', '.join([f'{field.name}: {word}', passed_alone(word), *more])};\n"
 
 
 def rust_functions():
-    """The functions that the crate calls, as Rust declares foreign ones."""
-    out = [f"""\
-//! The functions of libbinary_field. {WRITTEN}
+    """The functions that the crate calls, as Rust declares foreign ones: those of a field in a module of its name."""
+    statuses = "".join(f"/// {sentence(text)}\npub const {name}: u32 = {value};\n" for name, value, text in c_library.STATUSES)
+    out = [RUST_FUNCTIONS.format(
+        written=WRITTEN, statuses=statuses, of_each="".join(rust_of_each_field()), fields="".join(rust_rows_of_fields()),
+    )]
+    for name, _, text in c_library.CHOICE_FUNCTIONS:
+        out.append(f"{rust_comment(sentence(text))}    pub fn bf_{name}() -> *const c_char;\n")
+    for name, parameters, text, bits in (it for section in other_sections() for it in section.rows):
+        out.append(rust_comment(told(name, parameters, bits, text)) + rust_function(f"bf_{name}", parameters))
+    return "".join([*out, "}\n"])
+
+
+RUST_FUNCTIONS = """\
+//! The functions of libbinary_field. {written}
 //!
 //! An array is a pointer, which may be null beside a length of 0, and a length that counts elements. What is written overlaps
 //! nothing else of the call. On a status that is not `BF_OK` everything that a function could write is as before, but for `space` and
-//! `places`, in which it works.
+//! `places`, in which it works. The function `bf_FIELD_NAME` of a field is `NAME` in the module `FIELD`.
 
 use core::ffi::c_char;
 
-"""]
-    out += [f"/// {sentence(text)}\npub const {name}: u32 = {value};\n" for name, value, text in c_library.STATUSES]
-    out.append('\nunsafe extern "C" {\n')
-    for name, _, text in c_library.CHOICE_FUNCTIONS:
-        lines = "".join(f"    /// {line}\n" for line in textwrap.wrap(sentence(text), 110, break_long_words=False))
-        out.append(f"{lines}    pub fn bf_{name}() -> *const c_char;\n")
-    rows = [it for section in sections() for it in section.rows]
-    out += [rust_function(name, parameters, bits, text) for name, parameters, text, bits in rows if not name.endswith("_generator")]
-    return "".join([*out, "}\n"])
+{statuses}
+/// The functions of fields, by a field's word and by what one element is passed as. Some fields have more to say, where words are read or of
+/// the stack that the product of two matrices takes.
+macro_rules! functions_of_fields {{
+    ($($field:ident: $word:ty, $scalar:ty $(, read $read:literal)? $(, stack $stack:literal)?;)*) => {{$(
+        #[doc = concat!("The functions of ", stringify!($field), ".")]
+        pub mod $field {{
+            unsafe extern "C" {{
+{of_each}            }}
+        }}
+    )*}};
+}}
+
+functions_of_fields! {{
+{fields}}}
+
+unsafe extern "C" {{
+"""
 
 
 def rust_errors():
@@ -210,15 +262,15 @@ def words_of(number):
 
 
 def rust_field(field):
-    """A field by its macro, each function by the name that it has for every field."""
+    """A field by its macro, and by the module of its functions."""
     numbers = ", ".join(rust_word(field, it) for it in (0, 1, field.generator))
-    functions = "".join(f"    {name}: bf_{field.name}_{name},\n" for name, _, _ in c_library.FIELD_FUNCTIONS if name in RUST_FUNCTIONS)
+    more = ""
     if field.is_batched:
-        functions += f"    one_inverse_in: {field.partner.type_name},\n"
+        more += f"    one_inverse_in: {field.partner.type_name},\n"
     if field.bits <= 8:
-        functions += f"    tables: {'Aes' if field.modulus else 'Tower'},\n"
+        more += f"    tables: {'Aes' if field.modulus else 'Tower'},\n"
     about = field.about.replace("[", "\\[").replace("]", "\\]")
-    return f"field! {{\n    /// {about}.\n{rust_example(field)}    {field.type_name}({HELD[field.word]}), {field.bits}, {numbers},\n{functions}}}\n"
+    return f"field! {{\n    /// {about}.\n{rust_example(field)}    {field.type_name}({HELD[field.word]}), {field.bits}, {numbers}, {field.name},\n{more}}}\n"
 
 
 def rust_example(field):

@@ -308,12 +308,17 @@ def place_of(name):
     sys.exit(f"make_c_header: {name} has no subject")
 
 
-def sections():
-    """The sections of the header, in order."""
-    yield from field_sections()
+def other_sections():
+    """The functions of no field."""
     rest = [(*it, 64) for it in sorted(c_library.other_functions(), key=lambda it: place_of(it[0]))]
     for at, (subject, heading, _) in enumerate(SUBJECTS):
         yield Section(subject, heading, [it for it in rest if place_of(it[0])[0] == at], DEFINED.get(subject, ()))
+
+
+def sections():
+    """The sections of the header, in order."""
+    yield from field_sections()
+    yield from other_sections()
 
 
 def about(parts):

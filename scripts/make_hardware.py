@@ -11,7 +11,7 @@ import textwrap
 import c_library
 import cantor
 import files
-from make_bindings import rust_declared
+from make_bindings import rust_comment, rust_function
 from make_c_header import attributes, declared, own_names
 
 WRITTEN = files.generated("make_hardware.py")
@@ -134,16 +134,13 @@ def cantor_vectors():
 def rust():
     """The functions as Rust declares foreign ones."""
     out = [f"//! The functions of libbinary_field by the processor's carryless multiply instruction. {WRITTEN}\n\n"]
-    out += [f"/// {about_group[:1].upper()}{about_group[1:]}.\npub const {group}: u32 = {bit};\n" for group, bit, about_group, _ in GROUPS]
+    out += [f"{rust_comment(c_library.sentence(about_group), '')}pub const {group}: u32 = {bit};\n" for group, bit, about_group, _ in GROUPS]
     out.append(f"/// All groups.\npub const ALL: u32 = {sum(it[1] for it in GROUPS)};\n\nunsafe extern \"C\" {{\n")
     out.append("    /// Compares the kernels of groups, and has their functions go by them.\n    pub fn bf_hw_begin(groups: u32) -> u32;\n")
     out.append("    /// The groups that go by kernels now.\n    pub fn bf_hw_groups() -> u32;\n")
     for _, _, _, rows in functions():
         for name, parameters, text in rows:
-            words = about(name, parameters, text).replace("[", "\\[").replace("]", "\\]")
-            comments = "".join(f"    /// {it}\n" for it in textwrap.wrap(words, 110))
-            parts = "".join(f"        {it},\n" for it in rust_declared(parameters))
-            out.append(f"{comments}    pub fn bf_hw_{name}(\n{parts}    ) -> u32;\n")
+            out.append(rust_comment(about(name, parameters, text)) + rust_function(f"bf_hw_{name}", parameters))
     return "".join([*out, "}\n"])
 
 

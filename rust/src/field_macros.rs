@@ -4,19 +4,19 @@
 /// A call of the library. `[x]` is a slice that is read and `[mut x]` one that is written: its pointer and its length. Everything else
 /// goes as it is.
 macro_rules! call {
-    ($function:ident: $($given:tt)*) => {
-        call!(@ $function () $($given)*)
+    ($function:path: $($given:tt)*) => {
+        call!(@ [$function] () $($given)*)
     };
-    (@ $function:ident ($($made:expr,)*) [mut $slice:expr] $(, $($rest:tt)*)?) => {
+    (@ $function:tt ($($made:expr,)*) [mut $slice:expr] $(, $($rest:tt)*)?) => {
         call!(@ $function ($($made,)* $slice.as_mut_ptr().cast(), $slice.len(),) $($($rest)*)?)
     };
-    (@ $function:ident ($($made:expr,)*) [$slice:expr] $(, $($rest:tt)*)?) => {
+    (@ $function:tt ($($made:expr,)*) [$slice:expr] $(, $($rest:tt)*)?) => {
         call!(@ $function ($($made,)* $slice.as_ptr().cast(), $slice.len(),) $($($rest)*)?)
     };
-    (@ $function:ident ($($made:expr,)*) $other:expr $(, $($rest:tt)*)?) => {
+    (@ $function:tt ($($made:expr,)*) $other:expr $(, $($rest:tt)*)?) => {
         call!(@ $function ($($made,)* $other,) $($($rest)*)?)
     };
-    (@ $function:ident ($($made:expr,)*)) => {
+    (@ [$function:path] ($($made:expr,)*)) => {
         // SAFETY: the pointers and lengths are those of slices, which are never null, and other pointers those of values; a slice of
         // elements is one of the words that the library takes, and a bool the byte 0 or 1; what is written overlaps nothing else.
         unsafe { $function($($made),*) }
@@ -101,7 +101,7 @@ macro_rules! by_reference {
 
 /// A call over slices of one element, whose result is one.
 macro_rules! on_one {
-    ($function:ident: $($value:expr),* $(; $middle:expr)? => $field:ident) => {{
+    ($function:path: $($value:expr),* $(; $middle:expr)? => $field:ident) => {{
         let mut results = [$field::ZERO];
         // SAFETY: each pointer is that of one element, and what is written overlaps no other.
         succeed(unsafe { $function($((&raw const $value).cast(), 1,)* $($middle,)? results.as_mut_ptr().cast(), 1) });
@@ -119,29 +119,10 @@ macro_rules! by_tables {
     };
 }
 
-/// A field, by its word, its degree, its zero, its one and its generator, and the function of the library for each name.
+/// A field, by its word, its degree, its zero, its one and its generator, and the module of its functions in the library.
 macro_rules! field {
     (
-        $(#[$about:meta])* $field:ident($word:ty), $degree:literal, $zero:expr, $one:expr, $generator:expr,
-        add: $add:ident,
-        multiply: $multiply:ident,
-        multiply_by: $multiply_by:ident,
-        add_scaled: $add_scaled:ident,
-        square: $square:ident,
-        inverse: $inverse:ident,
-        batch_inverse: $batch_inverse:ident,
-        square_root: $square_root:ident,
-        power: $power:ident,
-        product: $product:ident,
-        dot_product: $dot_product:ident,
-        evaluate: $evaluate:ident,
-        add_in_place: $add_in_place:ident,
-        multiply_in_place: $multiply_in_place:ident,
-        multiply_by_in_place: $multiply_by_in_place:ident,
-        square_in_place: $square_in_place:ident,
-        inverse_in_place: $inverse_in_place:ident,
-        square_root_in_place: $square_root_in_place:ident,
-        power_in_place: $power_in_place:ident,
+        $(#[$about:meta])* $field:ident($word:ty), $degree:literal, $zero:expr, $one:expr, $generator:expr, $library:ident,
         $(one_inverse_in: $tower:ident,)?
         $(tables: $product_of:ident,)?
     ) => {
@@ -172,12 +153,12 @@ macro_rules! field {
 
             #[inline]
             fn square(&self) -> $field {
-                by_tables!($field $($product_of)?: square(self.0); on_one!($square: *self => $field))
+                by_tables!($field $($product_of)?: square(self.0); on_one!($library::square: *self => $field))
             }
 
             #[inline]
             fn exp_u64(&self, exponent: u64) -> $field {
-                on_one!($power: *self; exponent => $field)
+                on_one!($library::power: *self; exponent => $field)
             }
 
             // As many squarings as bits leave every element.
@@ -208,12 +189,12 @@ macro_rules! field {
                 // One inverse in the isomorphic field of the tower takes less than one here.
                 $(return Some($field::from($tower::from(*self).inverse()));)?
                 #[allow(unreachable_code)]
-                Some(by_tables!($field $($product_of)?: inverse(self.0); on_one!($inverse: *self => $field)))
+                Some(by_tables!($field $($product_of)?: inverse(self.0); on_one!($library::inverse: *self => $field)))
             }
 
             #[inline]
             fn try_sqrt(&self) -> Option<$field> {
-                Some(by_tables!($field $($product_of)?: square_root(self.0); on_one!($square_root: *self => $field)))
+                Some(by_tables!($field $($product_of)?: square_root(self.0); on_one!($library::square_root: *self => $field)))
             }
 
             fn interpolation_node(index: usize) -> $field {
@@ -222,83 +203,83 @@ macro_rules! field {
             }
 
             fn add_slices(left: &[$field], right: &[$field], sums: &mut [$field]) -> Result<(), Error> {
-                Error::of(call!($add: [left], [right], [mut sums]))
+                Error::of(call!($library::add: [left], [right], [mut sums]))
             }
 
             fn multiply_slices(left: &[$field], right: &[$field], products: &mut [$field]) -> Result<(), Error> {
-                Error::of(call!($multiply: [left], [right], [mut products]))
+                Error::of(call!($library::multiply: [left], [right], [mut products]))
             }
 
             fn multiply_slice_by(values: &[$field], scalar: $field, products: &mut [$field]) -> Result<(), Error> {
-                Error::of(call!($multiply_by: [values], scalar.0.scalar(), [mut products]))
+                Error::of(call!($library::multiply_by: [values], scalar.0.scalar(), [mut products]))
             }
 
             fn add_scaled_slice(sums: &mut [$field], scalar: $field, values: &[$field]) -> Result<(), Error> {
-                Error::of(call!($add_scaled: [mut sums], scalar.0.scalar(), [values]))
+                Error::of(call!($library::add_scaled: [mut sums], scalar.0.scalar(), [values]))
             }
 
             fn add_assign_slice(sums: &mut [$field], values: &[$field]) -> Result<(), Error> {
-                Error::of(call!($add_in_place: [mut sums], [values]))
+                Error::of(call!($library::add_in_place: [mut sums], [values]))
             }
 
             fn multiply_assign_slice(products: &mut [$field], values: &[$field]) -> Result<(), Error> {
-                Error::of(call!($multiply_in_place: [mut products], [values]))
+                Error::of(call!($library::multiply_in_place: [mut products], [values]))
             }
 
             fn scale_slice(values: &mut [$field], scalar: $field) {
-                succeed(call!($multiply_by_in_place: [mut values], scalar.0.scalar()));
+                succeed(call!($library::multiply_by_in_place: [mut values], scalar.0.scalar()));
             }
 
             fn square_assign_slice(values: &mut [$field]) {
-                succeed(call!($square_in_place: [mut values]));
+                succeed(call!($library::square_in_place: [mut values]));
             }
 
             fn invert_assign_slice(values: &mut [$field]) {
-                succeed(call!($inverse_in_place: [mut values]));
+                succeed(call!($library::inverse_in_place: [mut values]));
             }
 
             fn square_root_assign_slice(values: &mut [$field]) {
-                succeed(call!($square_root_in_place: [mut values]));
+                succeed(call!($library::square_root_in_place: [mut values]));
             }
 
             fn power_assign_slice(values: &mut [$field], exponent: u64) {
-                succeed(call!($power_in_place: [mut values], exponent));
+                succeed(call!($library::power_in_place: [mut values], exponent));
             }
 
             fn square_slice(values: &[$field], squares: &mut [$field]) -> Result<(), Error> {
-                Error::of(call!($square: [values], [mut squares]))
+                Error::of(call!($library::square: [values], [mut squares]))
             }
 
             fn square_root_slice(values: &[$field], roots: &mut [$field]) -> Result<(), Error> {
-                Error::of(call!($square_root: [values], [mut roots]))
+                Error::of(call!($library::square_root: [values], [mut roots]))
             }
 
             fn inverse_slice(values: &[$field], inverses: &mut [$field]) -> Result<(), Error> {
-                Error::of(call!($inverse: [values], [mut inverses]))
+                Error::of(call!($library::inverse: [values], [mut inverses]))
             }
 
             fn batch_inverse_slice(values: &[$field], inverses: &mut [$field]) -> Result<(), Error> {
-                Error::of(call!($batch_inverse: [values], [mut inverses]))
+                Error::of(call!($library::batch_inverse: [values], [mut inverses]))
             }
 
             fn power_slice(values: &[$field], exponent: u64, powers: &mut [$field]) -> Result<(), Error> {
-                Error::of(call!($power: [values], exponent, [mut powers]))
+                Error::of(call!($library::power: [values], exponent, [mut powers]))
             }
 
             fn product_of_slice(values: &[$field]) -> $field {
                 let mut result = $field::ZERO;
-                succeed(call!($product: [values], (&raw mut result).cast()));
+                succeed(call!($library::product: [values], (&raw mut result).cast()));
                 result
             }
 
             fn dot_product_of_slices(left: &[$field], right: &[$field]) -> Result<$field, Error> {
                 let mut result = $field::ZERO;
-                Error::of(call!($dot_product: [left], [right], (&raw mut result).cast()))?;
+                Error::of(call!($library::dot_product: [left], [right], (&raw mut result).cast()))?;
                 Ok(result)
             }
 
             fn evaluate(coefficients: &[$field], points: &[$field], values: &mut [$field]) -> Result<(), Error> {
-                Error::of(call!($evaluate: [coefficients], [points], [mut values]))
+                Error::of(call!($library::evaluate: [coefficients], [points], [mut values]))
             }
         }
 
@@ -327,7 +308,7 @@ macro_rules! field {
 
             #[inline]
             fn mul(self, other: $field) -> $field {
-                by_tables!($field $($product_of)?: multiply(self.0, other.0); on_one!($multiply: self, other => $field))
+                by_tables!($field $($product_of)?: multiply(self.0, other.0); on_one!($library::multiply: self, other => $field))
             }
         }
 

@@ -24,26 +24,7 @@ field! {
     /// let y = Gf2::from_repr(0x1);
     /// assert_eq!(x * y, Gf2::from_repr(0x1));
     /// ```
-    Gf2(u8), 1, 0x0, 0x1, 0x1,
-    add: bf_gf2_add,
-    multiply: bf_gf2_multiply,
-    multiply_by: bf_gf2_multiply_by,
-    add_scaled: bf_gf2_add_scaled,
-    square: bf_gf2_square,
-    inverse: bf_gf2_inverse,
-    batch_inverse: bf_gf2_batch_inverse,
-    square_root: bf_gf2_square_root,
-    power: bf_gf2_power,
-    product: bf_gf2_product,
-    dot_product: bf_gf2_dot_product,
-    evaluate: bf_gf2_evaluate,
-    add_in_place: bf_gf2_add_in_place,
-    multiply_in_place: bf_gf2_multiply_in_place,
-    multiply_by_in_place: bf_gf2_multiply_by_in_place,
-    square_in_place: bf_gf2_square_in_place,
-    inverse_in_place: bf_gf2_inverse_in_place,
-    square_root_in_place: bf_gf2_square_root_in_place,
-    power_in_place: bf_gf2_power_in_place,
+    Gf2(u8), 1, 0x0, 0x1, 0x1, gf2,
     tables: Tower,
 }
 
@@ -57,26 +38,7 @@ field! {
     /// let y = BinaryField2::from_repr(0x2);
     /// assert_eq!(x * y, BinaryField2::from_repr(0x3));
     /// ```
-    BinaryField2(u8), 2, 0x0, 0x1, 0x2,
-    add: bf_t2_add,
-    multiply: bf_t2_multiply,
-    multiply_by: bf_t2_multiply_by,
-    add_scaled: bf_t2_add_scaled,
-    square: bf_t2_square,
-    inverse: bf_t2_inverse,
-    batch_inverse: bf_t2_batch_inverse,
-    square_root: bf_t2_square_root,
-    power: bf_t2_power,
-    product: bf_t2_product,
-    dot_product: bf_t2_dot_product,
-    evaluate: bf_t2_evaluate,
-    add_in_place: bf_t2_add_in_place,
-    multiply_in_place: bf_t2_multiply_in_place,
-    multiply_by_in_place: bf_t2_multiply_by_in_place,
-    square_in_place: bf_t2_square_in_place,
-    inverse_in_place: bf_t2_inverse_in_place,
-    square_root_in_place: bf_t2_square_root_in_place,
-    power_in_place: bf_t2_power_in_place,
+    BinaryField2(u8), 2, 0x0, 0x1, 0x2, t2,
     tables: Tower,
 }
 
@@ -90,26 +52,7 @@ field! {
     /// let y = BinaryField4::from_repr(0x8);
     /// assert_eq!(x * y, BinaryField4::from_repr(0x6));
     /// ```
-    BinaryField4(u8), 4, 0x0, 0x1, 0x5,
-    add: bf_t4_add,
-    multiply: bf_t4_multiply,
-    multiply_by: bf_t4_multiply_by,
-    add_scaled: bf_t4_add_scaled,
-    square: bf_t4_square,
-    inverse: bf_t4_inverse,
-    batch_inverse: bf_t4_batch_inverse,
-    square_root: bf_t4_square_root,
-    power: bf_t4_power,
-    product: bf_t4_product,
-    dot_product: bf_t4_dot_product,
-    evaluate: bf_t4_evaluate,
-    add_in_place: bf_t4_add_in_place,
-    multiply_in_place: bf_t4_multiply_in_place,
-    multiply_by_in_place: bf_t4_multiply_by_in_place,
-    square_in_place: bf_t4_square_in_place,
-    inverse_in_place: bf_t4_inverse_in_place,
-    square_root_in_place: bf_t4_square_root_in_place,
-    power_in_place: bf_t4_power_in_place,
+    BinaryField4(u8), 4, 0x0, 0x1, 0x5, t4,
     tables: Tower,
 }
 
@@ -123,26 +66,7 @@ field! {
     /// let y = BinaryField8::from_repr(0x80);
     /// assert_eq!(x * y, BinaryField8::from_repr(0xa8));
     /// ```
-    BinaryField8(u8), 8, 0x0, 0x1, 0x13,
-    add: bf_t8_add,
-    multiply: bf_t8_multiply,
-    multiply_by: bf_t8_multiply_by,
-    add_scaled: bf_t8_add_scaled,
-    square: bf_t8_square,
-    inverse: bf_t8_inverse,
-    batch_inverse: bf_t8_batch_inverse,
-    square_root: bf_t8_square_root,
-    power: bf_t8_power,
-    product: bf_t8_product,
-    dot_product: bf_t8_dot_product,
-    evaluate: bf_t8_evaluate,
-    add_in_place: bf_t8_add_in_place,
-    multiply_in_place: bf_t8_multiply_in_place,
-    multiply_by_in_place: bf_t8_multiply_by_in_place,
-    square_in_place: bf_t8_square_in_place,
-    inverse_in_place: bf_t8_inverse_in_place,
-    square_root_in_place: bf_t8_square_root_in_place,
-    power_in_place: bf_t8_power_in_place,
+    BinaryField8(u8), 8, 0x0, 0x1, 0x13, t8,
     tables: Tower,
 }
 
@@ -156,26 +80,7 @@ field! {
     /// let y = BinaryField16::from_repr(0x8000);
     /// assert_eq!(x * y, BinaryField16::from_repr(0x2880));
     /// ```
-    BinaryField16(u16), 16, 0x0, 0x1, 0x102,
-    add: bf_t16_add,
-    multiply: bf_t16_multiply,
-    multiply_by: bf_t16_multiply_by,
-    add_scaled: bf_t16_add_scaled,
-    square: bf_t16_square,
-    inverse: bf_t16_inverse,
-    batch_inverse: bf_t16_batch_inverse,
-    square_root: bf_t16_square_root,
-    power: bf_t16_power,
-    product: bf_t16_product,
-    dot_product: bf_t16_dot_product,
-    evaluate: bf_t16_evaluate,
-    add_in_place: bf_t16_add_in_place,
-    multiply_in_place: bf_t16_multiply_in_place,
-    multiply_by_in_place: bf_t16_multiply_by_in_place,
-    square_in_place: bf_t16_square_in_place,
-    inverse_in_place: bf_t16_inverse_in_place,
-    square_root_in_place: bf_t16_square_root_in_place,
-    power_in_place: bf_t16_power_in_place,
+    BinaryField16(u16), 16, 0x0, 0x1, 0x102, t16,
 }
 
 field! {
@@ -188,26 +93,7 @@ field! {
     /// let y = BinaryField32::from_repr(0x80000000);
     /// assert_eq!(x * y, BinaryField32::from_repr(0x88808000));
     /// ```
-    BinaryField32(u32), 32, 0x0, 0x1, 0x10005,
-    add: bf_t32_add,
-    multiply: bf_t32_multiply,
-    multiply_by: bf_t32_multiply_by,
-    add_scaled: bf_t32_add_scaled,
-    square: bf_t32_square,
-    inverse: bf_t32_inverse,
-    batch_inverse: bf_t32_batch_inverse,
-    square_root: bf_t32_square_root,
-    power: bf_t32_power,
-    product: bf_t32_product,
-    dot_product: bf_t32_dot_product,
-    evaluate: bf_t32_evaluate,
-    add_in_place: bf_t32_add_in_place,
-    multiply_in_place: bf_t32_multiply_in_place,
-    multiply_by_in_place: bf_t32_multiply_by_in_place,
-    square_in_place: bf_t32_square_in_place,
-    inverse_in_place: bf_t32_inverse_in_place,
-    square_root_in_place: bf_t32_square_root_in_place,
-    power_in_place: bf_t32_power_in_place,
+    BinaryField32(u32), 32, 0x0, 0x1, 0x10005, t32,
 }
 
 field! {
@@ -220,26 +106,7 @@ field! {
     /// let y = BinaryField64::from_repr(0x8000000000000000);
     /// assert_eq!(x * y, BinaryField64::from_repr(0x880800080000000));
     /// ```
-    BinaryField64(u64), 64, 0x0, 0x1, 0x100000004,
-    add: bf_t64_add,
-    multiply: bf_t64_multiply,
-    multiply_by: bf_t64_multiply_by,
-    add_scaled: bf_t64_add_scaled,
-    square: bf_t64_square,
-    inverse: bf_t64_inverse,
-    batch_inverse: bf_t64_batch_inverse,
-    square_root: bf_t64_square_root,
-    power: bf_t64_power,
-    product: bf_t64_product,
-    dot_product: bf_t64_dot_product,
-    evaluate: bf_t64_evaluate,
-    add_in_place: bf_t64_add_in_place,
-    multiply_in_place: bf_t64_multiply_in_place,
-    multiply_by_in_place: bf_t64_multiply_by_in_place,
-    square_in_place: bf_t64_square_in_place,
-    inverse_in_place: bf_t64_inverse_in_place,
-    square_root_in_place: bf_t64_square_root_in_place,
-    power_in_place: bf_t64_power_in_place,
+    BinaryField64(u64), 64, 0x0, 0x1, 0x100000004, t64,
 }
 
 field! {
@@ -252,26 +119,7 @@ field! {
     /// let y = BinaryField128::from_repr(0x80000000000000000000000000000000);
     /// assert_eq!(x * y, BinaryField128::from_repr(0x88808000800000008000000000000000));
     /// ```
-    BinaryField128(u128), 128, 0x0, 0x1, 0x10000000000000005,
-    add: bf_t128_add,
-    multiply: bf_t128_multiply,
-    multiply_by: bf_t128_multiply_by,
-    add_scaled: bf_t128_add_scaled,
-    square: bf_t128_square,
-    inverse: bf_t128_inverse,
-    batch_inverse: bf_t128_batch_inverse,
-    square_root: bf_t128_square_root,
-    power: bf_t128_power,
-    product: bf_t128_product,
-    dot_product: bf_t128_dot_product,
-    evaluate: bf_t128_evaluate,
-    add_in_place: bf_t128_add_in_place,
-    multiply_in_place: bf_t128_multiply_in_place,
-    multiply_by_in_place: bf_t128_multiply_by_in_place,
-    square_in_place: bf_t128_square_in_place,
-    inverse_in_place: bf_t128_inverse_in_place,
-    square_root_in_place: bf_t128_square_root_in_place,
-    power_in_place: bf_t128_power_in_place,
+    BinaryField128(u128), 128, 0x0, 0x1, 0x10000000000000005, t128,
 }
 
 field! {
@@ -284,26 +132,7 @@ field! {
     /// let y = Rijndael8b::from_repr(0x80);
     /// assert_eq!(x * y, Rijndael8b::from_repr(0xf6));
     /// ```
-    Rijndael8b(u8), 8, 0x0, 0x1, 0x88,
-    add: bf_r8_add,
-    multiply: bf_r8_multiply,
-    multiply_by: bf_r8_multiply_by,
-    add_scaled: bf_r8_add_scaled,
-    square: bf_r8_square,
-    inverse: bf_r8_inverse,
-    batch_inverse: bf_r8_batch_inverse,
-    square_root: bf_r8_square_root,
-    power: bf_r8_power,
-    product: bf_r8_product,
-    dot_product: bf_r8_dot_product,
-    evaluate: bf_r8_evaluate,
-    add_in_place: bf_r8_add_in_place,
-    multiply_in_place: bf_r8_multiply_in_place,
-    multiply_by_in_place: bf_r8_multiply_by_in_place,
-    square_in_place: bf_r8_square_in_place,
-    inverse_in_place: bf_r8_inverse_in_place,
-    square_root_in_place: bf_r8_square_root_in_place,
-    power_in_place: bf_r8_power_in_place,
+    Rijndael8b(u8), 8, 0x0, 0x1, 0x88, r8,
     tables: Aes,
 }
 
@@ -317,26 +146,7 @@ field! {
     /// let y = Poly64::from_repr(0x8000000000000000);
     /// assert_eq!(x * y, Poly64::from_repr(0xb64b917263b0be4f));
     /// ```
-    Poly64(u64), 64, 0x0, 0x1, 0xc313d8d1bfae2150,
-    add: bf_p64_add,
-    multiply: bf_p64_multiply,
-    multiply_by: bf_p64_multiply_by,
-    add_scaled: bf_p64_add_scaled,
-    square: bf_p64_square,
-    inverse: bf_p64_inverse,
-    batch_inverse: bf_p64_batch_inverse,
-    square_root: bf_p64_square_root,
-    power: bf_p64_power,
-    product: bf_p64_product,
-    dot_product: bf_p64_dot_product,
-    evaluate: bf_p64_evaluate,
-    add_in_place: bf_p64_add_in_place,
-    multiply_in_place: bf_p64_multiply_in_place,
-    multiply_by_in_place: bf_p64_multiply_by_in_place,
-    square_in_place: bf_p64_square_in_place,
-    inverse_in_place: bf_p64_inverse_in_place,
-    square_root_in_place: bf_p64_square_root_in_place,
-    power_in_place: bf_p64_power_in_place,
+    Poly64(u64), 64, 0x0, 0x1, 0xc313d8d1bfae2150, p64,
     one_inverse_in: BinaryField64,
 }
 
@@ -350,26 +160,7 @@ field! {
     /// let y = Ghash128::from_repr(0x80000000000000000000000000000000);
     /// assert_eq!(x * y, Ghash128::from_repr(0x356073f69acff7fec1f806ba2ff001e0));
     /// ```
-    Ghash128(u128), 128, 0x0, 0x1, 0xe5a5755ad217f07d1da70a747203d630,
-    add: bf_g128_add,
-    multiply: bf_g128_multiply,
-    multiply_by: bf_g128_multiply_by,
-    add_scaled: bf_g128_add_scaled,
-    square: bf_g128_square,
-    inverse: bf_g128_inverse,
-    batch_inverse: bf_g128_batch_inverse,
-    square_root: bf_g128_square_root,
-    power: bf_g128_power,
-    product: bf_g128_product,
-    dot_product: bf_g128_dot_product,
-    evaluate: bf_g128_evaluate,
-    add_in_place: bf_g128_add_in_place,
-    multiply_in_place: bf_g128_multiply_in_place,
-    multiply_by_in_place: bf_g128_multiply_by_in_place,
-    square_in_place: bf_g128_square_in_place,
-    inverse_in_place: bf_g128_inverse_in_place,
-    square_root_in_place: bf_g128_square_root_in_place,
-    power_in_place: bf_g128_power_in_place,
+    Ghash128(u128), 128, 0x0, 0x1, 0xe5a5755ad217f07d1da70a747203d630, g128,
     one_inverse_in: BinaryField128,
 }
 
@@ -383,26 +174,7 @@ field! {
     /// let y = Poly192::from([0x0, 0x0, 0x8000000000000000]);
     /// assert_eq!(x * y, Poly192::from([0x800000000000001b, 0x1b, 0x36]));
     /// ```
-    Poly192([u64; 3]), 192, [0x0, 0x0, 0x0], [0x1, 0x0, 0x0], [0x5, 0x3, 0x1],
-    add: bf_p192_add,
-    multiply: bf_p192_multiply,
-    multiply_by: bf_p192_multiply_by,
-    add_scaled: bf_p192_add_scaled,
-    square: bf_p192_square,
-    inverse: bf_p192_inverse,
-    batch_inverse: bf_p192_batch_inverse,
-    square_root: bf_p192_square_root,
-    power: bf_p192_power,
-    product: bf_p192_product,
-    dot_product: bf_p192_dot_product,
-    evaluate: bf_p192_evaluate,
-    add_in_place: bf_p192_add_in_place,
-    multiply_in_place: bf_p192_multiply_in_place,
-    multiply_by_in_place: bf_p192_multiply_by_in_place,
-    square_in_place: bf_p192_square_in_place,
-    inverse_in_place: bf_p192_inverse_in_place,
-    square_root_in_place: bf_p192_square_root_in_place,
-    power_in_place: bf_p192_power_in_place,
+    Poly192([u64; 3]), 192, [0x0, 0x0, 0x0], [0x1, 0x0, 0x0], [0x5, 0x3, 0x1], p192,
 }
 
 whole_words! {

@@ -43,8 +43,8 @@ pub mod bit_matrices;
 mod bits;
 mod bytes;
 pub mod challenger;
-mod codes;
 pub mod chosen;
+mod codes;
 mod erasure;
 #[rustfmt::skip]
 mod error;

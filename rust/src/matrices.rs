@@ -76,19 +76,19 @@ pub trait Matrices: Field {
 
 /// The calls of the library by which fields have matrices.
 macro_rules! matrices {
-    ($($field:ident: $multiply:ident $row_reduce:ident $rank:ident $determinant:ident $inverse:ident $solve:ident),* $(,)?) => {$(
+    ($($field:ident: $library:ident),* $(,)?) => {$(
         impl Matrices for $field {
             fn matrix_multiply(
                 left: &[$field], right: &[$field], product: &mut [$field], rows: usize, inner: usize, columns: usize,
             ) -> Result<(), Error> {
-                Error::of(call!($multiply: [left], [right], [mut product], rows, inner, columns))
+                Error::of(call!($library::matrix_multiply: [left], [right], [mut product], rows, inner, columns))
             }
 
             fn matrix_row_reduce(
                 matrix: &mut [$field], rows: usize, columns: usize, pivots: &mut [usize],
             ) -> Result<usize, Error> {
                 let mut rank = 0;
-                Error::of(call!($row_reduce: [mut matrix], rows, columns, [mut pivots], &raw mut rank))?;
+                Error::of(call!($library::matrix_row_reduce: [mut matrix], rows, columns, [mut pivots], &raw mut rank))?;
                 Ok(rank)
             }
 
@@ -96,43 +96,33 @@ macro_rules! matrices {
                 matrix: &[$field], rows: usize, columns: usize, space: &mut [$field], places: &mut [usize],
             ) -> Result<usize, Error> {
                 let mut rank = 0;
-                Error::of(call!($rank: [matrix], rows, columns, [mut space], [mut places], &raw mut rank))?;
+                Error::of(call!($library::matrix_rank: [matrix], rows, columns, [mut space], [mut places], &raw mut rank))?;
                 Ok(rank)
             }
 
             fn matrix_determinant(matrix: &[$field], size: usize, space: &mut [$field]) -> Result<$field, Error> {
                 let mut determinant = <$field as crate::PrimeCharacteristicRing>::ZERO;
-                Error::of(call!($determinant: [matrix], size, [mut space], (&raw mut determinant).cast()))?;
+                Error::of(call!($library::matrix_determinant: [matrix], size, [mut space], (&raw mut determinant).cast()))?;
                 Ok(determinant)
             }
 
             fn matrix_inverse(
                 matrix: &[$field], size: usize, inverse: &mut [$field], space: &mut [$field], places: &mut [usize],
             ) -> Result<(), Error> {
-                Error::of(call!($inverse: [matrix], size, [mut inverse], [mut space], [mut places]))
+                Error::of(call!($library::matrix_inverse: [matrix], size, [mut inverse], [mut space], [mut places]))
             }
 
             fn matrix_solve(
                 matrix: &[$field], rows: usize, columns: usize, right: &[$field], solution: &mut [$field], space: &mut [$field],
                 places: &mut [usize],
             ) -> Result<(), Error> {
-                Error::of(call!($solve: [matrix], rows, columns, [right], [mut solution], [mut space], [mut places]))
+                Error::of(call!($library::matrix_solve: [matrix], rows, columns, [right], [mut solution], [mut space], [mut places]))
             }
         }
     )*};
 }
 
 matrices! {
-    Gf2: bf_gf2_matrix_multiply bf_gf2_matrix_row_reduce bf_gf2_matrix_rank bf_gf2_matrix_determinant bf_gf2_matrix_inverse bf_gf2_matrix_solve,
-    BinaryField2: bf_t2_matrix_multiply bf_t2_matrix_row_reduce bf_t2_matrix_rank bf_t2_matrix_determinant bf_t2_matrix_inverse bf_t2_matrix_solve,
-    BinaryField4: bf_t4_matrix_multiply bf_t4_matrix_row_reduce bf_t4_matrix_rank bf_t4_matrix_determinant bf_t4_matrix_inverse bf_t4_matrix_solve,
-    BinaryField8: bf_t8_matrix_multiply bf_t8_matrix_row_reduce bf_t8_matrix_rank bf_t8_matrix_determinant bf_t8_matrix_inverse bf_t8_matrix_solve,
-    BinaryField16: bf_t16_matrix_multiply bf_t16_matrix_row_reduce bf_t16_matrix_rank bf_t16_matrix_determinant bf_t16_matrix_inverse bf_t16_matrix_solve,
-    BinaryField32: bf_t32_matrix_multiply bf_t32_matrix_row_reduce bf_t32_matrix_rank bf_t32_matrix_determinant bf_t32_matrix_inverse bf_t32_matrix_solve,
-    BinaryField64: bf_t64_matrix_multiply bf_t64_matrix_row_reduce bf_t64_matrix_rank bf_t64_matrix_determinant bf_t64_matrix_inverse bf_t64_matrix_solve,
-    BinaryField128: bf_t128_matrix_multiply bf_t128_matrix_row_reduce bf_t128_matrix_rank bf_t128_matrix_determinant bf_t128_matrix_inverse bf_t128_matrix_solve,
-    Rijndael8b: bf_r8_matrix_multiply bf_r8_matrix_row_reduce bf_r8_matrix_rank bf_r8_matrix_determinant bf_r8_matrix_inverse bf_r8_matrix_solve,
-    Poly64: bf_p64_matrix_multiply bf_p64_matrix_row_reduce bf_p64_matrix_rank bf_p64_matrix_determinant bf_p64_matrix_inverse bf_p64_matrix_solve,
-    Ghash128: bf_g128_matrix_multiply bf_g128_matrix_row_reduce bf_g128_matrix_rank bf_g128_matrix_determinant bf_g128_matrix_inverse bf_g128_matrix_solve,
-    Poly192: bf_p192_matrix_multiply bf_p192_matrix_row_reduce bf_p192_matrix_rank bf_p192_matrix_determinant bf_p192_matrix_inverse bf_p192_matrix_solve,
+    Gf2: gf2, BinaryField2: t2, BinaryField4: t4, BinaryField8: t8, BinaryField16: t16, BinaryField32: t32,
+    BinaryField64: t64, BinaryField128: t128, Rijndael8b: r8, Poly64: p64, Ghash128: g128, Poly192: p192,
 }

@@ -1,6 +1,6 @@
 //! The field of GHASH over plain numbers of 128 bits: bit i is the coefficient of x^i.
 
-use crate::functions::{bf_g128_multiply_by, bf_g128_to_t128, bf_t128_to_g128};
+use crate::functions::{bf_g128_to_t128, bf_t128_to_g128, g128};
 use crate::{BinaryField128, Error, Ghash128, PrimeCharacteristicRing, maps};
 
 /// Whether products use an instruction of the processor: none does.
@@ -116,7 +116,7 @@ pub fn mul_slice(values: &mut [u128], scalar: u128) {
     let scalar = (&raw const scalar).cast();
     in_place(
         values,
-        |block, products| call!(bf_g128_multiply_by: [block], scalar, [mut products]),
+        |block, products| call!(g128::multiply_by: [block], scalar, [mut products]),
     );
 }
 

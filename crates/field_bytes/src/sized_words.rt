@@ -1,4 +1,4 @@
-// Written by scripts/make_word_impls.py; do not edit.
+// Written by scripts/make_impls.py; do not edit.
 // Streams of words of 32 and of 64 bits, of one iterator of elements and of several side by side.
 ghost use Rattle.std.specs.Prelude.{◌≡◌};
 ghost use Rattle.field_bytes.specs.Words.{StreamsWordRows, StreamsWords};

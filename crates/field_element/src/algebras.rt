@@ -1,4 +1,4 @@
-// Written by scripts/make_level_impls.py; do not edit.
+// Written by scripts/make_impls.py; do not edit.
 // Levels of the tower as algebras over the levels below them: an element of the lower level is the same number in the upper.
 ghost use Rattle.std.specs.Prelude.{◌≡◌, ◌<◌, ◌^◌, ℕ, refl};
 ghost use Rattle.field_base.specs.Operators.{given};

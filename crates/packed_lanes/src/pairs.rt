@@ -1,4 +1,4 @@
-// Written by scripts/make_word_impls.py; do not edit.
+// Written by scripts/make_impls.py; do not edit.
 // The pairs of a row and its parts: each of M512, M256, M128, u64, u32 and u16 with every narrower row.
 ghost use Rattle.std.specs.Prelude.{refl};
 

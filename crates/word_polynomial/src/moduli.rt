@@ -1,4 +1,4 @@
-// Written by scripts/make_modulus_impls.py; do not edit.
+// Written by scripts/make_impls.py; do not edit.
 // The three fields of polynomials, and the levels of the tower that each contains. At 8 bits their arithmetic is by tables of the
 // bytes of AES, at 64 and 128 bits by carryless products and their remainders.
 ghost use Rattle.std.specs.Prelude.{◌≡◌, ◌≢◌, ◌<◌, ◌≤◌, ◌%◌, ◌*◌, ◌+◌, ◌^◌, refl};

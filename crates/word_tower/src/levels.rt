@@ -1,4 +1,4 @@
-// Written by scripts/make_level_impls.py; do not edit.
+// Written by scripts/make_impls.py; do not edit.
 // The eight levels. Those of 2, 4 and 8 bits use the tables of the level of 8 bits: a level lies inside those above it, so that
 // products, inverses and roots of its elements are those of the level of 8 bits. Those of 16 bits and more have words for halves.
 // Their squares and square roots of up to 64 bits are sums of table entries of the bytes, and products of 64 and 128 bits are

@@ -1,4 +1,4 @@
-// Written by scripts/make_word_impls.py; do not edit.
+// Written by scripts/make_impls.py; do not edit.
 // The unsigned integers of Rust as words that are read into vectors of their bytes. Words of 128 bits have an impl for all that hold them.
 ghost use Rattle.std.specs.Prelude.{refl};
 ghost use Rattle.additive_transforms.specs.lemmas.Chunk.{no_halves, one_half, two_halves, three_halves};

@@ -1,4 +1,4 @@
-// Written by scripts/make_word_impls.py; do not edit.
+// Written by scripts/make_impls.py; do not edit.
 // Sums of the entries of a byte table at the bytes of a word, for each width of words.
 ghost use Rattle.std.specs.Prelude.{◌≡◌, slice_index};
 ghost use Rattle.field_base.specs.ByteTables.{sum_of_entries};

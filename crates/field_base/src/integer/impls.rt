@@ -1,4 +1,4 @@
-// Written by scripts/make_word_impls.py; do not edit.
+// Written by scripts/make_impls.py; do not edit.
 // The integers of Rust by their parity, and by the numbers 0 and 1.
 ghost use Rattle.std.specs.Prelude.{◌≡◌, ◌⊎◌, ◌↔◌, pos, IsTrue};
 ghost use Rattle.field_base.specs.Powers.{parity};

@@ -1,4 +1,4 @@
-// Written by scripts/make_word_impls.py; do not edit.
+// Written by scripts/make_impls.py; do not edit.
 // The unsigned integers of Rust as `serde` reads them.
 ghost use Rattle.std.specs.Prelude.{IfOk, List, [], ◌∷◌};
 ghost use Rattle.serde.specs.Event.{Event, unsigned};

@@ -1,4 +1,4 @@
-// Written by scripts/make_word_impls.py; do not edit.
+// Written by scripts/make_impls.py; do not edit.
 // The unsigned integers of Rust as words.
 ghost use prog.Memory.{size};
 ghost use denote.Param.{layout};

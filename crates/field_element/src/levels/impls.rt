@@ -1,4 +1,4 @@
-// Written by scripts/make_level_impls.py; do not edit.
+// Written by scripts/make_impls.py; do not edit.
 // Each level as a vector space over the levels inside it.
 ghost use Rattle.std.specs.Prelude.{◌≡◌, ◌<◌, ◌≤◌, ◌*◌, ◌+◌, ◌-◌, ◌^◌, codes, map, refl};
 ghost use Rattle.field_base.specs.Chunks.{chunk, chunks};

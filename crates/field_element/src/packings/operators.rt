@@ -1,4 +1,4 @@
-// Written by scripts/make_operator_impls.py; do not edit.
+// Written by scripts/make_impls.py; do not edit.
 // The operators of packings with an element on the left, one of the packing's field, and of packings of `Ghash128` with an element of
 // `BinaryField128` on either side. It, or its image, stands in every lane.
 ghost use Rattle.std.specs.Prelude.{◌≡◌, bit_xor, map, replicate};

@@ -1,4 +1,4 @@
-// Written by scripts/make_modulus_impls.py; do not edit.
+// Written by scripts/make_impls.py; do not edit.
 // Elements of the fields of polynomials by their coefficients and their bytes.
 ghost use Rattle.std.specs.Prelude.{◌≡◌};
 ghost use Rattle.std.specs.Int.{from_le_bytes, w64, w128};

@@ -1,4 +1,4 @@
-// Written by scripts/make_level_impls.py; do not edit.
+// Written by scripts/make_impls.py; do not edit.
 // The levels of the tower below each level, with their conversions to it, and the changes of basis back to a level.
 ghost use Rattle.std.specs.Prelude.{◌≡◌, ◌<◌, ◌^◌};
 ghost use Rattle.field_base.specs.Basis.{basis_image};

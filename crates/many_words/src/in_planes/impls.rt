@@ -1,4 +1,4 @@
-// Written by scripts/make_call_impls.py; do not edit.
+// Written by scripts/make_impls.py; do not edit.
 // The levels of 16 to 128 bits by their planes of bytes, thirty-two words at once, and by the multiples of a scalar. Those of a level
 // are made of those of the level below.
 ghost use Rattle.std.proofs.Common.{lit≤};

@@ -1,4 +1,4 @@
-// Written by scripts/make_call_impls.py; do not edit.
+// Written by scripts/make_impls.py; do not edit.
 // The levels of 8 to 128 bits by slices of their bits.
 use super::FieldInSlices;
 use crate::{Slices8, Slices16, Slices32, Slices64, Slices128, Vector, invert_each, multiply_each};

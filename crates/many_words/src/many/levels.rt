@@ -1,4 +1,4 @@
-// Written by scripts/make_call_impls.py; do not edit.
+// Written by scripts/make_impls.py; do not edit.
 // The levels of 8 to 128 bits: bytes by one scalar in registers, wider words in planes of bytes; from 16 bits on, and bytes in wide vectors,
 // products and inverses in slices of bits. Each level has an impl of its own: one over a bound would have the planes of a level, which nest, in
 // every contract that names its elements.

@@ -1,4 +1,4 @@
-// Written by scripts/make_word_impls.py; do not edit.
+// Written by scripts/make_impls.py; do not edit.
 // The unsigned integers of Rust of up to 64 bits, as words of rows and as rows of one word.
 ghost use Rattle.std.specs.Prelude.{◌≡◌, refl};
 ghost use Rattle.std.proofs.Common.{lit<, lit≤, rules, ◌^◌, ◌-◌};

@@ -1,4 +1,4 @@
-// Written by scripts/make_word_impls.py; do not edit.
+// Written by scripts/make_impls.py; do not edit.
 // The changes of basis of words of 64 and of 128 bits and of slices of them: the value at a word is the sum of an entry for each byte.
 //
 //     x = b0 + b1 256 + b2 256^2 + ..   ->   table[b0] + table[256 + b1] + table[512 + b2] + ..

@@ -1,4 +1,4 @@
-// Written by scripts/make_word_impls.py; do not edit.
+// Written by scripts/make_impls.py; do not edit.
 // Squares and square roots of elements of 16 to 64 bits, as sums of table entries of their bytes.
 ghost use Rattle.std.specs.Prelude.{◌≡◌};
 ghost use Rattle.field_base.specs.Tower.{tower_mul};

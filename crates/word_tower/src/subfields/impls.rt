@@ -1,4 +1,4 @@
-// Written by scripts/make_level_impls.py; do not edit.
+// Written by scripts/make_impls.py; do not edit.
 // Which level lies in which.
 ghost use Rattle.std.specs.Prelude.{◌≡◌, ◌<◌, ◌≤◌, ◌^◌};
 ghost use Rattle.std.proofs.Common.{lit≤};

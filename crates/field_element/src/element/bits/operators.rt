@@ -1,4 +1,4 @@
-// Written by scripts/make_operator_impls.py; do not edit.
+// Written by scripts/make_impls.py; do not edit.
 // The operators of elements with an element of GF(2) on the right.
 ghost use Rattle.std.specs.Prelude.{◌≡◌, bit_xor};
 ghost use Rattle.field_base.specs.Bit.{bit_number as bit_of};

@@ -1,4 +1,4 @@
-// Written by scripts/make_operator_impls.py; do not edit.
+// Written by scripts/make_impls.py; do not edit.
 // The operators of two elements of fields of which one contains the other.
 ghost use Rattle.std.specs.Prelude.{◌≡◌, bit_xor};
 

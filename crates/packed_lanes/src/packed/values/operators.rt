@@ -1,4 +1,4 @@
-// Written by scripts/make_operator_impls.py; do not edit.
+// Written by scripts/make_impls.py; do not edit.
 // The operators of packings with an element of their field on the right, and with an element of GF(2) on either side, which stands in
 // every lane.
 ghost use Rattle.std.specs.Prelude.{◌≡◌, ◌*◌, bit_xor, map, replicate};
