@@ -6,12 +6,12 @@ all of them.
 
 Every .rt and .antt file is read but those that scripts write. Blank lines, comments, imports and lines with no word count for nothing. Lines
 have one shape where they are the same with `x` for each name, `0` for each number and `s` for each string, and a place is `same` where its
-text is. Six lines in one shape are a repeat where they have 24 words and signs and three shapes among them; rows of a table, variants and
+text is. Six lines in one shape are a repeat where they have 24 words and signs and four shapes among them; rows of a table, variants and
 parameters have fewer. A pair is as long as it can be, and its sides start six lines apart or more.
 
 The command `duplicates`, shown a copy of these files with endings that it knows, looks at the same lines in the same shapes, and counts
-otherwise. Its pair is a pair of files, however many places they share; this counts each pair of places, and names the number of pairs of files.
-It leaves out six lines that stand more than eight times; this leaves out none. It wants two statements among six lines where this wants three
+otherwise. Its pair is a pair of files, however many places they share, as in what scripts/check-house holds; this lists each pair of places too.
+It leaves out six lines that stand more than eight times; this leaves out none. It wants two statements among six lines where this wants four
 shapes: signatures with other parameters and types with other fields are counted here alone, lists of assignments of one shape there alone. It
 reads `ghost use` and the lines of a long `use` as code. It lets a pair go on behind a line that one side has more; here another pair begins.
 """
@@ -22,7 +22,7 @@ import sys
 
 import files
 
-LINES, WORDS, SHAPES = 6, 24, 3
+LINES, WORDS, SHAPES = 6, 24, 4
 WORD = re.compile(r'"(?:[^"\\]|\\.)*"|\w+|\S')
 IMPORT = re.compile(r"(pub(\([a-z]+\))? )?(ghost )?(use|mod)\b")
 Line = collections.namedtuple("Line", "path number text shape words")
@@ -105,10 +105,15 @@ def rows():
         yield f"{place(lines, first, length)} ~ {place(lines, second, length)} ({length} lines, {'same' if same else 'shape'})"
 
 
+def files_of(found):
+    """The pairs of files that have these rows."""
+    return sorted({" ~ ".join(re.findall(r"(\S+):\d+-", it)) for it in found})
+
+
 def main():
     most = int(sys.argv[2]) if sys.argv[1:2] == ["--most"] else 20
     found = list(rows())
-    apart = {tuple(re.findall(r"(\S+):\d+-", it)) for it in found}
+    apart = files_of(found)
     same = sum(it.endswith("same)") for it in found)
     print(f"repeats.py: {len(found)} pairs of places in {len(apart)} pairs of files, {same} of them the same")
     print("\n".join(found[:most]))
