@@ -19,7 +19,7 @@ copy_crates "$copy"
 to="$copy/crates/bench_lanes"
 rm -rf "$to/src" "$to/proofs"
 copy_texts "$here/library" "$to"
-echo "bench_lanes staticlib: field_base field_element field_bytes packed_lanes word_carryless word_tables ghash_slices additive_transforms" >> "$copy/crates.txt"
+echo "bench_lanes staticlib: field_base field_element field_space packed_lanes word_carryless word_tables ghash_slices additive_transforms" >> "$copy/crates.txt"
 
 # Both builds, with the kit's calls of malloc and free; of their symbols the units alone stay global, under a name of the build.
 for build in v2 v3; do

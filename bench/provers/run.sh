@@ -16,7 +16,7 @@ copy_crates "$copy"
 to="$copy/crates/bench_provers"
 rm -rf "$to/src" "$to/proofs"
 copy_texts "$here" "$to"
-echo "bench_provers: field_base packed_lanes field_element field_slices word_polynomial many_words additive_transforms transcripts sum_checks transcript_elements protocols anyhow" >> "$copy/crates.txt"
+echo "bench_provers: field_base packed_lanes field_element field_slices field_space word_polynomial bit_slices many_words additive_transforms transcripts sum_checks transcript_elements protocols anyhow" >> "$copy/crates.txt"
 
 # told CALL COMMAND ..: how long a command took, as the program tells its calls.
 told() {

@@ -4,3 +4,4 @@ pub mod Image
 pub mod Lane
 pub mod LevelVector
 pub mod Pair
+pub mod Counting

@@ -4,7 +4,7 @@ ghost use Rattle.std.proofs.lemmas.Nat.{pow_pos};
 ghost use native.Mathlib.Nat.{mod-lt};
 ghost use Rattle.field_base.proofs.TowerRing.{tower_ring};
 ghost use Rattle.field_base.specs.Tower.{tower_mul};
-ghost use Rattle.additive_transforms.specs.Counting.{nothing_counted};
+ghost use Rattle.additive_transforms.specs.lemmas.Counting.{nothing_counted};
 ghost use Rattle.additive_transforms.specs.Lanes.{AreLaneShifts};
 ghost use Rattle.additive_transforms.specs.lemmas.LevelVector.{level_vectors};
 ghost use Rattle.additive_transforms.specs.Transform.{TakesTransform};

@@ -2,7 +2,7 @@
 ghost use Rattle.std.specs.Prelude.{◌≡◌, ℕ, length, map};
 ghost use Rattle.std.proofs.Common.{lit<};
 ghost use Rattle.ghash_slices.specs.LowStages.{ghash_cantor_vector, ghash_product};
-ghost use Rattle.additive_transforms.specs.Counting.{nothing_counted};
+ghost use Rattle.additive_transforms.specs.lemmas.Counting.{nothing_counted};
 ghost use Rattle.additive_transforms.specs.lemmas.Image.{ghash_ring_laws, ghash_vector_laws, image_fits};
 ghost use Rattle.additive_transforms.specs.Images.{after_change, before_change, tower_image};
 

@@ -9,7 +9,7 @@ ghost use Rattle.std.specs.Simd.Lanes.{zip2};
 ghost use native.Mathlib.Nat.{mod-lt};
 ghost use Rattle.std.proofs.Common.{lit<};
 ghost use Rattle.std.proofs.lemmas.Nat.{pow_pos};
-ghost use Rattle.additive_transforms.specs.Counting.{number_counts};
+ghost use Rattle.additive_transforms.specs.lemmas.Counting.{number_counts};
 ghost use Rattle.additive_transforms.specs.lemmas.Image.{ghash_ring_laws, ghash_vector_laws};
 ghost use Rattle.additive_transforms.specs.Images.{tower_image};
 

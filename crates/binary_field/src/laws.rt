@@ -23,7 +23,7 @@ pub use word_tables::{
 pub use word_polynomial::cubic_is_field;
 
 // matrices over the bits of a byte
-pub use field_bytes::{columns_are_transposed, zero_and_identity};
+pub use field_space::{columns_are_transposed, zero_and_identity};
 
 // packed bits
 pub use bits_packed::transposing_twice_returns;

@@ -37,7 +37,7 @@ pub use field_element::{
 };
 
 // elements as vectors over a smaller field
-pub use field_element::{
+pub use field_space::{
     AlgebraIdentity, BasedVectorSpace, BasisCoefficients, BasisCoefficientsSlice, ExtensionField,
     HasFrobenius, HasPowers, HasSubfield, PackedFieldExtension, Powers,
 };
@@ -51,7 +51,7 @@ pub use field_bytes::{
 };
 
 // matrices over the bits of a byte, and linear maps of the byte field of AES
-pub use field_bytes::{
+pub use field_space::{
     ByteLanes, ByteMatrix, LinearizedPoly8b, RijndaelMaps, columns_are_transposed,
 };
 

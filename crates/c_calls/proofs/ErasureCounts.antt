@@ -1,7 +1,7 @@
 -- What a code computes with is determined by its numbers of shards; and how a call ends that has no code, or too little space.
 use Rattle.std.proofs.Common.{◌≡◌, ℕ, ◌+◌, ◌^◌, ◌<◌, ◌≤◌, refl, subst, arith}
-use Rattle.transform_codes.specs.Sizes.{IsPadded}
-use Rattle.transform_codes.specs.declared.codec.TransformCode.{TransformCode}
+use Rattle.reed_solomon.specs.TransformSizes.{IsPadded}
+use Rattle.reed_solomon.specs.declared.transform_codec.TransformCode.{TransformCode}
 use Rattle.c_calls.specs.Bytes.{CallOfCode}
 use Rattle.c_calls.specs.Erasure.{AreCounts}
 use Rattle.c_calls.specs.declared.status.TheConstants.{CODE, LENGTH}

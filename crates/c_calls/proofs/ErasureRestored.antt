@@ -2,10 +2,10 @@
 use Rattle.std.proofs.Common.{◌≡◌, ℕ, ◌+◌, ◌*◌, ◌/◌, ◌^◌, ◌≤◌, Bool, List, length, refl, sym, ◌∙◌, ap₂, subst, arith}
 use Rattle.std.proofs.lemmas.List.{length-map}
 use Rattle.additive_transforms.specs.Words.{level_element}
-use Rattle.transform_codes.specs.Locators.{lost_count}
-use Rattle.transform_codes.specs.Restoring.{AreRestoredColumns, is_missing}
-use Rattle.transform_codes.specs.Sizes.{CanRebuild, HaveOneSize}
-use Rattle.transform_codes.specs.declared.codec.TransformCode.{TransformCode}
+use Rattle.reed_solomon.specs.Locators.{lost_count}
+use Rattle.reed_solomon.specs.Restoring.{AreRestoredColumns, is_missing}
+use Rattle.reed_solomon.specs.TransformSizes.{CanRebuild, HaveOneSize}
+use Rattle.reed_solomon.specs.declared.transform_codec.TransformCode.{TransformCode}
 use Rattle.c_calls.specs.Bytes.{flags_of}
 use Rattle.c_calls.specs.Erasure.{IsErasureCode, ReconstructsAt, ReconstructsErasure}
 use Rattle.c_calls.proofs.ErasureCounts.{at_code}

@@ -7,9 +7,9 @@ use Rattle.std.proofs.lemmas.Bool.{cases_lt, eq-eqb, ne_eqb}
 use Rattle.std.proofs.lemmas.List.{length-drop, nil_from_length}
 use Rattle.std.proofs.Math.Nat.{min-eq_left, min-eq_right}
 use lib.Seq.{take_all, take-suc-set}
-use Rattle.proximity.specs.Marks.{marked_below}
-use Rattle.proximity.proofs.Counting.{total-add, total-most}
-use Rattle.proximity.proofs.Counts.{unmarked-count}
+use Rattle.field_slices.specs.Marks.{marked_below}
+use Rattle.field_slices.proofs.Counting.{total-add, total-most}
+use Rattle.field_slices.proofs.Counts.{unmarked-count}
 use Rattle.error_codes.specs.Correcting.{IsMeantIn, is_listed}
 use Rattle.error_codes.specs.Words.{is_wrong}
 use Rattle.error_codes.proofs.Meanings.{marks-same}

@@ -2,7 +2,7 @@
 -- ETSI EN 300 421, CCSDS 131.0-B): which status they return, and what they write.
 use Rattle.std.specs.Prelude.{◌≡◌, ◌≢◌, ◌⊎◌, Bool, nat_eq, not, ℕ, ◌+◌, ◌-◌, ◌*◌, ◌/◌, ◌%◌, ◌<◌, ◌≤◌, List, length, slice_index, take, drop}
 use Rattle.field_base.specs.Powers.{power}
-use Rattle.proximity.specs.Marks.{marked_below}
+use Rattle.field_slices.specs.Marks.{marked_below}
 use Rattle.error_codes.specs.ByteFields.{byte_generator, byte_modulus, byte_times}
 use Rattle.error_codes.specs.Correcting.{HasOrder, HasRoots, IsMeantIn, code_value, is_listed}
 use Rattle.error_codes.specs.declared.byte_field.ByteField.{ByteField}

@@ -1,10 +1,10 @@
 -- What calls over shards of an erasure code by transforms do: which status they return, and what they write.
 use Rattle.std.specs.Prelude.{◌≡◌, ℕ, ◌+◌, ◌*◌, ◌/◌, ◌^◌, ◌<◌, ◌≤◌, List, length}
 use Rattle.additive_transforms.specs.Words.{level_element}
-use Rattle.transform_codes.specs.Codes.{AreCodedColumns}
-use Rattle.transform_codes.specs.Locators.{lost_count}
-use Rattle.transform_codes.specs.Restoring.{AreRestoredColumns, is_missing}
-use Rattle.transform_codes.specs.Sizes.{HaveOneSize, IsPadded}
+use Rattle.reed_solomon.specs.Codes.{AreCodedColumns}
+use Rattle.reed_solomon.specs.Locators.{lost_count}
+use Rattle.reed_solomon.specs.Restoring.{AreRestoredColumns, is_missing}
+use Rattle.reed_solomon.specs.TransformSizes.{HaveOneSize, IsPadded}
 use Rattle.c_calls.specs.Bytes.{Answers, CallOfCode, flags_of}
 
 -- 2 ^ n is the least power of two that is not below the k shards of data, and 2 ^ r the least that is not below 2 ^ n and the m shards of

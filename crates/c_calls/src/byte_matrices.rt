@@ -9,9 +9,10 @@ ghost use Rattle.c_calls.specs.lemmas.ByteForm.{rijndael-forms, tower-forms};
 
 use crate::shapes::have_product_shapes;
 use crate::{Words, matrices, status};
+use bit_slices::Vector;
 use bits_packed::matrices::multiply_bytes_into;
 use ghash_slices::Width;
-use many_words::{Many, Vector};
+use many_words::Many;
 use word_polynomial::RijndaelKernel;
 use word_tower::{Bits8, Tower};
 

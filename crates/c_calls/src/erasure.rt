@@ -6,7 +6,7 @@ ghost use Rattle.c_calls.specs.declared.status.TheConstants.{CODE, LENGTH, OK};
 use crate::shards::flags_of;
 use crate::status;
 use additive_transforms::StoredBytes;
-use transform_codes::TransformCode;
+use reed_solomon::TransformCode;
 use word_tower::Level;
 
 // How many words of space a call takes for each point, so that as many columns go at once as pays: eight times as many as one column takes.

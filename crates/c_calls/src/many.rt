@@ -6,10 +6,11 @@ ghost use Rattle.many_words.specs.Fields.{field_of};
 use crate::scalars::Words;
 use crate::slices::{are_both_elements, are_elements, write_each, write_each_of_two};
 use crate::{status, values};
+use bit_slices::Vector;
 use field_base::{Holds, Stored};
 use ghash_slices::Width;
 use many_words::operations::{Inverse, Power, Product, Scaled};
-use many_words::{Many, Vector, fields};
+use many_words::{Many, fields};
 use std::simd::prelude::*;
 
 /// Writes the product of the words at each place.

@@ -7,10 +7,11 @@ ghost use Rattle.c_calls.specs.Low.{low_number};
 ghost use Rattle.c_calls.specs.lemmas.Low.{low_number-lt};
 
 use crate::slices::are_elements;
+use bit_slices::Vector;
 use field_base::{FieldKernel, Holds, Stored};
 use field_slices::Scalars;
 use ghash_slices::Width;
-use many_words::{Many, Vector, fields};
+use many_words::{Many, fields};
 use std::alloc::AllocError;
 use std::marker::PhantomData;
 

@@ -3,7 +3,7 @@ ghost use prog.Memory.{size};
 ghost use denote.Param.{layout};
 ghost use Rattle.std.proofs.Common.{lit<};
 ghost use Rattle.c_calls.specs.Fits.{FitsTwo};
-ghost use Rattle.field_base.specs.Room.{few_fit};
+ghost use Rattle.field_base.specs.lemmas.Room.{few_fit};
 
 use field_base::{Holds, Reads};
 

@@ -1,7 +1,7 @@
 // The words of 192 bits in which elements cross to other languages, and the words of a field's arithmetic that they hold.
 ghost use prog.Memory.{size};
 ghost use denote.Param.{layout};
-ghost use Rattle.field_base.specs.Room.{few_fit};
+ghost use Rattle.field_base.specs.lemmas.Room.{few_fit};
 ghost use Rattle.word_polynomial.specs.Fits.{FitsThree};
 ghost use Rattle.std.proofs.Common.{lit<};
 

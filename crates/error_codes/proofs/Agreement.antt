@@ -6,8 +6,8 @@ use Rattle.field_base.specs.Field.{IsField}
 use Rattle.field_base.proofs.RingLemmas.{xor_nothing}
 use Rattle.field_base.specs.PolynomialRoots.{AreDistinctBelow}
 use Rattle.field_base.proofs.Polynomials.{IsPolynomial, polynomial-sum, polynomial-vanishes}
-use Rattle.proximity.specs.Marks.{marked_below}
-use Rattle.proximity.proofs.Counts.{enumerated, unmarked-count}
+use Rattle.field_slices.specs.Marks.{marked_below}
+use Rattle.field_slices.proofs.Counts.{enumerated, unmarked-count}
 use Rattle.error_codes.proofs.Marks.{not-false}
 
 module _ (width : ℕ) (times : ℕ → ℕ → ℕ) (field : IsField width times) (n : ℕ)

@@ -16,8 +16,8 @@ use Rattle.field_base.proofs.Codewords.{many_roots_mean_zero}
 use Rattle.field_base.proofs.FieldLemmas.{no_zero_divisors}
 use Rattle.field_base.proofs.PowerLemmas.{one-times, power-lt, repeated_square-lt, repeated_square-none, repeated_square_more, square_times, square_xor, times-one}
 use Rattle.field_base.proofs.RingLemmas.{sum_times, times-zero, xor_nothing, zero-times}
-use Rattle.proximity.specs.Marks.{marked_below}
-use Rattle.proximity.proofs.Counts.{enumerated}
+use Rattle.field_slices.specs.Marks.{marked_below}
+use Rattle.field_slices.proofs.Counts.{enumerated}
 use Rattle.error_codes.specs.BinaryBch.{HasFewConjugates, IsConjugate, IsSquaring, MarkConjugates}
 use Rattle.error_codes.specs.ByteFields.{byte_times}
 use Rattle.error_codes.specs.Correcting.{code_value}

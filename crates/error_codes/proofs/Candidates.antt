@@ -2,7 +2,7 @@
 use Rattle.std.proofs.Common.{◌≡◌, ℕ, ◌+◌, ◌*◌, ◌^◌, ◌<◌, ◌≤◌, List, Bool, false, sym, ◌∙◌, ap, arith}
 use Rattle.std.specs.Prelude.{nat_eq, not, ◌||◌, ◌&&◌}
 use Rattle.field_base.specs.Field.{IsField}
-use Rattle.proximity.specs.Marks.{marked_below}
+use Rattle.field_slices.specs.Marks.{marked_below}
 use Rattle.error_codes.specs.Checks.{AreScaled, IsSent}
 use Rattle.error_codes.specs.Correcting.{code_value}
 use Rattle.error_codes.specs.Filling.{is_marked, is_other, marked_product, weighted_sum}

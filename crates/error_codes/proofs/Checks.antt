@@ -21,9 +21,9 @@ use Rattle.field_base.proofs.Polynomials.{IsPolynomial, polynomial-lt, polynomia
 use Rattle.error_codes.specs.Checks.{AreScaled, CheckDecodersAreRight, ChecksHaveSolution, Corrects, IsChecked, IsSent}
 use Rattle.error_codes.specs.Checks.{RejectsChecked, SentIsUnique, SyndromesCorrect, SyndromesDecode, ValuesAreChecked}
 use Rattle.error_codes.specs.Checks.{WordsDiffer, dual_weight, key_sum, syndrome}
-use Rattle.proximity.specs.Marks.{marked_below}
+use Rattle.field_slices.specs.Marks.{marked_below}
 use Rattle.error_codes.specs.Words.{at, is_wrong}
-use Rattle.proximity.proofs.Counting.{none-of-three, one-unmarked, three-marks}
+use Rattle.field_slices.proofs.Counting.{none-of-three, one-unmarked, three-marks}
 use Rattle.error_codes.proofs.Marks.{differ-is, fewer-marks, none-of-two, right-is, two-marks, wrong-is}
 use Rattle.error_codes.proofs.Decoding.{cancelled, few-zeros}
 use Rattle.error_codes.proofs.Lists.{has-nonzero, list-polynomial}

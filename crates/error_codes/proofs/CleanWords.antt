@@ -6,8 +6,8 @@ use Rattle.std.specs.Prelude.{nat_eq, not, slice_index, ◌&&◌}
 use Rattle.std.proofs.lemmas.Bool.{cases_Bool}
 use Rattle.std.proofs.lemmas.List.{ext_get_or}
 use Rattle.field_base.specs.Field.{IsField}
-use Rattle.proximity.specs.Marks.{marked_below}
-use Rattle.proximity.proofs.Counting.{total-zero}
+use Rattle.field_slices.specs.Marks.{marked_below}
+use Rattle.field_slices.proofs.Counting.{total-zero}
 use Rattle.error_codes.specs.Checks.{AreScaled}
 use Rattle.error_codes.specs.Correcting.{HasRoots, IsMeant, is_listed}
 use Rattle.error_codes.specs.Filling.{falling_point, falling_scale}

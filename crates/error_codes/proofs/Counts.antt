@@ -3,8 +3,8 @@ use Rattle.std.proofs.Common.{◌≡◌, ◌≢◌, ◌⊎◌, ℕ, zero, suc, �
 use Rattle.std.proofs.Common.{false, cond, refl, sym, ◌∙◌, ap, subst, arith}
 use Rattle.std.specs.Prelude.{nat_eq, slice_index, ◌&&◌}
 use Rattle.std.proofs.lemmas.Bool.Decides.{eqb_tells}
-use Rattle.proximity.specs.Marks.{total}
-use Rattle.proximity.specs.Openings.{sum_lists}
+use Rattle.field_slices.specs.Marks.{total}
+use Rattle.field_slices.specs.Openings.{sum_lists}
 use Rattle.error_codes.specs.Secrets.{SharesAreCounted, SharesSecret, are_shares}
 use Rattle.error_codes.specs.Words.{at}
 use Rattle.error_codes.proofs.Marks.{equal-is}

@@ -13,15 +13,15 @@ use Rattle.field_base.specs.PolynomialRoots.{AreDistinctBelow}
 use Rattle.field_base.proofs.Codewords.{lagrange_interpolates, many_roots_mean_zero}
 use Rattle.field_base.proofs.PolynomialCoefficients.{coefficients_of}
 use Rattle.field_base.proofs.Polynomials.{IsPolynomial, polynomial-lt, polynomial-unique}
-use Rattle.proximity.specs.Marks.{marked_below}
+use Rattle.field_slices.specs.Marks.{marked_below}
 use Rattle.error_codes.specs.Words.{at, is_wrong, HasNonzero, IsWithinErrors}
 use Rattle.error_codes.specs.Decoding.{Decodes, DecodersAreRight, DecodingIsUnique, IsQuotient, IsRestored}
 use Rattle.error_codes.specs.Decoding.{KeyHasSolution, Rejects, RestoredIsOnly, SolutionsDecode}
 use Rattle.error_codes.proofs.Agreement.{agrees}
-use Rattle.proximity.proofs.Counting.{none-of-three, one-unmarked, three-marks}
-use Rattle.proximity.proofs.Counts.{enumerated}
+use Rattle.field_slices.proofs.Counting.{none-of-three, one-unmarked, three-marks}
+use Rattle.field_slices.proofs.Counts.{enumerated}
 use Rattle.error_codes.proofs.Marks.{differ-is, equal-is, fewer-marks, none-of-two, not-false, right-is}
-use Rattle.proximity.proofs.Counts.{unmarked-count}
+use Rattle.field_slices.proofs.Counts.{unmarked-count}
 use Rattle.error_codes.proofs.Marks.{two-marks, wrong-is}
 use Rattle.error_codes.proofs.Lists.{has-nonzero, list-polynomial}
 use Rattle.error_codes.proofs.Products.{locator, locator-elsewhere, locator-nonzero, locator-polynomial, locator-zero}

@@ -19,7 +19,7 @@ use Rattle.field_base.proofs.Polynomials.{IsPolynomial, polynomial-same}
 use Rattle.error_codes.specs.Checks.{CheckedAreValues, dual_weight, syndrome}
 use Rattle.error_codes.specs.Words.{at}
 use Rattle.error_codes.proofs.Checks.{power-polynomial, weighted-none}
-use Rattle.proximity.proofs.Counts.{unmarked-count}
+use Rattle.field_slices.proofs.Counts.{unmarked-count}
 use Rattle.error_codes.proofs.Degrees.{without-top}
 use Rattle.error_codes.proofs.Moments.{sum-add, sum-same, sum-times, vandermonde}
 use Rattle.error_codes.proofs.Products.{polynomial-as, polynomial-most, polynomial-product}

@@ -9,10 +9,10 @@ use Rattle.field_base.proofs.PolynomialCoefficients.{coefficients_of}
 use Rattle.field_base.proofs.Polynomials.{IsPolynomial}
 use Rattle.error_codes.specs.Checks.{AreScaled, ErasuresMultiply, IsSent, NullVectorsExist, NullVectorsSolve, key_sum}
 use Rattle.error_codes.specs.Checks.{syndrome}
-use Rattle.proximity.specs.Marks.{marked_below}
+use Rattle.field_slices.specs.Marks.{marked_below}
 use Rattle.error_codes.specs.Words.{at, is_wrong}
 use Rattle.error_codes.proofs.Checks.{checked-sums}
-use Rattle.proximity.proofs.Counting.{one-unmarked}
+use Rattle.field_slices.proofs.Counting.{one-unmarked}
 use Rattle.error_codes.proofs.Marks.{right-is}
 use Rattle.error_codes.proofs.Lists.{has-nonzero}
 use Rattle.error_codes.proofs.Moments.{key-values, sum-none, sum-same}

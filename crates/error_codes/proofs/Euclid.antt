@@ -14,9 +14,9 @@ use Rattle.field_base.proofs.PolynomialCoefficients.{value_of-cons}
 use Rattle.field_base.proofs.Polynomials.{polynomial-scale, polynomial-zero}
 use Rattle.error_codes.specs.Decoding.{Decodes}
 use Rattle.error_codes.specs.Euclid.{EuclidContinues, EuclidDecodes, EuclidStarts, EuclidStops, HasTop}
-use Rattle.proximity.specs.Marks.{marked_below, total}
+use Rattle.field_slices.specs.Marks.{marked_below, total}
 use Rattle.error_codes.specs.Words.{at, SolvesKey}
-use Rattle.proximity.proofs.Counts.{unmarked-count}
+use Rattle.field_slices.proofs.Counts.{unmarked-count}
 use Rattle.error_codes.proofs.Decoding.{solutions_decode}
 use Rattle.error_codes.proofs.Degrees.{count-polynomial, make-top, polynomial-count, top-polynomial, top-product}
 use Rattle.error_codes.proofs.Degrees.{top-sum}

@@ -7,12 +7,12 @@ use Rattle.std.proofs.lemmas.Bool.Decides.{eqb_tells}
 use Rattle.field_base.specs.Field.{IsField}
 use Rattle.field_base.specs.PolynomialRoots.{AreDistinctBelow}
 use Rattle.field_base.proofs.Polynomials.{polynomial-lt}
-use Rattle.proximity.specs.Marks.{total}
-use Rattle.proximity.specs.Openings.{sum_lists}
+use Rattle.field_slices.specs.Marks.{total}
+use Rattle.field_slices.specs.Openings.{sum_lists}
 use Rattle.error_codes.specs.Secrets.{FewerSharesAreCounted, are_shares}
 use Rattle.error_codes.specs.Words.{at}
-use Rattle.proximity.proofs.Counting.{total-add, total-same, total-zero}
-use Rattle.proximity.proofs.Counts.{total-same_number}
+use Rattle.field_slices.proofs.Counting.{total-add, total-same, total-zero}
+use Rattle.field_slices.proofs.Counts.{total-same_number}
 use Rattle.error_codes.proofs.Counts.{shares_are_counted, total-none, total-one}
 use Rattle.error_codes.proofs.Lists.{list-polynomial}
 

@@ -3,7 +3,7 @@ use Rattle.std.proofs.Common.{◌≡◌, ℕ, ◌-◌, ◌/◌, ◌^◌, ◌<◌
 use Rattle.std.specs.Prelude.{slice_index}
 use Rattle.std.proofs.lemmas.List.{take_all}
 use Rattle.field_base.specs.Field.{IsField}
-use Rattle.proximity.specs.Marks.{marked_below}
+use Rattle.field_slices.specs.Marks.{marked_below}
 use Rattle.error_codes.specs.Correcting.{HasRoots, IsMeantIn, is_listed}
 use Rattle.error_codes.specs.FieldCodes.{AreSymbols}
 use Rattle.error_codes.specs.Words.{is_wrong}

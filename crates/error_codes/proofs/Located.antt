@@ -8,8 +8,8 @@ use Rattle.field_base.specs.Field.{IsField}
 use Rattle.field_base.specs.PolynomialRoots.{AreDistinctBelow}
 use Rattle.field_base.specs.Powers.{power}
 use Rattle.field_base.proofs.Polynomials.{polynomial-lt}
-use Rattle.proximity.specs.Marks.{marked_below}
-use Rattle.proximity.proofs.Counting.{total-zero}
+use Rattle.field_slices.specs.Marks.{marked_below}
+use Rattle.field_slices.proofs.Counting.{total-zero}
 use Rattle.error_codes.specs.Checks.{AreScaled, IsSent, dual_weight, syndrome}
 use Rattle.error_codes.specs.Correcting.{code_value}
 use Rattle.error_codes.specs.Filling.{marked_product, weighted_sum}

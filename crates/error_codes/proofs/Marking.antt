@@ -6,7 +6,7 @@ use Rattle.std.proofs.lemmas.Bool.{cases_lt}
 use Rattle.std.proofs.lemmas.Bool.Decides.{eqb_tells}
 use Rattle.std.proofs.lemmas.List.{at_drop_all, at_drop_more, get_or-replicate, get_or-set_other, get_or-set_same}
 use Rattle.std.proofs.lemmas.List.{get_or_past, length-replicate, length-set}
-use Rattle.proximity.specs.Marks.{marked_below, total}
+use Rattle.field_slices.specs.Marks.{marked_below, total}
 use Rattle.error_codes.specs.Correcting.{is_listed}
 use Rattle.error_codes.specs.Filling.{is_marked, is_other}
 

@@ -3,8 +3,8 @@ use Rattle.std.proofs.Common.{◌≡◌, ◌≢◌, inl, inr, ℕ, ◌+◌, ◌<
 use Rattle.std.proofs.Common.{ap, arith}
 use Rattle.std.proofs.lemmas.Bool.Decides.{eqb_tells}
 use Rattle.std.specs.Prelude.{◌&&◌, ◌||◌, nat_eq, not}
-use Rattle.proximity.proofs.Counting.{total-add, total-most}
-use Rattle.proximity.specs.Marks.{marked_below}
+use Rattle.field_slices.proofs.Counting.{total-add, total-most}
+use Rattle.field_slices.specs.Marks.{marked_below}
 
 -- fewer marks
 pub fewer-marks : (a b : ℕ → Bool) (n : ℕ) → ((i : ℕ) → i < n → a i ≡ true → b i ≡ true)

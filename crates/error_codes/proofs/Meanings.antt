@@ -5,8 +5,8 @@ use Rattle.std.specs.Prelude.{nat_eq, not, slice_index, ◌&&◌, IsOk, OnOk, Re
 use Rattle.std.proofs.lemmas.List.{ext_get_or, get_or-take}
 use Rattle.field_base.specs.Field.{IsField}
 use Rattle.field_base.specs.Powers.{power}
-use Rattle.proximity.specs.Marks.{marked_below}
-use Rattle.proximity.proofs.Counting.{total-same}
+use Rattle.field_slices.specs.Marks.{marked_below}
+use Rattle.field_slices.proofs.Counting.{total-same}
 use Rattle.error_codes.specs.Checks.{IsSent}
 use Rattle.error_codes.specs.Correcting.{HasRoots, IsMeantIn, code_value, is_listed}
 use Rattle.error_codes.specs.Filling.{falling_point, falling_scale}

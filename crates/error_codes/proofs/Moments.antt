@@ -14,7 +14,7 @@ use Rattle.field_base.proofs.FieldLemmas.{no_zero_divisors}
 use Rattle.field_base.specs.PolynomialRoots.{AreDistinctBelow}
 use Rattle.field_base.proofs.PolynomialCoefficients.{value_of-cons}
 use Rattle.field_base.proofs.Polynomials.{IsPolynomial}
-use Rattle.proximity.specs.Marks.{marked_below, total}
+use Rattle.field_slices.specs.Marks.{marked_below, total}
 use Rattle.error_codes.specs.Words.{at}
 use Rattle.error_codes.proofs.Lists.{swap_middle}
 use Rattle.error_codes.proofs.Products.{locator, locator-lt, locator-nonzero, locator-polynomial, locator-zero}

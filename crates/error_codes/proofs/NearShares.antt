@@ -5,7 +5,7 @@ use Rattle.std.specs.Prelude.{nat_eq, not, slice_index}
 use Rattle.std.proofs.lemmas.Bool.{cases_lt}
 use Rattle.std.proofs.lemmas.Bool.Decides.{eqb_tells}
 use Rattle.field_base.specs.Powers.{value_of}
-use Rattle.proximity.specs.Marks.{marked_below}
+use Rattle.field_slices.specs.Marks.{marked_below}
 use Rattle.error_codes.proofs.Marks.{fewer-marks}
 use Rattle.error_codes.specs.Fields.{product_in}
 use Rattle.error_codes.specs.Sharing.{share_at}

@@ -9,7 +9,7 @@ use Rattle.std.proofs.lemmas.List.{ext_get_or, get_or-map, length-map}
 use Rattle.field_base.specs.Basis.{sum_below}
 use Rattle.field_base.specs.Powers.{power}
 use Rattle.field_base.proofs.PowerLemmas.{repeated_square-lt, repeated_square_times, repeated_square_xor}
-use Rattle.proximity.specs.Marks.{marked_below, total}
+use Rattle.field_slices.specs.Marks.{marked_below, total}
 use Rattle.error_codes.specs.Checks.{AreScaled, IsChecked}
 use Rattle.error_codes.specs.Correcting.{HasRoots, IsMeant, code_value, is_listed}
 use Rattle.error_codes.specs.Filling.{falling_point, falling_scale}

@@ -14,7 +14,7 @@ use Rattle.field_base.proofs.PowerLemmas.{times-one, one-times}
 use Rattle.field_base.proofs.FieldLemmas.{no_zero_divisors}
 use Rattle.field_base.proofs.Polynomials.{IsPolynomial, polynomial-same, polynomial-zero, polynomial-sum}
 use Rattle.field_base.proofs.Polynomials.{polynomial-scale, polynomial-shift, polynomial-more, polynomial-root}
-use Rattle.proximity.specs.Marks.{marked_below, total}
+use Rattle.field_slices.specs.Marks.{marked_below, total}
 
 module _ (width : ℕ) (times : ℕ → ℕ → ℕ) (ring : IsRing width 1 times) where
   pub polynomial-as : (k m : ℕ) (f : ℕ → ℕ) → k ≡ m → IsPolynomial times k f → IsPolynomial times m f

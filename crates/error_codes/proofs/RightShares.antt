@@ -6,7 +6,7 @@ use Rattle.std.proofs.lemmas.Bool.{cases_lt}
 use Rattle.std.proofs.lemmas.List.{get_or-set_other, get_or-set_same}
 use Rattle.field_base.specs.PolynomialRoots.{AreDistinctBelow}
 use Rattle.field_base.specs.Powers.{value_of}
-use Rattle.proximity.specs.Marks.{marked_below}
+use Rattle.field_slices.specs.Marks.{marked_below}
 use Rattle.error_codes.proofs.Marking.{count-more, count-none, count-same}
 use Rattle.error_codes.specs.Fields.{product_in}
 use Rattle.error_codes.specs.Sharing.{IsThrough, share_at}

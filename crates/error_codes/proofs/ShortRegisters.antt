@@ -6,7 +6,7 @@ use Rattle.field_base.specs.Basis.{sum_below}
 use Rattle.field_base.proofs.RingLemmas.{times-mod, times-zero}
 use Rattle.error_codes.specs.Checks.{key_sum, syndrome}
 use Rattle.error_codes.specs.Euclid.{HasTop}
-use Rattle.proximity.specs.Marks.{marked_below}
+use Rattle.field_slices.specs.Marks.{marked_below}
 use Rattle.error_codes.specs.Registers.{IsRegister, RegistersAreShort}
 use Rattle.error_codes.specs.Words.{is_wrong}
 use Rattle.error_codes.proofs.Erasures.{sent-sums}

@@ -11,8 +11,8 @@ use Rattle.field_base.specs.Powers.{power, terms_from}
 use Rattle.field_base.proofs.FieldLemmas.{no_zero_divisors}
 use Rattle.field_base.proofs.PolynomialCoefficients.{coefficients_of, value_of-cons}
 use Rattle.field_base.proofs.Polynomials.{IsPolynomial, polynomial-lt}
-use Rattle.proximity.specs.Marks.{marked_below}
-use Rattle.proximity.proofs.Counting.{one-unmarked}
+use Rattle.field_slices.specs.Marks.{marked_below}
+use Rattle.field_slices.proofs.Counting.{one-unmarked}
 use Rattle.error_codes.specs.Checks.{AreScaled, Corrects, IsSent, SolvesChecks, key_sum, syndrome}
 use Rattle.error_codes.specs.Correcting.{code_value}
 use Rattle.error_codes.specs.Filling.{marked_product, weighted_sum}

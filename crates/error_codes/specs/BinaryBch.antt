@@ -3,7 +3,7 @@
 -- the number of errors. A bit is the symbol 0 or 1.
 use Rattle.std.specs.Prelude.{◌≡◌, ◌↔◌, ℕ, ◌+◌, ◌<◌, List, Bool, true, slice_index}
 use Rattle.field_base.specs.Powers.{power, repeated_square}
-use Rattle.proximity.specs.Marks.{marked_below}
+use Rattle.field_slices.specs.Marks.{marked_below}
 use Rattle.error_codes.specs.Correcting.{IsMeant}
 
 -- the first n symbols of a word are bits

@@ -8,7 +8,7 @@ use Rattle.field_base.specs.Field.{IsField}
 use Rattle.field_base.specs.Powers.{power}
 use Rattle.field_base.specs.Interpolation.{other_factors}
 use Rattle.field_base.specs.PolynomialRoots.{AreDistinctBelow}
-use Rattle.proximity.specs.Marks.{marked_below}
+use Rattle.field_slices.specs.Marks.{marked_below}
 use Rattle.error_codes.specs.Words.{at, is_wrong, HasNonzero}
 
 -- the sum of scale i · symbol i · point i ^ m

@@ -5,7 +5,7 @@ use Rattle.std.specs.Prelude.{◌≡◌, ◌≢◌, ℕ, ◌+◌, ◌-◌, ◌*�
 use Rattle.std.specs.Prelude.{nat_eq, ◌||◌}
 use Rattle.field_base.specs.Basis.{sum_below}
 use Rattle.field_base.specs.Powers.{power}
-use Rattle.proximity.specs.Marks.{marked_below}
+use Rattle.field_slices.specs.Marks.{marked_below}
 use Rattle.error_codes.specs.Words.{is_wrong}
 
 -- the value at x of the polynomial with the n coefficients word 0, .., word (n - 1), the highest first

@@ -4,7 +4,7 @@ use Rattle.std.specs.Prelude.{◌≡◌, ◌≢◌, ◌⊎◌, ℕ, suc, ◌+◌
 use Rattle.std.specs.Prelude.{nat_eq, Option, Some, None, bit_xor, slice_index}
 use Rattle.field_base.specs.Field.{IsField}
 use Rattle.field_base.specs.PolynomialRoots.{AreDistinctBelow}
-use Rattle.proximity.specs.Marks.{marked_below}
+use Rattle.field_slices.specs.Marks.{marked_below}
 use Rattle.error_codes.specs.Words.{at, is_wrong, IsReceived, IsWithinErrors, SolvesKey}
 
 -- at most one polynomial of k coefficients is within t errors, where 2 t + e + k ≤ n

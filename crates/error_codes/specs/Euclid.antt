@@ -5,7 +5,7 @@ use Rattle.std.specs.Prelude.{◌≡◌, ◌≢◌, ℕ, suc, ◌+◌, ◌%◌, 
 use Rattle.std.specs.Prelude.{cond, bit_xor}
 use Rattle.field_base.specs.Basis.{product_below}
 use Rattle.field_base.specs.Field.{IsField}
-use Rattle.proximity.specs.Marks.{marked_below}
+use Rattle.field_slices.specs.Marks.{marked_below}
 use Rattle.error_codes.specs.Words.{at, IsReceived, IsWithinErrors, SolvesKey}
 
 -- f is a polynomial of k coefficients

@@ -3,8 +3,8 @@
 -- Shannon has it, Communication theory of secrecy systems, 1949).
 use Rattle.std.specs.Prelude.{◌≡◌, ℕ, ◌+◌, ◌-◌, ◌*◌, ◌^◌, ◌<◌, ◌≤◌, List, ◌∷◌, Bool, cond, length, nat_eq, not, slice_index}
 use Rattle.field_base.specs.Powers.{value_of}
-use Rattle.proximity.specs.Marks.{marked_below}
-use Rattle.proximity.specs.Openings.{sum_lists}
+use Rattle.field_slices.specs.Marks.{marked_below}
+use Rattle.field_slices.specs.Openings.{sum_lists}
 use Rattle.error_codes.specs.Secrets.{are_shares}
 use Rattle.error_codes.specs.Fields.{product_in}
 use Rattle.error_codes.specs.Refusals.{AreDistinct, AreNonzero}

@@ -4,7 +4,7 @@ use Rattle.std.specs.Prelude.{◌≡◌, ◌≢◌, ℕ, zero, suc, ◌+◌, ◌
 use Rattle.std.specs.Prelude.{cond, nat_eq, ◌&&◌}
 use Rattle.field_base.specs.Field.{IsField}
 use Rattle.field_base.specs.PolynomialRoots.{AreDistinctBelow}
-use Rattle.proximity.specs.Openings.{sum_lists}
+use Rattle.field_slices.specs.Openings.{sum_lists}
 use Rattle.error_codes.specs.Words.{at}
 
 -- k coefficients, each an element of the field, that give these k - 1 shares and this secret

@@ -4,7 +4,7 @@ use Rattle.std.specs.Prelude.{◌≡◌, ◌≢◌, ℕ, ◌+◌, ◌%◌, ◌^�
 use Rattle.std.specs.Prelude.{◌&&◌}
 use Rattle.field_base.specs.Powers.{value_of}
 use Rattle.field_base.specs.PolynomialRoots.{AreDistinctBelow}
-use Rattle.proximity.specs.Marks.{marked_below}
+use Rattle.field_slices.specs.Marks.{marked_below}
 
 -- the value at x of the polynomial with these coefficients
 abbrev pub at : (ℕ → ℕ → ℕ) → List ℕ → ℕ → ℕ

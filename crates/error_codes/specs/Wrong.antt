@@ -3,7 +3,7 @@
 -- ACM 24, 1981).
 use Rattle.std.specs.Prelude.{◌≡◌, ℕ, ◌+◌, ◌*◌, ◌<◌, ◌≤◌, List, Bool, false, length, nat_eq, not, slice_index}
 use Rattle.field_base.specs.Powers.{value_of}
-use Rattle.proximity.specs.Marks.{marked_below}
+use Rattle.field_slices.specs.Marks.{marked_below}
 use Rattle.error_codes.specs.Fields.{product_in}
 use Rattle.error_codes.specs.Sharing.{share_at}
 use Rattle.error_codes.specs.declared.field.ShareField.{ShareField}

@@ -3,7 +3,7 @@
 ghost use Rattle.std.specs.Prelude.{◌≡◌, ◌≢◌, ◌⊎◌, ◌+◌, ◌-◌, ◌*◌, ◌<◌, ◌≤◌, ◌↔◌, ℕ, List, IsTrue, IsOk, IfOk, IfErr, OnOk, OnErr, length};
 ghost use Rattle.std.specs.Prelude.{slice_index, true, false, not, nat_eq, bit_and, bit_xor};
 ghost use Rattle.field_base.specs.Powers.{power};
-ghost use Rattle.proximity.specs.Marks.{marked_below};
+ghost use Rattle.field_slices.specs.Marks.{marked_below};
 ghost use Rattle.error_codes.specs.BinaryBch.{AreBinary, AreConjugates, HasFewConjugates, IsMeantBits, IsSquaring, MarkConjugates};
 ghost use Rattle.error_codes.specs.ByteFields.{byte_generator, byte_times};
 ghost use Rattle.error_codes.specs.Correcting.{HasOrder, HasRoots, code_value};

@@ -4,7 +4,7 @@ ghost use Rattle.field_base.specs.Basis.{sum_below};
 ghost use Rattle.field_base.specs.Interpolation.{interpolated, lagrange};
 ghost use Rattle.field_base.specs.PolynomialRoots.{AreDistinctBelow};
 ghost use Rattle.field_base.specs.Powers.{value_of};
-ghost use Rattle.proximity.specs.Marks.{marked_below};
+ghost use Rattle.field_slices.specs.Marks.{marked_below};
 ghost use Rattle.error_codes.specs.Filling.{is_marked};
 ghost use Rattle.error_codes.specs.Fields.{product_in};
 ghost use Rattle.error_codes.specs.Refusals.{AreShares, RefusesCombine};

@@ -1,7 +1,7 @@
 // Correction of words of bytes, by the decoder over any field (`field_code::correcting`), and marks of their places.
 ghost use Rattle.std.specs.Prelude.{◌≡◌, ◌+◌, ◌-◌, ◌*◌, ◌<◌, ◌≤◌, ◌&&◌, ℕ, List, length, slice_index};
 ghost use Rattle.std.specs.Prelude.{false, not, nat_eq, IsOk, IfOk, OnOk, OnErr};
-ghost use Rattle.proximity.specs.Marks.{marked_below};
+ghost use Rattle.field_slices.specs.Marks.{marked_below};
 ghost use Rattle.error_codes.specs.ByteFields.{byte_times};
 ghost use Rattle.error_codes.specs.Correcting.{IsMeant, is_listed};
 ghost use Rattle.error_codes.specs.Filling.{is_marked};

@@ -3,7 +3,7 @@
 ghost use Rattle.std.specs.Prelude.{◌≡◌, ◌≢◌, ◌↔◌, ◌+◌, ◌-◌, ◌*◌, ◌<◌, ◌≤◌, ℕ, IsTrue, bit_xor, length, nat_eq, slice_index};
 ghost use Rattle.field_base.specs.LinearMaps.{linear_image};
 ghost use Rattle.field_base.specs.Powers.{power};
-ghost use Rattle.proximity.specs.Marks.{marked_below};
+ghost use Rattle.field_slices.specs.Marks.{marked_below};
 ghost use Rattle.error_codes.specs.ByteFields.{byte_times};
 ghost use Rattle.error_codes.specs.Correcting.{HasRoots, code_value, is_listed};
 ghost use Rattle.error_codes.specs.Interleaved.{AreEncoded, AreWordValues, IsSettled, interleaved_word};

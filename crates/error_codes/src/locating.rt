@@ -3,7 +3,7 @@
 // wrong; elsewhere they follow from the differences to the right bytes, and not from the secret.
 ghost use Rattle.std.specs.Prelude.{◌≡◌, ◌+◌, ◌*◌, ◌<◌, ◌≤◌, ◌||◌, ℕ, List, length, nat_eq, slice_index, false, IfSome, IsSomeAnd};
 ghost use Rattle.field_base.specs.Basis.{sum_below};
-ghost use Rattle.proximity.specs.Marks.{marked_below};
+ghost use Rattle.field_slices.specs.Marks.{marked_below};
 ghost use Rattle.error_codes.specs.Checks.{dual_weight, syndrome};
 ghost use Rattle.error_codes.specs.Correcting.{code_value};
 ghost use Rattle.error_codes.specs.Filling.{is_marked};

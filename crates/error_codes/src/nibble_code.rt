@@ -3,7 +3,7 @@
 // word of images has other bytes.
 ghost use Rattle.std.specs.Prelude.{◌≡◌, ◌+◌, ◌-◌, ◌<◌, ◌≤◌, ◌↔◌, ℕ, List, IsTrue, IsOk, IfOk, IfErr, OnOk, OnErr, length, map};
 ghost use Rattle.std.specs.Prelude.{slice_index, false, not, nat_eq};
-ghost use Rattle.proximity.specs.Marks.{marked_below};
+ghost use Rattle.field_slices.specs.Marks.{marked_below};
 ghost use Rattle.error_codes.specs.Correcting.{HasOrder, HasRoots};
 ghost use Rattle.error_codes.specs.Filling.{is_marked};
 ghost use Rattle.error_codes.specs.Nibbles.{AreNibbles, IsMeantNibbles, lowered, nibble_root, nibble_times, raised};

@@ -1,7 +1,7 @@
 // The secret from shares, some of which are wrong.
 ghost use Rattle.std.specs.Prelude.{◌≡◌, ◌≢◌, ◌+◌, ◌*◌, ◌<◌, ◌≤◌, ◌↔◌, ℕ, List, length, slice_index, false, IfErr, IfOk, IsOk, OnErr};
 ghost use Rattle.field_base.specs.Powers.{value_of};
-ghost use Rattle.proximity.specs.Marks.{marked_below};
+ghost use Rattle.field_slices.specs.Marks.{marked_below};
 ghost use Rattle.error_codes.specs.Filling.{is_marked};
 ghost use Rattle.error_codes.specs.Fields.{product_in};
 ghost use Rattle.error_codes.specs.Refusals.{AreShares, RefusesCombine};

@@ -9,11 +9,3 @@ use Rattle.field_base.specs.declared.gf2.Gf2.{Gf2}
 -- the representation of an element: 0 or 1
 abbrev pub bit_number : Gf2 → ℕ
 bit_number x = x.repr
-
--- elements of one representation are one
-pub same_repr : (x y : Gf2) → bit_number x ≡ bit_number y → x ≡ y
-same_repr x y e = λ i. record { repr = e i; in_range = is_prop→PathP (λ j. e j < 2) (λ j. le_prop) x.in_range y.in_range i }
-
--- the one times the representation of an element is that of the element
-pub same_bit : (x r : Gf2) → r ≡ x → bit_number r ≡ bit_number x * 1
-same_bit x r e = ap bit_number e ∙ sym (mul-one (bit_number x))

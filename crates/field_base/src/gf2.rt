@@ -1,7 +1,7 @@
 // The field of two elements. A sum is exclusive or, a product is and.
 ghost use Rattle.std.specs.Prelude.{◌≡◌, ◌≢◌, ◌<◌, ◌*◌, ◌%◌, ℕ, ◌↔◌, IsTrue, bit_xor, refl};
 ghost use Rattle.std.proofs.Common.{lit<, lit≤, rules};
-ghost use Rattle.field_base.specs.Operators.{given};
+ghost use Rattle.field_base.specs.lemmas.Operators.{given};
 ghost use Rattle.field_base.specs.Powers.{sum_of, product_of};
 ghost use Rattle.field_base.specs.Tower.{tower_mul};
 
@@ -155,7 +155,8 @@ impl Default for Gf2 {
 }
 
 impl Represented for Gf2 {
-    ghost use Rattle.field_base.specs.Bit.{bit_number, same_repr};
+    ghost use Rattle.field_base.specs.Bit.{bit_number};
+    ghost use Rattle.field_base.specs.lemmas.Bit.{same_repr};
     ghost use Rattle.field_base.specs.lemmas.BitRing.{bits_ring};
 
     ghost width = { 1 };
@@ -184,7 +185,7 @@ impl Represented for Gf2 {
 }
 
 impl PrimeCharacteristicRing for Gf2 {
-    ghost use Rattle.field_base.specs.Bit.{same_bit};
+    ghost use Rattle.field_base.specs.lemmas.Bit.{same_bit};
 
     type PrimeSubfield = Gf2;
 

@@ -1,4 +1,3 @@
-mod LinearizedLemmas
 pub mod GrowingNumbers
 pub mod LowBytes
 pub mod Placing

@@ -6,7 +6,6 @@ use Rattle.std.proofs.lemmas.Nat.{field_of, pow-add, pow_pos, shr-shr, shr_high}
 use native.Mathlib.Nat.{mod-eq_of_lt, mul-add-mod_self_left, mul_assoc}
 use Rattle.field_base.specs.Chunks.{chunk}
 use Rattle.field_base.specs.Quadratic.{pair}
-use Rattle.word_polynomial.specs.Cubic.{triple}
 use Rattle.field_base.proofs.ChunkLists.{more-lt}
 
 -- one byte more fits a number of 16 bytes, and is put there whole
@@ -58,46 +57,3 @@ high_below i high low later below = let is = power i later in omega (arith, is, 
 -- a byte of the upper part is worth 2^64 times as much
 pub high_worth : (i b : ℕ) → 8 ≤ i → b * 2 ^ (8 * i) ≡ b * 2 ^ (8 * (i - 8)) * 2 ^ 64
 high_worth i b later = ap (λ (n : ℕ). b * n) (power i later) ∙ sym (mul_assoc b (2 ^ (8 * (i - 8))) (2 ^ 64))
-
--- ---- three words
-
--- bytes 0 to 7 of a triple of words are those of its first word
-pub first_byte : (i c0 c1 c2 : ℕ) → i < 8 → chunk 8 i c0 ≡ chunk 8 i (triple 64 c0 c1 c2)
-first_byte i c0 c1 c2 place = sym (low_byte i (pair 64 c1 c2) c0 place)
-
--- bytes 8 to 15 of a triple of words are those of its second word
-pub second_byte : (i c0 c1 c2 : ℕ) → 8 ≤ i → i < 16 → c0 < 2 ^ 64 → chunk 8 (i - 8) c1 ≡ chunk 8 i (triple 64 c0 c1 c2)
-second_byte i c0 c1 c2 later place fits =
-    sym (high_byte i (pair 64 c1 c2) c0 later fits ∙ low_byte (i - 8) c2 c1 (omega (arith, later, place)))
-
--- bytes 16 and up of a triple of words are those of its third word
-pub third_byte : (i c0 c1 c2 : ℕ) → 16 ≤ i → c0 < 2 ^ 64 → c1 < 2 ^ 64 → chunk 8 (i - 16) c2 ≡ chunk 8 i (triple 64 c0 c1 c2)
-third_byte i c0 c1 c2 later fits0 fits1 =
-    let is : i - 8 - 8 ≡ i - 16 = omega arith in
-    sym (high_byte i (pair 64 c1 c2) c0 (omega (arith, later)) fits0 ∙ high_byte (i - 8) c2 c1 (omega (arith, later)) fits1
-    ∙ ap (λ (k : ℕ). chunk 8 k c2) is)
-
--- the second word is below what bounds the triple, eight bytes lower
-pub second_below : (i c0 c1 c2 : ℕ) → 8 ≤ i → triple 64 c0 c1 c2 < 2 ^ (8 * i) → c1 < 2 ^ (8 * (i - 8))
-second_below i c0 c1 c2 later below =
-    let upper : pair 64 c1 c2 < 2 ^ (8 * (i - 8)) = high_below i (pair 64 c1 c2) c0 later below in omega (arith, upper)
-
--- the third word is below what bounds the triple, sixteen bytes lower
-pub third_below : (i c0 c1 c2 : ℕ) → 16 ≤ i → triple 64 c0 c1 c2 < 2 ^ (8 * i) → c2 < 2 ^ (8 * (i - 16))
-third_below i c0 c1 c2 later below =
-    let is : i - 8 - 8 ≡ i - 16 = omega arith in
-    let upper : c2 < 2 ^ (8 * (i - 8 - 8)) =
-    high_below (i - 8) c2 c1 (omega (arith, later)) (high_below i (pair 64 c1 c2) c0 (omega (arith, later)) below) in
-    rw is at upper
-
--- a byte put into the second word is put eight bytes higher in the triple
-pub second_put : (i b c0 c1 c2 new : ℕ) → 8 ≤ i → new ≡ b * 2 ^ (8 * (i - 8)) + c1 → triple 64 c0 new c2 ≡ b * 2 ^ (8 * i) + triple 64 c0 c1 c2
-second_put i b c0 c1 c2 new later is = let worth = high_worth i b later in omega (arith, is, worth)
-
--- a byte put into the third word is put sixteen bytes higher in the triple
-pub third_put : (i b c0 c1 c2 new : ℕ) → 16 ≤ i → new ≡ b * 2 ^ (8 * (i - 16)) + c2 → triple 64 c0 c1 new ≡ b * 2 ^ (8 * i) + triple 64 c0 c1 c2
-third_put i b c0 c1 c2 new later is =
-    let same : i - 8 - 8 ≡ i - 16 = omega arith in
-    let worth : b * 2 ^ (8 * i) ≡ b * 2 ^ (8 * (i - 16)) * 2 ^ 64 * 2 ^ 64 =
-    high_worth i b (omega (arith, later)) ∙ ap (λ (n : ℕ). n * 2 ^ 64) (high_worth (i - 8) b (omega (arith, later)) ∙ ap (λ (k : ℕ). b * 2 ^ (8 * k) * 2 ^ 64) same) in
-    omega (arith, is, worth)

@@ -1,16 +1,13 @@
 -- The library's bytes of a word are its bytes in positional notation.
 use Rattle.std.proofs.Common.{◌≡◌, ℕ, zero, suc, ◌+◌, ◌*◌, ◌/◌, ◌%◌, ◌^◌, ◌<◌, ◌≤◌, refl, sym, ◌∙◌, ap, ap₂, arith, List, [], ◌∷◌, ◌++◌, drop, get_or, length, slice_index, take}
 use Rattle.std.specs.Int.{byte_at, byte_worth, bytes_low_first, from_le_bytes, sum_through, to_le_bytes, w16, w32, w64, w128}
-use Rattle.std.specs.Simd.{first_chunks}
 use Rattle.std.proofs.Math.Seq.{take-suc}
-use Rattle.std.proofs.lemmas.List.{length-drop, length-take-le, take-append-drop, take_all}
+use Rattle.std.proofs.lemmas.List.{length-take-le, take_all}
 use Rattle.std.proofs.Math.Nat.{add_comm}
 use native.Mathlib.Nat.{div-one}
 use Rattle.field_bytes.specs.Bytes.{low_bytes, number_of_bytes}
 use Rattle.field_base.specs.Chunks.{chunk, chunks, joined}
-use Rattle.field_base.specs.Quadratic.{pair}
-use Rattle.field_bytes.proofs.Taking.{number-append, number-more}
-use Rattle.word_polynomial.specs.Cubic.{triple}
+use Rattle.field_bytes.proofs.Taking.{number-more}
 use Rattle.field_base.proofs.ChunkLists.{chunks-whole, pow-256}
 
 -- a number below 2 ^ 8 is its only byte
@@ -88,33 +85,3 @@ of_eight bs long = of_bytes bs 7 long
 -- the word of sixteen bytes is their number
 pub of_sixteen : (bs : List ℕ) → length bs ≡ 16 → from_le_bytes w128 bs ≡ number_of_bytes bs
 of_sixteen bs long = of_bytes bs 15 long
-
--- eight bytes or more: the number of the first eight, and the others above it
-above_eight : (bs : List ℕ) → 8 ≤ length bs → number_of_bytes bs ≡ pair 64 (number_of_bytes (take 8 bs)) (number_of_bytes (drop 8 bs))
-above_eight bs room =
-    ap number_of_bytes (sym (take-append-drop 8 bs)) ∙ number-append (take 8 bs) (drop 8 bs)
-    ∙ ap (λ (k : ℕ). number_of_bytes (drop 8 bs) * 2 ^ (8 * k) + number_of_bytes (take 8 bs)) (length-take-le 8 bs room)
-    ∙ omega arith
-
--- the word of the first eight bytes is their number
-eight_first : (bs : List ℕ) → 8 ≤ length bs → from_le_bytes w64 (take 8 bs) ≡ number_of_bytes (take 8 bs)
-eight_first bs room = of_eight (take 8 bs) (length-take-le 8 bs room)
-
--- three words of 24 bytes
-pub of_three_words : (bs d : List ℕ) (words : List (List ℕ)) → length bs ≡ 24 → words ≡ first_chunks 8 (length bs / 8) bs
-    → triple 64 (from_le_bytes w64 (get_or words 0 d)) (from_le_bytes w64 (get_or words 1 d)) (from_le_bytes w64 (get_or words 2 d))
-    ≡ number_of_bytes bs
-of_three_words bs d words long is =
-    ap (λ ws. triple 64 (from_le_bytes w64 (get_or ws 0 d)) (from_le_bytes w64 (get_or ws 1 d)) (from_le_bytes w64 (get_or ws 2 d)))
-    (is ∙ ap (λ (k : ℕ). first_chunks 8 (k / 8) bs) long)
-    ∙ ap₂ (λ (x y : ℕ). pair 64 x y) (eight_first bs (omega (arith, long)))
-    (ap₂ (λ (x y : ℕ). pair 64 x y) (eight_first (drop 8 bs) (omega (arith, rest)))
-    (eight_first (drop 8 (drop 8 bs)) (omega (arith, last)) ∙ ap number_of_bytes (take_all 8 (drop 8 (drop 8 bs)) (omega (arith, last))))
-    ∙ sym (above_eight (drop 8 bs) (omega (arith, rest))))
-    ∙ sym (above_eight bs (omega (arith, long)))
-  where
-    rest : length (drop 8 bs) ≡ 16
-    rest = omega (arith, long, length-drop 8 bs)
-
-    last : length (drop 8 (drop 8 bs)) ≡ 8
-    last = omega (arith, rest, length-drop 8 (drop 8 bs))

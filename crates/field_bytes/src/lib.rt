@@ -1,14 +1,9 @@
 //! Elements as bytes and as words of other sizes, the lowest byte first.
-//!
-//! The linear maps of bytes as matrices of 8 by 8 bits, those of the field of AES among them.
 #![tactic(auto)]
 
+mod bit;
 mod data_field;
-mod element;
-mod lanes;
-mod linearized;
 mod little_endian;
-mod maps;
 mod numbers;
 mod parallel;
 mod parallel_words;
@@ -17,14 +12,10 @@ mod serializable;
 mod short_element;
 mod sized_words;
 mod streams;
-mod triple;
 mod words;
 
 pub use crate::data_field::DataField;
-pub use crate::lanes::ByteLanes;
-pub use crate::linearized::LinearizedPoly8b;
-pub use crate::little_endian::LittleEndian;
-pub use crate::maps::RijndaelMaps;
+pub use crate::little_endian::{LittleEndian, put_byte, read_byte};
 pub use crate::numbers::{number_of_high_first, number_of_low_first};
 pub use crate::parallel::{ParallelByteStreams, into_parallel_byte_streams};
 pub use crate::parallel_words::{ParallelWordStreams, into_parallel_word_streams};
@@ -37,4 +28,3 @@ pub use crate::sized_words::{
 };
 pub use crate::streams::{ByteSource, ByteStream, into_byte_stream};
 pub use crate::words::{WordStream, into_word_stream};
-pub use word_tables::{ByteMatrix, columns_are_transposed, zero_and_identity};

@@ -90,7 +90,7 @@ fn placed(byte: u8, i: usize) -> u128
 
 /// Byte `i` of an integer of at most 16 bytes, counted from the lowest.
 #[inline]
-pub(crate) fn read_byte<U: Unsigned>(word: U, i: usize) -> u8
+pub fn read_byte<U: Unsigned>(word: U, i: usize) -> u8
     requires { i < 16 }
     ensures { result ≡ chunk 8 i (U.number word) }
 {
@@ -99,7 +99,7 @@ pub(crate) fn read_byte<U: Unsigned>(word: U, i: usize) -> u8
 
 /// The integer with `byte` as its byte `i`. Requires that byte `i` and those above it are 0.
 #[inline]
-pub(crate) fn put_byte<U: Unsigned>(word: U, i: usize, byte: u8) -> U
+pub fn put_byte<U: Unsigned>(word: U, i: usize, byte: u8) -> U
     requires short { U.bits ≤ 128 }
     requires within { 8 * i + 8 ≤ U.bits }
     requires above { U.number word < 2 ^ (8 * i) }

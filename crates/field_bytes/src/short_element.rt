@@ -7,9 +7,8 @@ ghost use Rattle.field_bytes.specs.BigEndian.{be_bytes};
 use crate::little_endian::LittleEndian;
 use crate::numbers::{number_of_high_first, number_of_low_first};
 use crate::serializable::RawDataSerializable;
+use field_base::Unsigned;
 use field_base::traits::TowerLevel;
-use field_base::{Gf2, LevelKernel, Unsigned};
-use field_element::{Element, HasPacking};
 
 /// The most bytes that a `ShortElement` has.
 pub const MOST_BYTES: usize = 16;
@@ -79,13 +78,5 @@ impl ShortWord for u64 {
 }
 
 impl ShortWord for u128 {
-    ghost short_law = { lit≤ tt };
-}
-
-impl<R: ShortWord, K: LevelKernel<R> + HasPacking<R>> ShortElement for Element<R, K> {
-    ghost short_law = { R.short_law };
-}
-
-impl ShortElement for Gf2 {
     ghost short_law = { lit≤ tt };
 }

@@ -8,7 +8,8 @@ use Rattle.field_base.specs.Chunks.{chunk, chunks}
 use Rattle.word_polynomial.specs.lemmas.Triple.{chunks-triple, same_number}
 use Rattle.word_polynomial.specs.Triple.{triple_number}
 use Rattle.word_polynomial.specs.declared.triple.Triple.{Triple}
-use Rattle.field_element.specs.Element.{repr_of, same_word}
+use Rattle.field_element.specs.Element.{repr_of}
+use Rattle.field_element.specs.lemmas.Element.{same_word}
 use Rattle.field_element.specs.declared.element.coefficients.Coefficients.{Coefficients}
 use Rattle.field_base.proofs.ChunkLists.{chunk-lt}
 
@@ -27,14 +28,6 @@ module _ {C : Type 0} (number : C → ℕ) (fits : (x : C) → number x < 2 ^ 64
     c2 = get_or (map number xs) 2 0;
     in_range = record { first = item_below xs 0; second = item_below xs 1; third = item_below xs 2 };
   }
-
--- a list of three items is that of its items
-three_items : {A : Type 0} (xs : List A) (a b c : A) → length xs ≡ 3 → get_or xs 0 a ∷ get_or xs 1 b ∷ get_or xs 2 c ∷ [] ≡ xs
-three_items [] a b c three = absurd (omega (arith, three))
-three_items (x ∷ []) a b c three = absurd (omega (arith, three))
-three_items (x ∷ y ∷ []) a b c three = absurd (omega (arith, three))
-three_items (x ∷ y ∷ z ∷ []) a b c three = refl
-three_items (x ∷ y ∷ z ∷ w ∷ rest) a b c three = absurd (omega (arith, three))
 
 module _ {C : Type 0} (number : C → ℕ) (same_law : (x y : C) → number x ≡ number y → x ≡ y) where
   -- lists of the same numbers are one
@@ -63,13 +56,6 @@ stored_words x = words_of_items repr_of (λ y. y.in_range) x.coefficients
 abbrev pub stored_number : Coefficients → ℕ
 stored_number x = triple_number (stored_words x)
 
--- the coefficients are the chunks of that number
-pub chunks_stored : (x : Coefficients) → map repr_of x.coefficients ≡ chunks 64 3 (stored_number x)
-chunks_stored x =
-    let words = stored_words x in
-    sym (three_items (map repr_of x.coefficients) 0 0 0 (length-map x.coefficients repr_of ∙ x.three))
-    ∙ sym (chunks-triple 64 words.c0 words.c1 words.c2 words.in_range.first words.in_range.second words.in_range.third)
-
 -- the coefficients of three words
 abbrev pub coefficients_of_words : (c0 c1 c2 : ℕ) → c0 < 2 ^ 64 → c1 < 2 ^ 64 → c2 < 2 ^ 64 → Coefficients
 coefficients_of_words c0 c1 c2 c0_fits c1_fits c2_fits = record {
@@ -91,15 +77,3 @@ coefficients_of_number n = record {
       ∷ [];
   three = refl;
 }
-
--- coefficients of one number are one
-pub same_coefficients : (x y : Coefficients) → stored_number x ≡ stored_number y → x ≡ y
-same_coefficients x y same =
-    let words = same_number (stored_words x) (stored_words y) same in
-    let items =
-    same_three repr_of same_word x.coefficients y.coefficients x.three y.three (ap (λ (w : Triple). w.c0) words)
-    (ap (λ (w : Triple). w.c1) words) (ap (λ (w : Triple). w.c2) words) in
-    λ i. record {
-      coefficients = items i;
-      three = is_prop→PathP (λ j. length (items j) ≡ 3) (λ j. ℕ_set _ _) x.three y.three i;
-    }

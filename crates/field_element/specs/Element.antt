@@ -19,14 +19,3 @@ repr_of {w = w} x = w.number x.repr
 -- the number, where it has 64 bits at most
 abbrev pub number_of_64_bits : ℕ → Option ℕ
 number_of_64_bits n = if nat_lt n (2 ^ 64) then Some n else None
-
--- elements that one word stores are one
-pub same_word : {R K : Type 0} {w : Stored.Ghosts R} {d : Debug.Ghosts R} {o : Ord.Ghosts R} {e : PartialEq.Ghosts R}
-    {p : PartialOrd.Ghosts R} {h : Hash.Ghosts R} {k : FieldKernel.Ghosts K R} → (x y : Element R K w d o e p h k)
-    → x.repr ≡ y.repr → x ≡ y
-same_word {w = w} {k = k} x y same =
-    λ i. record {
-      repr = same i;
-      field = record {};
-      in_range = is_prop→PathP (λ j. w.number (same j) < 2 ^ k.width) (λ j. le_prop) x.in_range y.in_range i;
-    }

@@ -1,6 +1,3 @@
-pub mod Items
-pub mod PowerItems
-pub mod Vectors
 pub mod Coefficients
 pub mod Element
 pub mod Changes

@@ -2,5 +2,6 @@
 pub mod BitProduct
 pub mod GhashLane
 pub mod LevelProduct
-pub mod LevelSpace
 pub mod Range
+pub mod Coefficients
+pub mod Element

@@ -1,7 +1,7 @@
 // Written by scripts/make_impls.py; do not edit.
 // Levels of the tower as algebras over the levels below them: an element of the lower level is the same number in the upper.
 ghost use Rattle.std.specs.Prelude.{◌≡◌, ◌<◌, ◌^◌, ℕ, refl};
-ghost use Rattle.field_base.specs.Operators.{given};
+ghost use Rattle.field_base.specs.lemmas.Operators.{given};
 ghost use Rattle.field_element.specs.lemmas.LevelProduct.{product_inside};
 ghost use Rattle.field_element.specs.Element.{repr_of};
 

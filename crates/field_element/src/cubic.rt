@@ -1,7 +1,7 @@
 // What the cubic extension of `Poly64` has of its own, and how `Poly64` lies in it: an element is coefficient 0.
 ghost use Rattle.std.specs.Prelude.{◌≡◌, ◌≢◌, ◌<◌, ◌^◌, ℕ, map, refl};
 ghost use Rattle.field_base.specs.Chunks.{chunks};
-ghost use Rattle.field_base.specs.Operators.{given};
+ghost use Rattle.field_base.specs.lemmas.Operators.{given};
 ghost use Rattle.field_base.specs.Remainder.{mul_mod, poly64_modulus};
 ghost use Rattle.word_polynomial.specs.Cubic.{cubic};
 ghost use Rattle.field_element.specs.Element.{repr_of};

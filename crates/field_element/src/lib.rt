@@ -1,33 +1,22 @@
 //! Elements of the fields: one struct for all of them, with one impl of each trait, the names of the fields, the operators and
 //! conversions between them, and what each field has of its own.
-//!
-//! Elements as vectors over a smaller ring, extensions of fields, and powers of an element: the traits that folding and sum-check
-//! code is written over.
 #![tactic(auto)]
 
 mod algebras;
+mod bytes;
 mod cubic;
 mod draws;
 mod element;
-mod extension;
-mod kernel;
-mod levels;
 mod linear_map;
 mod names;
 mod packings;
 mod polynomial;
 mod polynomial_words;
-mod powers;
-mod space;
 mod subfields;
 mod tower;
+mod triple_bytes;
 
 pub use crate::element::{Coefficients, Element, HasPacking, element_of_word, word_of};
-pub use crate::extension::{
-    AlgebraIdentity, ExtensionField, HasFrobenius, HasSubfield, PackedFieldExtension,
-};
-pub use crate::kernel::SpaceOver;
-pub use crate::levels::CoefficientsOf;
 pub use crate::linear_map::LEAST_TABLED;
 pub use crate::names::{
     BinaryField2, BinaryField4, BinaryField8, BinaryField16, BinaryField32, BinaryField64,
@@ -35,6 +24,4 @@ pub use crate::names::{
 };
 pub use crate::packings::{read_bytes, write_bytes};
 pub use crate::polynomial_words::{from_tower, from_tower_slice, to_tower, to_tower_slice};
-pub use crate::powers::{HasPowers, Powers};
-pub use crate::space::{BasedVectorSpace, BasisCoefficients, BasisCoefficientsSlice};
 pub use crate::subfields::Below;

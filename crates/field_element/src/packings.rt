@@ -1,6 +1,6 @@
 // Packings of elements, and packings of `Ghash128` as an algebra over `BinaryField128`, whose image stands in every lane.
 ghost use Rattle.std.specs.Prelude.{◌≡◌, map, replicate};
-ghost use Rattle.field_base.specs.Operators.{algebra_gives};
+ghost use Rattle.field_base.specs.lemmas.Operators.{algebra_gives};
 ghost use Rattle.field_base.specs.Remainder.{ghash_modulus, mul_mod};
 ghost use Rattle.field_element.specs.Element.{repr_of};
 ghost use Rattle.field_element.specs.lemmas.GhashLane.{ghash_image-below, ghash_lanes-one};

@@ -2,7 +2,7 @@
 // change of basis; the level that is the field of polynomials in the tower's basis has the change back too.
 ghost use Rattle.std.specs.Prelude.{◌≡◌, ◌<◌, ◌^◌, ℕ, bit_xor};
 ghost use Rattle.field_base.specs.Basis.{basis_image};
-ghost use Rattle.field_base.specs.Operators.{given};
+ghost use Rattle.field_base.specs.lemmas.Operators.{given};
 ghost use Rattle.field_base.specs.Remainder.{mul_mod};
 ghost use Rattle.field_element.specs.Element.{repr_of};
 

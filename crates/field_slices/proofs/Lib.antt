@@ -1,3 +1,13 @@
+pub mod Counting
+pub mod Words
+pub mod Lines
+pub mod Search
+pub mod Deciding
+pub mod Folds
+pub mod Openings
+pub mod Counts
+pub mod Triples
+pub mod Blocks
 pub mod BatchInversion
 pub mod BothLists
 pub mod Completeness

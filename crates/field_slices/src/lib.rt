@@ -2,6 +2,8 @@
 //! packings and back; and polynomials over any field: values in one variable by coefficients or by values at the first elements,
 //! multilinear polynomials by their values at the corners of the cube {0, 1}^n, and the rounds of sum-check for a product of two of these.
 //! In the module `matrices`, matrices over a field, in memory of the caller.
+//!
+//! In `near_codes`, what words near linear codes are, and openings of matrices that a prover has chosen: laws alone.
 #![tactic(auto)]
 
 mod columns;
@@ -15,6 +17,7 @@ mod inversion;
 mod laws;
 pub mod matrices;
 mod matrix_laws;
+mod near_codes;
 mod nodes;
 mod null_spaces;
 mod packings;
@@ -37,6 +40,11 @@ pub use crate::laws::{corner_values_extend, first_coordinate_is_linear, folding_
 pub use crate::matrix_laws::{
     determinant_tells_inverses, determinants_multiply, null_space_is_kept,
     reduced_echelon_is_unique,
+};
+pub use crate::near_codes::{
+    far_matrices_need_luck, few_blocks_miss, few_cheats_are_accepted, few_cheats_in_blocks,
+    few_folds_are_near, few_points_fold_near, lines_are_near, near_is_unique, openings_need_luck,
+    other_rows_miss, triples_are_near,
 };
 pub use crate::nodes::interpolate_at_nodes;
 pub use crate::packings::powers::{packed_powers, packed_powers_vec};

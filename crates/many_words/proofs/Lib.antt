@@ -1,14 +1,3 @@
-pub mod PairProducts
-pub mod LaneBits
-pub mod Turns
-pub mod Layouts
-pub mod Exchanges
-pub mod Digits
-pub mod VectorLayouts
-pub mod BlockLanes
-pub mod PolynomialPairs
-pub mod TailSteps
-pub mod Reductions
 mod BothParts
 mod ByteProducts
 mod ByteSums

@@ -1,7 +1,3 @@
-pub mod Lanes
-pub mod Layout
-pub mod Tails
-pub mod Called
 pub mod Fields
 pub mod Maps
 pub mod Places

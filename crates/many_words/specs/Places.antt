@@ -10,10 +10,6 @@ pub record IsInPlanes (d size width : ℕ) (product : ℕ → ℕ → ℕ) : Typ
   pub few : width ≤ 128
   pub product_is : (x y : ℕ) → product x y ≡ tower_mul (level_of d) x y
 
--- so it is where the field is that level
-pub level_in_planes : (d : ℕ) → 2 ^ level_of d ≤ 128 → IsInPlanes d d (2 ^ level_of d) (tower_mul (level_of d))
-level_in_planes d few = record { size_is = refl; width_is = refl; few = few; product_is = λ x y. refl }
-
 -- the first n words stand for these values, and the others for what they stood for
 pub record FirstHold {W : Type 0} (number : W → ℕ) (n : ℕ) (value : ℕ → W → ℕ) (old new : List W) : Type 0 where
   pub long : length new ≡ length old

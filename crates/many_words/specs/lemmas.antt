@@ -1,3 +1,2 @@
 -- What proofs of impls cite of these definitions: no contract names it.
-pub mod Lane
-pub mod Tail
+pub mod Places

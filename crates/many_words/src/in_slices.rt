@@ -10,7 +10,7 @@ ghost use Rattle.many_words.specs.Fields.{field_of};
 mod impls;
 
 use crate::bases::{ChangeOfBasis, FromTower, ToTower};
-use crate::{SlicesOf, TowerWord, Vector, invert_each};
+use bit_slices::{SlicesOf, TowerWord, Vector, invert_each};
 use field_base::{FieldKernel, Holds, Stored, Unsigned};
 use word_polynomial::{Modulus, Polynomials};
 use word_tower::Level;

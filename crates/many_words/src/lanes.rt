@@ -7,7 +7,7 @@ ghost use Rattle.ghash_slices.specs.Blocks.{HoldsPlaces};
 ghost use Rattle.ghash_slices.specs.LowStages.{ghash_product};
 ghost use Rattle.ghash_slices.specs.Fours.{product_at};
 
-use crate::Vector;
+use bit_slices::Vector;
 use field_base::{Holds, Reads};
 use ghash_slices::{Width, number_at, put_number};
 use word_carryless::{

@@ -9,9 +9,10 @@ ghost use Rattle.many_words.specs.Words.{AreElements, Each, EachOfTwo, HoldInver
 mod kernels;
 mod levels;
 
+use crate::fields;
 use crate::one_by_one::{change_all, change_all_by, multiply_each_by};
 use crate::operations::{Inverse, Product, ScaledSum};
-use crate::{Vector, fields};
+use bit_slices::Vector;
 use field_base::{FieldKernel, Holds, Reads, Stored};
 use ghash_slices::Width;
 use std::simd::prelude::*;

@@ -4,10 +4,11 @@ ghost use Rattle.field_base.specs.Powers.{power};
 ghost use Rattle.many_words.specs.Fields.{field_of};
 ghost use Rattle.many_words.specs.Words.{AreElements, Each};
 
+use crate::fields;
 use crate::many::{Many, multiply};
 use crate::one_by_one::change_all;
 use crate::operations::{Power, Square};
-use crate::{Vector, fields};
+use bit_slices::Vector;
 use field_base::{Holds, Stored};
 use ghash_slices::Width;
 

@@ -5,8 +5,8 @@ ghost use Rattle.ghash_slices.specs.LowStages.{ghash_product};
 ghost use Rattle.many_words.specs.Fields.{ghash_field_of};
 ghost use Rattle.many_words.specs.Words.{EachOfTwo};
 
-use crate::Vector;
 use crate::lanes::{dot_of_words, multiply_each};
+use bit_slices::Vector;
 use field_base::{Holds, Reads};
 use ghash_slices::Width;
 

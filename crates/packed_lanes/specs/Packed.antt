@@ -34,11 +34,3 @@ abbrev pub IsProductOfPackings : {F : Type 0} {N : ℕ} → ℕ → (F → ℕ) 
 IsProductOfPackings {N = N} width repr unit times xs r =
     packed_number width repr r
     ≡ product_of (joined width (replicate N unit)) (lane_product width times N) (packed_number width repr) xs
-
--- packings of the same lanes are one
-pub same_packed : {F : Type 0} {N : ℕ} → (x y : Packed F N) → x.lanes ≡ y.lanes → x ≡ y
-same_packed {N = N} x y same =
-    λ i. record {
-      lanes = same i;
-      long = is_prop→PathP (λ j. length (same j) ≡ N) (λ j. ℕ_set _ _) x.long y.long i;
-    }

@@ -6,12 +6,12 @@ use Rattle.std.proofs.Math.Nat.{mul-le-mul_left, mul-le-mul_right, pow-le-pow_le
 use Rattle.std.proofs.lemmas.Nat.{pow_pos}
 use Rattle.ghash_slices.specs.Cantor.{point, polynomial_value}
 use Rattle.ghash_slices.specs.Stages.{sum_of_factors}
-use Rattle.proximity.specs.Blocks.{cheats_in_blocks}
-use Rattle.proximity.specs.Codes.{HasDistance, HasGap, encoded}
-use Rattle.proximity.specs.Marks.{marked_below}
-use Rattle.proximity.proofs.Blocks.{few_cheats_in_blocks}
-use Rattle.proximity.proofs.Counts.{enumerated, unmarked-count}
-use Rattle.proximity.proofs.Triples.{triples_are_near}
+use Rattle.field_slices.specs.Blocks.{cheats_in_blocks}
+use Rattle.field_slices.specs.Codes.{HasDistance, HasGap, encoded}
+use Rattle.field_slices.specs.Marks.{marked_below}
+use Rattle.field_slices.proofs.Blocks.{few_cheats_in_blocks}
+use Rattle.field_slices.proofs.Counts.{enumerated, unmarked-count}
+use Rattle.field_slices.proofs.Triples.{triples_are_near}
 use Rattle.protocols.specs.CodeDistances.{CodeWordsHaveDistance, FewQuarterRateCheats, QuarterRateGap, point_generator}
 use Rattle.protocols.proofs.Words.{values-determine}
 

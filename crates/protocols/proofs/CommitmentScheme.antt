@@ -13,9 +13,9 @@ use Rattle.field_base.specs.Ring.{IsRing}
 use Rattle.field_base.proofs.Places.{numbers-lt}
 use Rattle.field_slices.specs.Multilinear.{multilinear_value}
 use Rattle.transcripts.specs.Commitments.{row_at}
-use Rattle.proximity.specs.Blocks.{cheats_in_blocks}
-use Rattle.proximity.specs.Codes.{HaveSymbols, IsWordOf}
-use Rattle.proximity.specs.Openings.{IsOpened}
+use Rattle.field_slices.specs.Blocks.{cheats_in_blocks}
+use Rattle.field_slices.specs.Codes.{HaveSymbols, IsWordOf}
+use Rattle.field_slices.specs.Openings.{IsOpened}
 use Rattle.protocols.specs.CodeDistances.{FewQuarterRateCheats, point_generator}
 use Rattle.protocols.specs.CommitmentScheme.{AcceptedValue, FewOpeningsCheat, OpensValue, ShowsValue, ValuesAreBound, matrix_rows}
 use Rattle.protocols.specs.CommitmentScheme.{place_bits, row_levels, value_columns, word_levels}

@@ -21,12 +21,12 @@ use Rattle.field_slices.specs.Multilinear.{eq_corner, multilinear_value}
 use Rattle.field_slices.proofs.CornerSums.{corners-line, weighted-line}
 use Rattle.protocols.specs.CodeDistances.{point_generator}
 use Rattle.protocols.proofs.CodeDistances.{code_words_have_distance, encoded-value}
-use Rattle.proximity.specs.Codes.{HasDistance, IsNear, IsWordOf}
-use Rattle.proximity.specs.Folds.{fold_rows, rows_folded}
-use Rattle.proximity.specs.Marks.{marked_below}
-use Rattle.proximity.specs.Openings.{IsOpened, misses}
-use Rattle.proximity.proofs.Openings.{near_is_unique, openings_need_luck}
-use Rattle.proximity.proofs.Words.{word-fits}
+use Rattle.field_slices.specs.Codes.{HasDistance, IsNear, IsWordOf}
+use Rattle.field_slices.specs.Folds.{fold_rows, rows_folded}
+use Rattle.field_slices.specs.Marks.{marked_below}
+use Rattle.field_slices.specs.Openings.{IsOpened, misses}
+use Rattle.field_slices.proofs.Openings.{near_is_unique, openings_need_luck}
+use Rattle.field_slices.proofs.Words.{word-fits}
 use Rattle.transcripts.specs.Commitments.{row_at}
 use Rattle.protocols.specs.CodeWords.{IsCodeWordOf}
 use Rattle.protocols.specs.OpenedTables.{AreColumnsOf, CommitsTo, HasLuckyCoordinate, OpenedRowsNeedLuck, OpenedValuesNeedLuck, ShowsTable, TableIsOne, column_symbol}

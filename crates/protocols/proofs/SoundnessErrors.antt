@@ -8,11 +8,11 @@ use Rattle.std.proofs.lemmas.List.{get_or-take}
 use Rattle.field_base.specs.Field.{IsField}
 use Rattle.field_base.specs.Orders.{AreCantorVectors}
 use Rattle.field_slices.specs.Multilinear.{folded, folded_all}
-use Rattle.proximity.specs.Blocks.{blocks_unmarked}
-use Rattle.proximity.specs.Marks.{marked_below}
-use Rattle.proximity.specs.Openings.{AreNumbersBelow, misses, sum_lists}
-use Rattle.proximity.proofs.Blocks.{blocks-free}
-use Rattle.proximity.proofs.Counts.{enumerated, few-lists, lists-imply, lists-some}
+use Rattle.field_slices.specs.Blocks.{blocks_unmarked}
+use Rattle.field_slices.specs.Marks.{marked_below}
+use Rattle.field_slices.specs.Openings.{AreNumbersBelow, misses, sum_lists}
+use Rattle.field_slices.proofs.Blocks.{blocks-free}
+use Rattle.field_slices.proofs.Counts.{enumerated, few-lists, lists-imply, lists-some}
 use Rattle.sum_checks.specs.SumcheckClaims.{IsClaimShape, message_at, reduced_claim}
 use Rattle.sum_checks.specs.Terms.{Product, cube_sum, honest_at, terms_value}
 use Rattle.sum_checks.proofs.Rows.{cube_sum-none}

@@ -5,9 +5,9 @@ use Rattle.field_base.specs.Field.{IsField}
 use Rattle.field_base.specs.Orders.{AreCantorVectors}
 use Rattle.ghash_slices.specs.Cantor.{point, subspace_value}
 use Rattle.ghash_slices.specs.Stages.{factors_at}
-use Rattle.proximity.specs.Blocks.{cheats_in_blocks}
-use Rattle.proximity.specs.Codes.{HasDistance, HasGap, HaveSymbols, IsWordOf}
-use Rattle.proximity.specs.Openings.{IsOpened}
+use Rattle.field_slices.specs.Blocks.{cheats_in_blocks}
+use Rattle.field_slices.specs.Codes.{HasDistance, HasGap, HaveSymbols, IsWordOf}
+use Rattle.field_slices.specs.Openings.{IsOpened}
 
 -- entry (j, p) of the generator: polynomial j of the basis of the products of the s_i, at point p
 abbrev pub point_generator : ℕ → (ℕ → ℕ → ℕ) → (ℕ → ℕ) → ℕ → ℕ → ℕ → ℕ

@@ -12,9 +12,9 @@ use Rattle.transcripts.specs.Commitments.{IsTreeOver, root_of, row_at}
 use Rattle.transcripts.specs.MerkleTrees.{HaveDigestSize}
 use Rattle.transcripts.specs.Queries.{AreQueries}
 use Rattle.transcripts.specs.declared.merkle_tree.MerkleTree.{MerkleTree}
-use Rattle.proximity.specs.Blocks.{cheats_in_blocks}
-use Rattle.proximity.specs.Codes.{HaveSymbols, IsWordOf}
-use Rattle.proximity.specs.Openings.{IsOpened}
+use Rattle.field_slices.specs.Blocks.{cheats_in_blocks}
+use Rattle.field_slices.specs.Codes.{HaveSymbols, IsWordOf}
+use Rattle.field_slices.specs.Openings.{IsOpened}
 use Rattle.sum_checks.specs.Sumcheck.{IsTurn}
 use Rattle.sum_checks.specs.declared.error.ProtocolError.{ProtocolError}
 use Rattle.sum_checks.specs.declared.error.ProtocolError.TheVariants.{Memory, NoWitness}

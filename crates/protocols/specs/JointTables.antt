@@ -13,9 +13,9 @@ use Rattle.transcripts.specs.Commitments.{root_of, row_at}
 use Rattle.transcripts.specs.MerkleTrees.{HaveDigestSize}
 use Rattle.transcripts.specs.Openings.{OpensRows}
 use Rattle.transcripts.specs.declared.merkle_tree.MerkleTree.{MerkleTree}
-use Rattle.proximity.specs.Blocks.{cheats_in_blocks}
-use Rattle.proximity.specs.Codes.{HaveSymbols, IsWordOf}
-use Rattle.proximity.specs.Openings.{IsOpened}
+use Rattle.field_slices.specs.Blocks.{cheats_in_blocks}
+use Rattle.field_slices.specs.Codes.{HaveSymbols, IsWordOf}
+use Rattle.field_slices.specs.Openings.{IsOpened}
 use Rattle.transcripts.specs.Lists.{InTurn}
 use Rattle.sum_checks.specs.ZeroCheck.{IsRootAt}
 use Rattle.protocols.specs.CodeDistances.{point_generator}

@@ -4,9 +4,9 @@ use Rattle.std.specs.Prelude.{◌≡◌, ◌⊎◌, ℕ, ◌+◌, ◌*◌, ◌^�
 use Rattle.field_base.specs.Field.{IsField}
 use Rattle.field_base.specs.Orders.{AreCantorVectors}
 use Rattle.field_slices.specs.Multilinear.{multilinear_value}
-use Rattle.proximity.specs.Folds.{IsLuckyAt}
-use Rattle.proximity.specs.Marks.{marked_below}
-use Rattle.proximity.specs.Openings.{misses}
+use Rattle.field_slices.specs.Folds.{IsLuckyAt}
+use Rattle.field_slices.specs.Marks.{marked_below}
+use Rattle.field_slices.specs.Openings.{misses}
 use Rattle.protocols.specs.CodeDistances.{point_generator}
 use Rattle.protocols.specs.CodeWords.{IsCodeWordOf}
 use Rattle.protocols.specs.Tables.{AgreesAt, ExtendsTable, column_values}

@@ -3,7 +3,7 @@
 -- is the share of these lists (C. Lund, L. Fortnow, H. Karloff and N. Nisan, Algebraic methods for interactive proof systems, 1992;
 -- J. Thaler, Proofs, Arguments, and Zero-Knowledge, section 4.1).
 use Rattle.std.specs.Prelude.{◌≡◌, ◌≢◌, ℕ, ◌*◌, ◌^◌, ◌<◌, ◌≤◌, Bool, true, cond, List, [], ◌∷◌, length, slice_index}
-use Rattle.proximity.specs.Openings.{sum_lists}
+use Rattle.field_slices.specs.Openings.{sum_lists}
 use Rattle.sum_checks.specs.SumcheckClaims.{IsClaimShape, reduced_claim}
 use Rattle.sum_checks.specs.Terms.{Product, cube_sum, table_value, terms_value}
 

@@ -8,12 +8,12 @@ use Rattle.std.proofs.lemmas.Bool.{cases_lt}
 use Rattle.std.proofs.lemmas.Nat.{mul-pow, pow-add}
 use Rattle.field_base.specs.Field.{IsField}
 use Rattle.field_base.specs.Orders.{AreCantorVectors}
-use Rattle.proximity.specs.Blocks.{blocks_unmarked}
-use Rattle.proximity.specs.Codes.{HasGap}
-use Rattle.proximity.specs.Marks.{marked_below}
-use Rattle.proximity.specs.Openings.{sum_lists}
-use Rattle.proximity.proofs.Blocks.{few_blocks_miss}
-use Rattle.proximity.proofs.Lines.{lines_are_near}
+use Rattle.field_slices.specs.Blocks.{blocks_unmarked}
+use Rattle.field_slices.specs.Codes.{HasGap}
+use Rattle.field_slices.specs.Marks.{marked_below}
+use Rattle.field_slices.specs.Openings.{sum_lists}
+use Rattle.field_slices.proofs.Blocks.{few_blocks_miss}
+use Rattle.field_slices.proofs.Lines.{lines_are_near}
 use Rattle.sum_checks.specs.ZeroCheck.{LinesHaveOneRoot}
 use Rattle.protocols.specs.CodeDistances.{point_generator}
 use Rattle.protocols.proofs.CodeDistances.{quarter_rate_gap}

@@ -17,16 +17,16 @@ use Rattle.field_base.proofs.RingLemmas.{xor_nothing}
 use Rattle.field_slices.specs.Multilinear.{eq_corner, multilinear_value, on_line}
 use Rattle.field_slices.proofs.CornerSums.{corners-line, weighted-lt}
 use Rattle.transcripts.specs.Commitments.{row_at}
-use Rattle.proximity.specs.Blocks.{blocks_unmarked}
-use Rattle.proximity.specs.Codes.{HasDistance, HasGap, HaveSymbols, IsNear}
-use Rattle.proximity.specs.Folds.{rows_folded}
-use Rattle.proximity.specs.Marks.{marked_below, total}
-use Rattle.proximity.specs.Openings.{AreNumbersBelow, misses, sum_lists}
-use Rattle.proximity.proofs.Blocks.{few_blocks_miss}
-use Rattle.proximity.proofs.Counts.{enumerated, few-large, few_points_fold_near, lists-add, lists-constant, lists-most, lists-split}
-use Rattle.proximity.proofs.Counts.{lists-times, near-test, near_test, test-near, total-same_number}
-use Rattle.proximity.proofs.Deciding.{near-decided}
-use Rattle.proximity.proofs.Openings.{little-missed, near-row}
+use Rattle.field_slices.specs.Blocks.{blocks_unmarked}
+use Rattle.field_slices.specs.Codes.{HasDistance, HasGap, HaveSymbols, IsNear}
+use Rattle.field_slices.specs.Folds.{rows_folded}
+use Rattle.field_slices.specs.Marks.{marked_below, total}
+use Rattle.field_slices.specs.Openings.{AreNumbersBelow, misses, sum_lists}
+use Rattle.field_slices.proofs.Blocks.{few_blocks_miss}
+use Rattle.field_slices.proofs.Counts.{enumerated, few-large, few_points_fold_near, lists-add, lists-constant, lists-most, lists-split}
+use Rattle.field_slices.proofs.Counts.{lists-times, near-test, near_test, test-near, total-same_number}
+use Rattle.field_slices.proofs.Deciding.{near-decided}
+use Rattle.field_slices.proofs.Openings.{little-missed, near-row}
 use Rattle.sum_checks.specs.SumcheckClaims.{reduced_claim}
 use Rattle.sum_checks.specs.Terms.{table_value, terms_value}
 use Rattle.sum_checks.specs.ZeroCheck.{IsNonzeroLine, LinesHaveOneRoot}

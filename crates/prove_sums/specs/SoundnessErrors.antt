@@ -10,8 +10,8 @@ use Rattle.std.specs.Prelude.{drop, take, get_or, max, slice_index}
 use Rattle.field_base.specs.Field.{IsField}
 use Rattle.field_base.specs.Orders.{AreCantorVectors}
 use Rattle.field_slices.specs.Multilinear.{multilinear_value}
-use Rattle.proximity.specs.Codes.{HasGap}
-use Rattle.proximity.specs.Openings.{AreNumbersBelow, sum_lists}
+use Rattle.field_slices.specs.Codes.{HasGap}
+use Rattle.field_slices.specs.Openings.{AreNumbersBelow, sum_lists}
 use Rattle.sum_checks.specs.SumcheckClaims.{reduced_claim}
 use Rattle.sum_checks.specs.Terms.{cube_sum}
 use Rattle.protocols.specs.CodeDistances.{point_generator}

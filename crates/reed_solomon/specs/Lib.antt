@@ -1,3 +1,13 @@
+pub mod Blocks
+pub mod Codes
+pub mod Columns
+pub mod Derivatives
+pub mod Determined
+pub mod Direct
+pub mod Located
+pub mod Locators
+pub mod Restoring
+pub mod TransformSizes
 pub mod Adding
 pub mod ErasureField
 pub mod Missing

@@ -1,8 +1,8 @@
 // The byte field of AES: matrices of 8 by 8 bits, and linearized polynomials.
 use crate::fault::Fault;
 use crate::reading::{byte, bytes, word};
-use field_bytes::{ByteMatrix, LinearizedPoly8b, RijndaelMaps};
 use field_element::Rijndael8b;
+use field_space::{ByteMatrix, LinearizedPoly8b, RijndaelMaps};
 use std::alloc::Global;
 
 /// A call of the byte field, of a matrix or of a linearized polynomial.

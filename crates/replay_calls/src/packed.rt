@@ -1,8 +1,8 @@
 // Packings of sixteen bytes of AES: what is done lane by lane is the same in every packing.
 use crate::fault::Fault;
 use crate::reading::{bytes, word};
-use field_bytes::{ByteLanes, ByteMatrix, RijndaelMaps};
 use field_element::{PackedRijndael8b, Rijndael8b};
+use field_space::{ByteLanes, ByteMatrix, RijndaelMaps};
 use packed_lanes::PackedValue;
 use std::alloc::Global;
 

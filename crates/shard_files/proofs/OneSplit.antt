@@ -6,8 +6,8 @@ use Rattle.std.proofs.lemmas.Bool.Decides.{nat_tests}
 use Rattle.std.proofs.lemmas.List.{ext_get_or, get_or-take}
 use Rattle.reed_solomon.specs.RoundTrip.{AgreeWherePresent, ChangesAreSeen}
 use Rattle.reed_solomon.specs.Shards.{IsPresent, present_count}
-use Rattle.transform_codes.specs.Codes.{shard_symbol}
-use Rattle.transform_codes.specs.Determined.{HaveSameSymbols, ShardsDetermine, symbol_of}
+use Rattle.reed_solomon.specs.Codes.{shard_symbol}
+use Rattle.reed_solomon.specs.Determined.{HaveSameSymbols, ShardsDetermine, symbol_of}
 use Rattle.shard_files.specs.Codes.{AreTransformWords, IsTransformCode}
 use Rattle.shard_files.specs.RoundTrip.{FilesAreOne, SplitsAreOne}
 use Rattle.shard_files.specs.Splits.{IsSplit}

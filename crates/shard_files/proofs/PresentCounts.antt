@@ -2,8 +2,8 @@
 use Rattle.std.proofs.Common.{◌≡◌, ℕ, zero, suc, ◌+◌, ◌≤◌, Bool, true, false, cond, List, [], ◌∷◌, length, if◌then◌else◌, refl, ◌∙◌, ap, arith}
 use Rattle.std.proofs.lemmas.List.Sums.{sum_by-cons}
 use Rattle.reed_solomon.specs.Shards.{present_count}
-use Rattle.transform_codes.specs.Locators.{lost_count}
-use Rattle.transform_codes.specs.Restoring.{is_missing}
+use Rattle.reed_solomon.specs.Locators.{lost_count}
+use Rattle.reed_solomon.specs.Restoring.{is_missing}
 
 -- one flag more
 pub without : (flags : List Bool) → present_count (false ∷ flags) ≡ 0 + present_count flags

@@ -3,9 +3,9 @@ use Rattle.std.proofs.Common.{◌≡◌, ◌≢◌, ◌↔◌, ◌⊎◌, inl, �
 use Rattle.std.proofs.Math.Nat.{mul-div_cancel_left}
 use Rattle.reed_solomon.specs.RoundTrip.{AgreeWherePresent}
 use Rattle.reed_solomon.specs.Shards.{present_count}
-use Rattle.transform_codes.specs.Codes.{AreCodedColumns}
-use Rattle.transform_codes.specs.Sizes.{CanEncode, CanRebuild, HaveOneSize, IsPadded}
-use Rattle.transform_codes.specs.declared.codec.TransformCode.{TransformCode}
+use Rattle.reed_solomon.specs.Codes.{AreCodedColumns}
+use Rattle.reed_solomon.specs.TransformSizes.{CanEncode, CanRebuild, HaveOneSize, IsPadded}
+use Rattle.reed_solomon.specs.declared.transform_codec.TransformCode.{TransformCode}
 use Rattle.shard_files.specs.Codes.{AreShardWords, AreTransformWords, AreWordsOf}
 use Rattle.shard_files.specs.declared.code.StripeCode.{StripeCode}
 use Rattle.shard_files.proofs.KnownCodes.{is_transform}

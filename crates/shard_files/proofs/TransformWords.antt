@@ -7,10 +7,10 @@ use Rattle.std.proofs.lemmas.Nat.{div-add-mod', div_below}
 use native.Mathlib.Nat.{mod-lt}
 use Rattle.reed_solomon.specs.RoundTrip.{AgreeWherePresent}
 use Rattle.reed_solomon.specs.Shards.{IsPresent}
-use Rattle.transform_codes.specs.Codes.{AreCodedColumns}
-use Rattle.transform_codes.specs.Determined.{AgreeAtHand, HaveSameSymbols, LostSymbolsReturn}
-use Rattle.transform_codes.specs.Restoring.{AreRestoredColumns}
-use Rattle.transform_codes.specs.Sizes.{HaveOneSize, IsPadded}
+use Rattle.reed_solomon.specs.Codes.{AreCodedColumns}
+use Rattle.reed_solomon.specs.Determined.{AgreeAtHand, HaveSameSymbols, LostSymbolsReturn}
+use Rattle.reed_solomon.specs.Restoring.{AreRestoredColumns}
+use Rattle.reed_solomon.specs.TransformSizes.{HaveOneSize, IsPadded}
 use Rattle.shard_files.specs.Codes.{AreShardWords, AreTransformWords, AreWordsOf, IsTransformCode, IsWordAt}
 use Rattle.shard_files.proofs.ShardPlaces.{shard_room}
 

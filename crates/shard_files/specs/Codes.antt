@@ -3,8 +3,8 @@
 use Rattle.std.specs.Prelude.{◌≡◌, ◌⊎◌, ℕ, ◌+◌, ◌*◌, ◌/◌, ◌%◌, ◌^◌, ◌<◌, ◌≤◌, List, length, slice_index}
 use Rattle.reed_solomon.specs.Shards.{AreCodewords}
 use Rattle.additive_transforms.specs.Words.{level_element}
-use Rattle.transform_codes.specs.Codes.{AreCodedColumns}
-use Rattle.transform_codes.specs.Sizes.{IsPadded}
+use Rattle.reed_solomon.specs.Codes.{AreCodedColumns}
+use Rattle.reed_solomon.specs.TransformSizes.{IsPadded}
 
 -- the bytes at a place and behind it are the lower and the higher one of a word
 pub record IsWordAt (bytes : List ℕ) (place word : ℕ) : Type 0 where

@@ -2,7 +2,7 @@
 //
 // There are two kinds of code, and each has one word in each place. Those by matrices: number 1, `matrix` of `--code`, the crate
 // `reed_solomon`, and in C the calls that begin as `bf_rs_encode` does. Those by transforms: number 2, `transform` of `--code`, the crate
-// `transform_codes`, the module `erasure` of `binary_field`, and in C the calls that begin as `bf_erasure_encode` does.
+// `reed_solomon`, the module `erasure` of `binary_field`, and in C the calls that begin as `bf_erasure_encode` does.
 ghost use Rattle.std.specs.Prelude.{◌≡◌, ℕ, List, ◌+◌, ◌*◌, ◌<◌, ◌≤◌, ◌↔◌, length, slice_index, IsOk, IsSome, IsTrue, IfOk, IfSome, OnErr};
 ghost use Rattle.reed_solomon.specs.RoundTrip.{AgreeWherePresent};
 ghost use Rattle.reed_solomon.specs.Shards.{present_count};
@@ -17,7 +17,7 @@ use std::alloc::{AllocError, Global};
 /// The number of the code of the crate `reed_solomon`, over bytes.
 pub const MATRIX: u32 = 1;
 
-/// The number of the code of the crate `transform_codes`, over words of 16 bits, whose lower byte is the first.
+/// The number of the code by transforms, over words of 16 bits, whose lower byte is the first.
 pub const TRANSFORM: u32 = 2;
 
 /// No code has more shards.

@@ -4,8 +4,7 @@ ghost use Rattle.shard_files.specs.Memory.{LossesLeaveEnough};
 ghost use Rattle.shard_files.specs.RoundTrip.{FilesAreOne, ShardsReturn, SplitsAreOne};
 ghost use Rattle.shard_files.specs.Stripes.{part_count};
 
-use reed_solomon::changes_are_seen;
-use transform_codes::shards_determine;
+use reed_solomon::{changes_are_seen, shards_determine};
 
 /// Computes nothing; its contract is the law that the files which `write_shards` writes, with any of them lost or damaged as long as in
 /// each stripe as many shards are left as the data have, and no damage has a right digest, are files from which `write_content` writes the

@@ -1,17 +1,17 @@
-// The code over words of 16 bits by transforms, of the crate `transform_codes`.
+// The code over words of 16 bits by transforms (`reed_solomon::TransformCode`).
 ghost use Rattle.std.specs.Prelude.{◌≡◌, ◌≢◌, ℕ, List, ◌+◌, ◌*◌, ◌/◌, ◌^◌, ◌<◌, ◌≤◌};
 ghost use Rattle.std.specs.Prelude.{◌↔◌, length, slice_index, IfOk, IfSome, IsOk, IsSome, IsTrue, OnErr};
 ghost use Rattle.reed_solomon.specs.RoundTrip.{AgreeWherePresent};
 ghost use Rattle.reed_solomon.specs.Shards.{present_count};
 ghost use Rattle.additive_transforms.specs.Words.{level_element};
-ghost use Rattle.transform_codes.specs.Codes.{AreCodedColumns};
-ghost use Rattle.transform_codes.specs.Sizes.{HaveOneSize};
+ghost use Rattle.reed_solomon.specs.Codes.{AreCodedColumns};
+ghost use Rattle.reed_solomon.specs.TransformSizes.{HaveOneSize};
 ghost use Rattle.shard_files.specs.Codes.{AreShardWords, AreTransformWords, IsTransformCode};
 
 use crate::code::StripeCode;
 use crate::words::{words_of, write_words, zero_words};
+use reed_solomon::{TransformCode, lost_symbols_return};
 use std::alloc::{AllocError, Global};
-use transform_codes::{TransformCode, lost_shards_return};
 use word_tower::Bits16;
 
 // How many words of space a call takes for each point, so that as many columns go at once as pays.
@@ -176,7 +176,7 @@ fn restore_words(
         → AgreeWherePresent (transform.now.data_shards + transform.now.parity_shards) size present.now shards.new shards.old }
     ensures long { length shards.new ≡ length shards.old }
 {
-    lost_shards_return::<u16, Bits16>();
+    lost_symbols_return::<u16, Bits16>();
     let first = words.len();
     let _restored = transform.reconstruct::<u16, Bits16>(space, words, parity, present);
     write_words(words, 0, shards);

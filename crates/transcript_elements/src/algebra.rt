@@ -12,7 +12,7 @@ ghost use Rattle.transcripts.specs.States.{GivesByState, LeadsByState};
 use crate::byte_level::ByteLevel;
 use crate::challenger::BinaryChallenger;
 use field_base::traits::PrimeCharacteristicRing;
-use field_element::BasedVectorSpace;
+use field_space::BasedVectorSpace;
 use transcripts::{
     ByteChallenger, CanObserve, CanSample, CanSampleBits, ChallengerError, Transcript,
 };

@@ -7,7 +7,8 @@ ghost use Rattle.field_base.specs.Tower.{tower_mul};
 ghost use Rattle.transcripts.specs.GuardedAnswers.{GuardedAnswer};
 ghost use Rattle.field_bytes.specs.BigEndian.{be_bytes};
 ghost use Rattle.transcript_elements.specs.Seeds.{BeginsSeed, IsPrefixFree, ObservesSeed};
-ghost use Rattle.transcript_elements.specs.Tags.{poly64-two_squared, tag_of, tower-two_squared};
+ghost use Rattle.transcript_elements.specs.Tags.{tag_of};
+ghost use Rattle.transcript_elements.specs.lemmas.Tags.{poly64-two_squared, tower-two_squared};
 
 use crate::byte_level::ByteLevel;
 use crate::error::TranscriptError;

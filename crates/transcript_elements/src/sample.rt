@@ -6,7 +6,7 @@ ghost use Rattle.transcript_elements.specs.lemmas.State.{same_elements};
 
 use crate::byte_level::ByteLevel;
 use crate::challenger::BinaryChallenger;
-use field_element::BasedVectorSpace;
+use field_space::BasedVectorSpace;
 use transcripts::{ByteChallenger, CanSample, ChallengerError};
 
 impl<F: ByteLevel, Inner: ByteChallenger, E: BasedVectorSpace<F>> CanSample<E>

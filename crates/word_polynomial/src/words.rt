@@ -3,7 +3,7 @@ ghost use prog.Memory.{size};
 ghost use denote.Param.{layout};
 ghost use Rattle.std.specs.Prelude.{◌≡◌, ◌<◌, ◌≤◌, ◌*◌, ◌^◌, refl};
 ghost use Rattle.std.proofs.Common.{lit<, lit≤, rules};
-ghost use Rattle.field_base.specs.Room.{few_fit};
+ghost use Rattle.field_base.specs.lemmas.Room.{few_fit};
 ghost use Rattle.word_polynomial.specs.Cubic.{triple};
 ghost use Rattle.word_polynomial.specs.Triple.{triple_number};
 ghost use Rattle.word_polynomial.specs.lemmas.Triple.{fits_192, same_number, triple-chunks, triple_of_number, words_law};

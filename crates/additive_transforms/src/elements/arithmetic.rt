@@ -3,7 +3,8 @@ ghost use Rattle.std.specs.Prelude.{◌≡◌, ◌++◌, ◌^◌, ◌<◌, ◌�
 ghost use Rattle.field_base.specs.Orders.{AreCantorVectors};
 ghost use Rattle.field_base.specs.Ring.{IsRing};
 ghost use Rattle.ghash_slices.specs.Cantor.{subspace_value};
-ghost use Rattle.additive_transforms.specs.Counting.{AddsUp, AlwaysHasRoom, nothing_counted};
+ghost use Rattle.additive_transforms.specs.Counting.{AddsUp, AlwaysHasRoom};
+ghost use Rattle.additive_transforms.specs.lemmas.Counting.{nothing_counted};
 ghost use Rattle.additive_transforms.specs.Stages.{TakesBlock};
 ghost use Rattle.additive_transforms.specs.Transform.{HasStages, TakesTransform};
 

@@ -3,7 +3,7 @@ ghost use Rattle.std.specs.Prelude.{◌-◌, ◌*◌, ◌^◌};
 ghost use Rattle.std.proofs.Common.{◌∙◌, ap};
 ghost use Rattle.std.specs.Prelude.{bit_xor};
 ghost use native.Mathlib.Nat.{one-mul};
-ghost use Rattle.field_base.specs.Operators.{algebra_gives};
+ghost use Rattle.field_base.specs.lemmas.Operators.{algebra_gives};
 ghost use Rattle.packed_lanes.specs.lemmas.BitImage.{bit_same, bit_sum};
 ghost use Rattle.bits_packed.specs.lemmas.EveryLane.{every_product, times_every};
 ghost use Rattle.bits_packed.specs.Lanes.{bitwise_product};

@@ -2,7 +2,7 @@
 ghost use Rattle.std.specs.Prelude.{◌≡◌, ◌-◌, ◌*◌, ◌^◌, IsTrue, refl};
 ghost use mathlib.Core.HLevel.{is_prop→PathP};
 ghost use Rattle.std.proofs.Math.Bool.{Bool-set};
-ghost use Rattle.field_base.specs.Operators.{given};
+ghost use Rattle.field_base.specs.lemmas.Operators.{given};
 ghost use Rattle.field_base.specs.Powers.{product_of, sum_of};
 ghost use Rattle.bits_packed.specs.lemmas.BitsRing.{bits_ring, equal_numbers, ones_fit};
 ghost use Rattle.bits_packed.specs.Lanes.{bitwise_product};

@@ -4,7 +4,7 @@
 ghost use Rattle.std.specs.Prelude.{◌≡◌, ◌↔◌, ◌+◌, ◌-◌, ◌*◌, ◌<◌, ◌≤◌, ◌||◌, ◌&&◌, ℕ, List, length, slice_index};
 ghost use Rattle.std.specs.Prelude.{false, not, nat_eq, IsOk, IsTrue, IfOk, OnOk, OnErr};
 ghost use Rattle.field_base.specs.Powers.{power};
-ghost use Rattle.proximity.specs.Marks.{marked_below};
+ghost use Rattle.field_slices.specs.Marks.{marked_below};
 ghost use Rattle.error_codes.specs.Checks.{IsSent};
 ghost use Rattle.error_codes.specs.Correcting.{HasRoots, IsMeantIn, code_value, is_listed};
 ghost use Rattle.error_codes.specs.FieldCodes.{AreSymbols, AreFallingPoints};

@@ -4,7 +4,7 @@
 ghost use Rattle.std.specs.Prelude.{◌≡◌, ◌+◌, ◌-◌, ◌<◌, ◌≤◌, ◌^◌, ℕ, length, slice_index, true, false, bit_xor};
 ghost use Rattle.field_base.specs.Basis.{sum_below};
 ghost use Rattle.field_base.specs.Powers.{power};
-ghost use Rattle.proximity.specs.Marks.{marked_below};
+ghost use Rattle.field_slices.specs.Marks.{marked_below};
 ghost use Rattle.error_codes.specs.Checks.{IsChecked, syndrome};
 ghost use Rattle.error_codes.specs.FieldCodes.{AreSymbols, AreFallingPoints};
 ghost use Rattle.error_codes.specs.Filling.{falling_point, falling_scale, is_marked, is_other, marked_product};

@@ -4,7 +4,7 @@ ghost use prog.Memory.{size};
 ghost use denote.Param.{layout};
 ghost use Rattle.std.specs.Prelude.{◌≡◌, ◌↔◌, ◌<◌, ◌≤◌, ◌*◌, ◌%◌, ◌^◌, IsTrue, bit_xor, refl};
 ghost use Rattle.std.proofs.Common.{lit<, rules};
-ghost use Rattle.field_base.specs.Room.{few_fit};
+ghost use Rattle.field_base.specs.lemmas.Room.{few_fit};
 
 use crate::word::{Stored, Unsigned};
 

@@ -2,7 +2,7 @@
 // algebra over GF(2).
 ghost use Rattle.std.specs.Prelude.{◌≡◌, ◌<◌, ◌^◌, ℕ, refl};
 ghost use Rattle.field_base.specs.Bit.{bit_number as bit_of};
-ghost use Rattle.field_base.specs.Operators.{given};
+ghost use Rattle.field_base.specs.lemmas.Operators.{given};
 ghost use Rattle.field_element.specs.lemmas.BitProduct.{bit_product};
 ghost use Rattle.field_element.specs.Element.{repr_of};
 

@@ -31,7 +31,7 @@ impl Coefficients {
 
     // The coefficients of an element.
     #[inline]
-    #[tactic(auto, using(crate::specs::Coefficients::chunks_stored))]
+    #[tactic(auto, using(crate::specs::lemmas::Coefficients::chunks_stored))]
     pub(crate) fn new(coefficients: [Poly64; 3]) -> Coefficients
         ensures { map repr_of coefficients ≡ chunks 64 3 (stored_number result) }
     {
@@ -40,7 +40,7 @@ impl Coefficients {
 
     // The array of the coefficients.
     #[inline]
-    #[tactic(auto, using(crate::specs::Coefficients::chunks_stored))]
+    #[tactic(auto, using(crate::specs::lemmas::Coefficients::chunks_stored))]
     pub(crate) fn array(&self) -> [Poly64; 3]
         ensures { map repr_of result ≡ chunks 64 3 (stored_number self.now) }
     {
@@ -49,7 +49,7 @@ impl Coefficients {
 
     /// The coefficients, coefficient 0 first, where they lie.
     #[inline]
-    #[tactic(auto, using(crate::specs::Coefficients::chunks_stored))]
+    #[tactic(auto, using(crate::specs::lemmas::Coefficients::chunks_stored))]
     pub fn as_slice(&self) -> &[Poly64]
         ensures { map repr_of result.now ≡ chunks 64 3 (stored_number self.now) }
     {

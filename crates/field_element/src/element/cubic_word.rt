@@ -3,11 +3,12 @@ ghost use prog.Memory.{size};
 ghost use denote.Param.{layout};
 ghost use Rattle.std.specs.Prelude.{◌≡◌, ◌≢◌, ◌<◌, ◌≤◌, ◌*◌, ◌%◌, ◌^◌, ◌∷◌, [], ℕ, refl};
 ghost use Rattle.std.proofs.Common.{lit<, lit≤, rules};
-ghost use Rattle.field_base.specs.Room.{few_fit};
+ghost use Rattle.field_base.specs.lemmas.Room.{few_fit};
 ghost use Rattle.word_polynomial.specs.Cubic.{triple};
 ghost use Rattle.word_polynomial.specs.lemmas.Triple.{fits_192, triple-chunks, words_law};
 ghost use Rattle.field_element.specs.Coefficients.{coefficients_of_number, coefficients_of_words};
-ghost use Rattle.field_element.specs.Coefficients.{same_coefficients, stored_number, stored_words};
+ghost use Rattle.field_element.specs.Coefficients.{stored_number, stored_words};
+ghost use Rattle.field_element.specs.lemmas.Coefficients.{same_coefficients};
 
 use crate::element::{Coefficients, Element};
 use crate::names::Poly64;

@@ -1,7 +1,7 @@
 // The traits of rings and fields, for the elements of every field at once.
 ghost use Rattle.std.specs.Prelude.{◌≡◌, ◌≢◌, ◌<◌, ◌%◌, ◌^◌, ℕ, refl};
 ghost use Rattle.std.proofs.Common.{sym, subst, ◌∙◌};
-ghost use Rattle.field_base.specs.Operators.{given};
+ghost use Rattle.field_base.specs.lemmas.Operators.{given};
 ghost use Rattle.field_base.specs.Orders.{HasFullOrder};
 ghost use Rattle.field_base.specs.Powers.{repeated_square};
 ghost use Rattle.field_element.specs.lemmas.Range.{number_of_stored, one_in_range, stored_in_range, zero_in_range};
@@ -29,7 +29,8 @@ fn squarings<R: Stored, K: FieldKernel<R>>(word: R, count: usize) -> R
 }
 
 impl<R: Stored, K: FieldKernel<R>> Represented for Element<R, K> {
-    ghost use Rattle.field_element.specs.Element.{repr_of, same_word};
+    ghost use Rattle.field_element.specs.Element.{repr_of};
+    ghost use Rattle.field_element.specs.lemmas.Element.{same_word};
 
     ghost width = { K.width };
 

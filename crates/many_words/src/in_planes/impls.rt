@@ -2,7 +2,7 @@
 // The levels of 16 to 128 bits by their planes of bytes, thirty-two words at once, and by the multiples of a scalar. Those of a level
 // are made of those of the level below.
 ghost use Rattle.std.proofs.Common.{lit≤};
-ghost use Rattle.many_words.specs.Places.{level_in_planes};
+ghost use Rattle.many_words.specs.lemmas.Places.{level_in_planes};
 
 use super::FieldInPlanes;
 use additive_transforms::{ByteMultiples, HalfMultiples, Pair};

@@ -1,7 +1,9 @@
 // Written by scripts/make_impls.py; do not edit.
 // The levels of 8 to 128 bits by slices of their bits.
 use super::FieldInSlices;
-use crate::{Slices8, Slices16, Slices32, Slices64, Slices128, Vector, invert_each, multiply_each};
+use bit_slices::{
+    Slices8, Slices16, Slices32, Slices64, Slices128, Vector, invert_each, multiply_each,
+};
 use field_base::Holds;
 use word_tower::{Bits8, Bits16, Bits32, Bits64, Bits128, Tower};
 

@@ -6,10 +6,8 @@ use crate::bytes::LEAST_IN_VECTORS;
 use crate::in_slices::{LEAST_BY_TOWER, LEAST_IN_SLICES, invert_images};
 use crate::mapped_words::polynomial_images;
 use crate::scaled_bytes::LEAST_MAPPED;
-use crate::{
-    Slices64, Slices128, Vector, bytes, mapped_words, multiply_polynomials_each, products, scalars,
-    scaled_bytes,
-};
+use crate::{bytes, mapped_words, products, scalars, scaled_bytes};
+use bit_slices::{Slices64, Slices128, Vector, multiply_polynomials_each};
 use field_base::{Holds, Reads};
 use ghash_slices::Width;
 use word_polynomial::{

@@ -11,8 +11,12 @@ use Rattle.packed_lanes.specs.lemmas.BitImage.{bit_fits, bit_product}
 use Rattle.packed_lanes.specs.lemmas.LaneList.{equal_lanes, every_below, every_bit, lanes_same, number_of_every, product_number, product_with_every, sum_number, sum_with_every}
 use Rattle.packed_lanes.specs.lemmas.LaneRing.{lanes_ring}
 use Rattle.packed_lanes.specs.Lanes.{lane_by_lane, lane_product}
-use Rattle.packed_lanes.specs.Packed.{EachLaneIs, packed_number, same_packed}
+use Rattle.packed_lanes.specs.Packed.{EachLaneIs, packed_number}
+use Rattle.packed_lanes.specs.lemmas.Packed.{same_packed}
 use Rattle.packed_lanes.specs.declared.packed.Packed.{Packed}
+use Rattle.std.specs.Prelude.{◌≡◌, ℕ, length}
+use mathlib.Core.HLevel.{is_prop→PathP}
+use Rattle.std.proofs.Math.Nat.{ℕ_set}
 
 -- the product of two bits in every lane is the product, lane by lane, of each bit in every lane
 pub packed_bit_product : (width unit : ℕ) (times : ℕ → ℕ → ℕ) → IsRing width unit times → unit < 2 ^ width → (n a b : ℕ) → a < 2 → b < 2
@@ -90,3 +94,11 @@ module _ {F : Type 0} {N : ℕ} (width : ℕ) (repr : F → ℕ) (fits : (x : F)
     packed_product_bit unit_fits x b b_fits r is =
         packed_product_every x (b * unit) (bit_fits width unit unit_fits b b_fits) r is
         ∙ ap (lane_product width times N (packed_number width repr x)) (every_bit width unit N b b_fits)
+
+-- packings of the same lanes are one
+pub same_packed : {F : Type 0} {N : ℕ} → (x y : Packed F N) → x.lanes ≡ y.lanes → x ≡ y
+same_packed {N = N} x y same =
+    λ i. record {
+      lanes = same i;
+      long = is_prop→PathP (λ j. length (same j) ≡ N) (λ j. ℕ_set _ _) x.long y.long i;
+    }

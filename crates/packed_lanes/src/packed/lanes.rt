@@ -5,7 +5,8 @@ use crate::packed::{Laned, Packed, WiderField};
 use crate::{PackedField, PackedValue};
 
 impl<F: Laned, const N: usize> PackedValue for Packed<F, N> {
-    ghost use Rattle.packed_lanes.specs.Packed.{lanes_of, same_packed};
+    ghost use Rattle.packed_lanes.specs.Packed.{lanes_of};
+    ghost use Rattle.packed_lanes.specs.lemmas.Packed.{same_packed};
 
     type Value = F;
 

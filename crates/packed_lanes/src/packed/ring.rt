@@ -2,7 +2,7 @@
 ghost use Rattle.std.specs.Prelude.{◌≡◌, map, refl, replicate};
 ghost use Rattle.std.proofs.Common.{sym, ◌∙◌, ap};
 ghost use Rattle.std.proofs.lemmas.List.{length-replicate};
-ghost use Rattle.field_base.specs.Operators.{given, ring_gives};
+ghost use Rattle.field_base.specs.lemmas.Operators.{given, ring_gives};
 ghost use Rattle.field_base.specs.Chunks.{joined};
 ghost use Rattle.packed_lanes.specs.lemmas.LaneList.{every_bit, every_zero, map-every};
 ghost use Rattle.packed_lanes.specs.lemmas.Packed.{packed_equal, packed_product, packed_sum};

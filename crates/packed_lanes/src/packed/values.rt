@@ -4,7 +4,7 @@ ghost use Rattle.std.specs.Prelude.{◌≡◌, ◌*◌, map, refl, replicate};
 ghost use Rattle.std.proofs.Common.{◌∙◌, ap};
 ghost use native.Mathlib.Nat.{one-mul};
 ghost use Rattle.field_base.specs.Bit.{bit_number as bit_of};
-ghost use Rattle.field_base.specs.Operators.{algebra_gives};
+ghost use Rattle.field_base.specs.lemmas.Operators.{algebra_gives};
 ghost use Rattle.field_base.specs.Powers.{product_of, sum_of};
 ghost use Rattle.field_base.specs.Chunks.{joined};
 ghost use Rattle.packed_lanes.specs.lemmas.BitImage.{bit_same, bit_sum};

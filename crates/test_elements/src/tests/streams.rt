@@ -4,7 +4,8 @@ use field_bytes::{
     RawDataSerializable, into_parallel_byte_streams, into_parallel_u32_streams,
     into_parallel_u64_streams, into_u64_stream,
 };
-use field_element::{BinaryField16, HasPowers, Poly64, element_of_word};
+use field_element::{BinaryField16, Poly64, element_of_word};
+use field_space::HasPowers;
 
 // The first words of the powers of an element, which have no end.
 fn words_begin<E: RawDataSerializable + PrimeCharacteristicRing>(

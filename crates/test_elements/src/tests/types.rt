@@ -5,10 +5,10 @@ use field_base::Gf2;
 use field_base::traits::{Field, PrimeCharacteristicRing, TowerLevel};
 use field_bytes::RawDataSerializable;
 use field_element::{
-    BasisCoefficients, BinaryField2, BinaryField4, BinaryField8, BinaryField16, BinaryField32,
-    BinaryField64, BinaryField128, ExtensionField, Ghash128, PackedGhash128, PackedRijndael8b,
-    Poly64, Poly192, Rijndael8b,
+    BinaryField2, BinaryField4, BinaryField8, BinaryField16, BinaryField32, BinaryField64,
+    BinaryField128, Ghash128, PackedGhash128, PackedRijndael8b, Poly64, Poly192, Rijndael8b,
 };
+use field_space::{BasisCoefficients, ExtensionField};
 use packed_lanes::{PackedField, PackedValue};
 use std::marker::PhantomData;
 use std::ops::{Add, Div, Mul, Neg, Sub};

@@ -3,7 +3,7 @@
 //
 // - A message has 4 symbols and a code word 64, so that two code words differ at 61 places or more. The prover commits to two code words with
 //   other symbols in 21 columns, and sends the row that the point folds the code words to.
-// - Of a field of 256 elements and places one in each of four blocks of 16, `proximity::few_cheats_in_blocks` allows at most the share
+// - Of a field of 256 elements and places one in each of four blocks of 16, `field_slices::few_cheats_in_blocks` allows at most the share
 //   21 / 256 + (43 / 64)^4 of points and places that accept: 2857 of 10,000.
 ghost use Rattle.transcripts.specs.Openings.{AreAscending};
 

@@ -1,5 +1,5 @@
 use Rattle.std.proofs.Common.{◌≡◌, ◌∙◌, ℕ, false, length, refl, slice_index, subst, arith}
-use Rattle.proximity.specs.Marks.{marked_below}
+use Rattle.field_slices.specs.Marks.{marked_below}
 use Rattle.error_codes.specs.Filling.{is_marked}
 use Rattle.error_codes.proofs.Meanings.{marks-same}
 use Rattle.error_codes.specs.Sharing.{IsThrough, share_at}

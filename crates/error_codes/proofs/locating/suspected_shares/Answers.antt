@@ -1,6 +1,6 @@
 use Rattle.std.proofs.Common.{◌≡◌, ◌+◌, ◌*◌, ◌-◌, ◌∙◌, ℕ, Bool, length, slice_index, sym, ap, ap₂, subst, arith}
 use Rattle.std.specs.Prelude.{nat_eq, not, ◌||◌}
-use Rattle.proximity.specs.Marks.{marked_below}
+use Rattle.field_slices.specs.Marks.{marked_below}
 use Rattle.error_codes.specs.Filling.{is_marked}
 use Rattle.error_codes.specs.Registers.{IsShortest}
 use Rattle.error_codes.proofs.Marking.{count-none}

@@ -1,6 +1,6 @@
 use Rattle.std.proofs.Common.{◌≡◌, ◌<◌, ◌≤◌, ℕ, List, false, length}
 use Rattle.std.specs.Prelude.{nat_eq, not}
-use Rattle.proximity.specs.Marks.{marked_below}
+use Rattle.field_slices.specs.Marks.{marked_below}
 use Rattle.error_codes.specs.Filling.{is_marked}
 use Rattle.error_codes.specs.Wrong.{AreNearPolynomials, is_wrong_byte}
 use Rattle.error_codes.proofs.locating.suspected_shares.Given as goal

@@ -1,6 +1,6 @@
 use Rattle.std.proofs.Common.{◌≡◌, ◌*◌, ◌^◌, ℕ, length, sym, ◌∙◌, ap, subst}
 use Rattle.std.proofs.lemmas.List.{take_at}
-use Rattle.transform_codes.specs.Codes.{AreCodedColumns}
+use Rattle.reed_solomon.specs.Codes.{AreCodedColumns}
 use Rattle.shard_files.proofs.TransformCalls.{can_encode, half_is}
 use Rattle.shard_files.proofs.TransformWords.{element}
 use Rattle.shard_files.proofs.transform.coded_parity.Goals as goal

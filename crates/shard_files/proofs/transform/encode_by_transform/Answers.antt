@@ -1,5 +1,5 @@
 use Rattle.std.proofs.Common.{◌≡◌, ◌*◌, ◌/◌, ℕ, List, length, sym, ◌∙◌, ap, subst, arith}
-use Rattle.transform_codes.specs.Codes.{AreCodedColumns}
+use Rattle.reed_solomon.specs.Codes.{AreCodedColumns}
 use Rattle.shard_files.proofs.TransformCalls.{encoded, encoded_kept, some_half, words_room}
 use Rattle.shard_files.proofs.TransformWords.{element}
 use Rattle.shard_files.proofs.transform.encode_by_transform.Goals as goal

@@ -1,5 +1,5 @@
 use Rattle.std.proofs.Common.{◌≡◌, ◌+◌, ◌*◌, ℕ, length, refl, sym, ◌∙◌, ap, subst, arith}
-use Rattle.transform_codes.specs.Restoring.{AreRestoredColumns}
+use Rattle.reed_solomon.specs.Restoring.{AreRestoredColumns}
 use Rattle.shard_files.specs.Codes.{AreShardWords}
 use Rattle.shard_files.proofs.TransformCalls.{can_rebuild, half_is, parts, words_are}
 use Rattle.shard_files.proofs.TransformWords.{element, restored_kept, restored_whole}
@@ -58,7 +58,7 @@ returns-clause-restored c =
     let own = c.args.transform.now in
     let all : length c.args.shards.now ≡ (own.data_shards + own.parity_shards) * size =
     c.requires.whole ∙ ap (λ (n : ℕ). (own.data_shards + own.parity_shards) * n) (sym even) in
-    restored_whole own.data_shards own.parity_shards c.args.half own.levels own.padded c.lost_shards_return.ensures size even c.args.present.now
+    restored_whole own.data_shards own.parity_shards c.args.half own.levels own.padded c.lost_symbols_return.ensures size even c.args.present.now
     c.args.shards.now c.write_words-2.new.bytes whole c.args.words.now c.args.parity.now c.reconstruct-restored.new.shards
     c.reconstruct-restored.new.parity c.requires.words (written c) (rebuilt c) word agree
     (c.write_words-2.ensures.long ∙ c.write_words.ensures.long ∙ all) (long ∙ all)

@@ -2,8 +2,8 @@
 // vector 2 are lines of `binfield`. And that no instruction multiplies.
 use field_base::traits::{PrimeCharacteristicRing, TowerLevel};
 use field_base::{Gf2, QuotientMap};
-use field_bytes::ByteMatrix;
 use field_element::BinaryField8;
+use field_space::ByteMatrix;
 use ghash_slices::HAS_HARDWARE_CLMUL;
 
 #[test]

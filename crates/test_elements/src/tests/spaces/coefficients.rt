@@ -1,6 +1,6 @@
 // Elements of spaces by their coefficients: `from_basis_coefficients_fn` calls its closure with each index once, in order.
 use field_base::traits::PrimeCharacteristicRing;
-use field_element::BasedVectorSpace;
+use field_space::BasedVectorSpace;
 
 /// Whether a closure is called for each coefficient, in order, and the element is that of what it returns.
 pub(crate) fn is_called_in_order<F: PrimeCharacteristicRing, E: BasedVectorSpace<F>>(

@@ -1,7 +1,7 @@
 // Extensions of a field: the text that names one, granted where there is memory and refused in a heap without room, with nothing left
 // behind.
 use field_base::traits::Field;
-use field_element::AlgebraIdentity;
+use field_space::AlgebraIdentity;
 use linked_list_allocator::LocalHeap;
 use std::alloc::{AllocError, Allocator, Global};
 

@@ -2,7 +2,7 @@
 // and refused where there is not, in heaps of 16, 32, 64, .. bytes: a vector grows to twice its length at least, so that each growth is the
 // first to be refused in one of them. Nothing is left behind. A call that refuses some lengths, some elements or some contents fails here.
 use field_base::traits::PrimeCharacteristicRing;
-use field_element::BasedVectorSpace;
+use field_space::BasedVectorSpace;
 use linked_list_allocator::LocalHeap;
 use std::alloc::Global;
 

@@ -7,9 +7,10 @@ use super::memory::{is_flattened, vectors_are_due};
 use field_base::Stored;
 use field_base::traits::PrimeCharacteristicRing;
 use field_element::{
-    BasedVectorSpace, BinaryField8, BinaryField128, Coefficients, Element, HasPacking, Poly64,
-    Poly192, SpaceOver, element_of_word,
+    BinaryField8, BinaryField128, Coefficients, Element, HasPacking, Poly64, Poly192,
+    element_of_word,
 };
+use field_space::{BasedVectorSpace, SpaceOver};
 use rand::distr::SampleStandard;
 use rand::rngs::SmallRng;
 use rand::{RngExt, SeedableRng};

@@ -2,8 +2,8 @@
 // reading succeeds, nor which text an error holds. In the levels below a byte 2, 4 and 16, and each larger byte, get the error
 // `Value is out of range`; each smaller byte is read.
 use field_base::{Gf2, ReadWord};
-use field_bytes::LinearizedPoly8b;
 use field_element::{Coefficients, Element, HasPacking};
+use field_space::LinearizedPoly8b;
 use serde::{Deserialize, DeserializeOwned, Serialize};
 use serde_json::{Error, Value};
 use std::alloc::Global;

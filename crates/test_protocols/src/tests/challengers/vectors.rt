@@ -6,7 +6,7 @@ use super::asked::{
     Asked, EVERY_CALL, Row, Said, error_said, hashed, number_of, observed_said, only_fails,
 };
 use super::heaps::{InHeap, ending_of};
-use field_element::BasedVectorSpace;
+use field_space::BasedVectorSpace;
 use linked_list_allocator::LocalHeap;
 use std::alloc::{AllocError, Global};
 use std::cell::Cell;

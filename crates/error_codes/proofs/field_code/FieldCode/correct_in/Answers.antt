@@ -1,5 +1,5 @@
 use Rattle.std.proofs.Common.{◌≡◌, ◌-◌, ◌/◌, ◌<◌, ℕ, slice_index, refl, sym, ◌∙◌, ap, subst, arith}
-use Rattle.proximity.specs.Marks.{marked_below}
+use Rattle.field_slices.specs.Marks.{marked_below}
 use Rattle.error_codes.specs.Correcting.{IsMeantIn}
 use Rattle.error_codes.specs.Filling.{is_marked}
 use Rattle.error_codes.proofs.FieldMeanings.{meant-accepts, accepts-meant}

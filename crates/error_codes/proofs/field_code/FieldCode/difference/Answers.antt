@@ -1,5 +1,5 @@
 use Rattle.std.proofs.Common.{◌-◌, ◌^◌, ◌<◌, ◌≤◌, suc, ℕ, List, slice_index, sym, ◌∙◌, ap, subst, arith}
-use Rattle.proximity.specs.Marks.{marked_below}
+use Rattle.field_slices.specs.Marks.{marked_below}
 use Rattle.error_codes.specs.Filling.{falling_point, falling_scale, is_marked, is_other}
 use Rattle.error_codes.proofs.CodeValues.{falling-scaled}
 use Rattle.error_codes.proofs.Differences.{difference-right, difference-sums, scaled_difference}

@@ -1,7 +1,7 @@
 use Rattle.std.proofs.Common.{◌≡◌, ◌<◌, ◌+◌, ℕ, List, Bool, false, length, slice_index, refl, ◌∙◌, ap, arith}
 use Rattle.std.specs.Prelude.{bit_xor}
 use Rattle.field_base.specs.Field.{IsField}
-use Rattle.proximity.specs.Marks.{marked_below}
+use Rattle.field_slices.specs.Marks.{marked_below}
 use Rattle.error_codes.specs.Filling.{falling_point, is_other, marked_product, weighted_sum}
 use Rattle.error_codes.proofs.Marking.{count-below, count-more, count-none, count-same, other-free, other-marked, other-own}
 use Rattle.error_codes.proofs.Sifting.{sums-marked, sums-start, sums-unmarked}

@@ -1,7 +1,7 @@
 use Rattle.std.proofs.Common.{◌≡◌, ◌<◌, ◌-◌, ◌+◌, ℕ, length, slice_index}
 use Rattle.field_base.specs.Basis.{sum_below}
 use Rattle.field_base.specs.Powers.{power}
-use Rattle.proximity.specs.Marks.{marked_below}
+use Rattle.field_slices.specs.Marks.{marked_below}
 use Rattle.error_codes.specs.Filling.{falling_point, is_other, marked_product, weighted_sum}
 use Rattle.error_codes.proofs.field_code.FieldCode.sift.Given as goal
 

@@ -1,5 +1,5 @@
 use Rattle.std.proofs.Common.{refl}
-use Rattle.field_element.specs.Coefficients.{same_coefficients}
+use Rattle.field_element.specs.lemmas.Coefficients.{same_coefficients}
 use Rattle.field_element.proofs.element.cubic_word.CoefficientsStored.ONE.Goals as goal
 
 pub returns : goal.returns

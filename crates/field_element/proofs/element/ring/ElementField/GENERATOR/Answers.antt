@@ -1,5 +1,5 @@
 use Rattle.std.proofs.Common.{◌∙◌}
-use Rattle.field_element.specs.Element.{same_word}
+use Rattle.field_element.specs.lemmas.Element.{same_word}
 use Rattle.field_element.proofs.element.ring.ElementField.GENERATOR.Goals as goal
 
 pub returns : goal.returns

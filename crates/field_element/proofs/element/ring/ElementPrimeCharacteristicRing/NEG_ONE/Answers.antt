@@ -1,4 +1,4 @@
-use Rattle.field_element.specs.Element.{same_word}
+use Rattle.field_element.specs.lemmas.Element.{same_word}
 use Rattle.field_element.proofs.element.ring.ElementPrimeCharacteristicRing.NEG_ONE.Goals as goal
 
 pub returns : goal.returns

@@ -1,0 +1,3 @@
+-- What proofs of impls cite of these definitions: no contract names it.
+pub mod Lane
+pub mod Tail

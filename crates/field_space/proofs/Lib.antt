@@ -1,0 +1,5 @@
+pub mod FrobeniusRounds
+pub mod LevelShifts
+pub mod PowerItems
+pub mod Spaces
+mod LinearizedLemmas

@@ -1,0 +1,2 @@
+-- What proofs of impls cite of these definitions: no contract names it.
+pub mod LevelSpace

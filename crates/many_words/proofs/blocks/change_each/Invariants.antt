@@ -1,6 +1,0 @@
-use Rattle.many_words.specs.Layout.{IsDoneUpTo}
-use Rattle.many_words.proofs.blocks.change_each.Given as goal
-
--- the places before are done
-abbrev pub invariant-loop-place : goal.invariant-loop-place
-invariant-loop-place g l = IsDoneUpTo l.place (g.O.Operation.gives l.others) g.W.Reads.number l.fn.words l.words

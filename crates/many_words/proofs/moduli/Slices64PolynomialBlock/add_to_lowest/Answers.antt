@@ -1,9 +1,0 @@
-use Rattle.many_words.specs.Called.{called_lanes}
-use Rattle.many_words.proofs.Reductions.{added_to_64}
-use Rattle.many_words.proofs.moduli.Slices64PolynomialBlock.add_to_lowest.Goals as goal
-
-pub returns : goal.returns
-unfolding called_lanes
-returns g c l =
-    added_to_64 _ _ _ _ _ _ (c.holds_elements-3.ensures l) (c.holds_elements-2.ensures l) (c.holds_elements.ensures l)
-    (c.holds_elements-4.ensures l) (c.add.ensures l)

@@ -1,6 +1,0 @@
-use Rattle.std.proofs.Common.{ℕ, ◌^◌, ◌<◌}
-use Rattle.transform_codes.proofs.codec.levels_of.Given as goal
-
--- no lower power is enough
-abbrev pub invariant-loop-levels : goal.invariant-loop-levels
-invariant-loop-levels l = (j : ℕ) → j < l.levels → 2 ^ j < l.k

@@ -1,5 +1,0 @@
-use Rattle.transform_codes.specs.Columns.{ArePutWords}
-use Rattle.transform_codes.proofs.columns.clear_words.Given as goal
-
-abbrev pub invariant-loop-c : goal.invariant-loop-c
-invariant-loop-c g l = ArePutWords g.R.Stored.ZERO l.place l.c (λ c. g.R.Stored.ZERO) l.initial.target l.target

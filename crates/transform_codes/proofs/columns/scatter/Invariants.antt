@@ -1,6 +1,0 @@
-use Rattle.transform_codes.specs.Columns.{AreScattered}
-use Rattle.transform_codes.proofs.columns.scatter.Given as goal
-
-abbrev pub invariant-loop-t : goal.invariant-loop-t
-invariant-loop-t g l =
-    AreScattered g.R.Stored.ZERO l.strip.size l.strip.start l.strip.width l.first l.t l.values l.initial.shards l.shards

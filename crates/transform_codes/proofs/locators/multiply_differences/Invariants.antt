@@ -1,7 +1,0 @@
-use Rattle.transform_codes.specs.Blocks.{AreDifferences}
-use Rattle.transform_codes.proofs.locators.multiply_differences.Given as goal
-
--- so many values are multiplied
-abbrev pub invariant-loop-i : goal.invariant-loop-i
-invariant-loop-i g l =
-    AreDifferences g.R.Stored.number g.R.Stored.ZERO g.L.Level.LEVEL (g.R.Stored.number l.x) l.i l.points l.initial.values l.values

@@ -1,6 +1,0 @@
-use Rattle.transform_codes.specs.Restoring.{AreMended}
-use Rattle.transform_codes.proofs.restoring.mend.Given as goal
-
-abbrev pub invariant-loop-i : goal.invariant-loop-i
-invariant-loop-i g l =
-    AreMended g.R.Stored.ZERO l.strip.size l.strip.start l.strip.width l.i l.from l.first l.present l.values l.initial.shards l.shards

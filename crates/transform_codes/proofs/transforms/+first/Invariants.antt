@@ -1,4 +1,0 @@
-use Rattle.transform_codes.proofs.transforms.+first.Given as goal
-
-abbrev pub decreases-forward_first : goal.decreases-forward_first
-decreases-forward_first g l = l.levels

@@ -1,4 +1,0 @@
-use Rattle.transform_codes.proofs.transforms.+known.Given as goal
-
-abbrev pub decreases-inverse_known : goal.decreases-inverse_known
-decreases-inverse_known g l = l.levels
