@@ -28,7 +28,7 @@ butterfly-same times t half a b c d same same' is =
           same' (half + r) high ∙ is.upper r below ∙ ap₂ bit_xor (sym (same (half + r) high)) (sym (same' r low));
     }
 
--- the same scalar and length
+-- a butterfly, with its scalar and half length replaced by equal ones
 pub butterfly-at : (times : ℕ → ℕ → ℕ) (t t' half half' : ℕ) (a b : ℕ → ℕ) → t ≡ t' → half ≡ half' → IsButterfly times t half a b
     → IsButterfly times t' half' a b
 butterfly-at times t t' half half' a b scalar length is =

@@ -80,7 +80,7 @@ module _ (shifts basis : List ℕ) (first_run r : ℕ) where
       (λ k below. ap (slice_index w) (block.place k))
       (is (r * 2 ^ (3 - j) + q / 2 ^ suc j) block.inside))
 
--- the same count of values
+-- a stage, with its count of values replaced by an equal one
 pub stage-count : (shifts basis : List ℕ) (j first count count' : ℕ) (v w : List ℕ) → count ≡ count'
     → IsStageFrom ghash_product (slice_index shifts j) basis j first (count / 2 ^ (j + 1)) v w
     → IsStageFrom ghash_product (slice_index shifts j) basis j first (count' / 2 ^ (j + 1)) v w

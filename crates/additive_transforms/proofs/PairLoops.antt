@@ -94,7 +94,7 @@ module _ {A : Type 0} (value : A → ℕ) (pair : ℕ → ℕ → ℕ → ℕ �
           (same _ _ _ _ _ _ _ _ (sym (get_or-map value low n x 0 low_in) ∙ so_far.low_rest n from)
           (sym (get_or-map value high n y 0 high_in) ∙ so_far.high_rest n from) (sym (at low x' low_in)) (sym (at high y' high_in)) is)
 
--- the same of a pair that one butterfly took, whichever way
+-- `pairs_step` for a butterfly of either direction, with names for the lists after it
 pub slices_step : {A : Type 0} (value : A → ℕ) (s n : ℕ) (lo hi low high : List A) → length lo ≡ length hi → n < length lo
     → (inverse : Bool) → PairsSoFar (one_of inverse ghash_product s) n (map value lo) (map value hi) (map value low) (map value high)
     → (way : Bool) → inverse ≡ way → (x y x' y' : A) (low' high' : List A) → low' ≡ set low n x' → high' ≡ set high n y'

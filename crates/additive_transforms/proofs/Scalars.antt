@@ -29,7 +29,7 @@ three_products k s0 s1 a0 a1 s0_fits s1_fits a0_fits a1_fits =
     ∙ ap₂ (pair (2 ^ k)) (low_half_of (2 ^ k) (tower_mul k) (tower_ring k) (root k) s0 s1 a0 a1)
     (high_half_of (2 ^ k) (tower_mul k) (tower_ring k) (root k) s0 s1 a0 a1)
 
--- the same of a scalar by its halves, in the order in which the code adds
+-- `three_products` for a scalar that is the pair of its halves, with sums in the order of the code
 pub product_of_pairs : (k s s0 s1 a0 a1 : ℕ) → s0 < 2 ^ 2 ^ k → s1 < 2 ^ 2 ^ k → a0 < 2 ^ 2 ^ k → a1 < 2 ^ 2 ^ k → s ≡ pair (2 ^ k) s0 s1
     → pair (2 ^ k) (bit_xor (tower_mul k (bit_xor s0 s1) a0) (tower_mul k s1 (bit_xor a0 a1)))
     (bit_xor (tower_mul k (bit_xor (bit_xor s0 s1) (tower_mul k (root k) s1)) a1) (tower_mul k s1 (bit_xor a0 a1)))

@@ -182,7 +182,7 @@ half_rooms size count start long few total inside =
     let sum : count * 2 ^ size ≡ count / 2 * 2 ^ size + count / 2 * 2 ^ size = omega (arith, bytes, total) in
     (omega (arith, less, total), omega (arith, less, total, bytes))
 
--- the same where they are units of the next level
+-- `half_count` for the bytes of n units of the next level
 pub half_units : (d size count n : ℕ) → size ≤ 4 → n % 16 ≡ 0 → count * 2 ^ size ≡ n * 2 ^ suc d
     → (count / 2 * 2 ^ size ≡ n * 2 ^ d) × (count / 2 + count / 2 ≡ count)
 half_units d size count n few whole total =

@@ -64,7 +64,7 @@ module _ {A : Type 0} (value : A → ℕ) (a k : ℕ) (xs ys : List A) (inside :
   same_count : length (map value ys) ≡ k
   same_count = length-map ys value ∙ as_long
 
-  -- the same three facts, of the values of the items: before the part
+  -- `number_before`, `number_inside` and `number_behind` for the values of items: before the part
   pub read_before : (p : ℕ) → p < a → slice_index (map value (put_mid a k xs ys)) p ≡ slice_index (map value xs) p
   read_before p below =
       ap (λ (l : List ℕ). slice_index l p) as_numbers ∙ number_before a k (map value xs) (map value ys) room same_count p below
@@ -75,7 +75,7 @@ module _ {A : Type 0} (value : A → ℕ) (a k : ℕ) (xs ys : List A) (inside :
       ap (λ (l : List ℕ). slice_index l (a + r)) as_numbers
       ∙ number_inside a k (map value xs) (map value ys) room same_count r below
 
-  -- and behind it
+  -- and after it
   pub read_behind : (p : ℕ) → a + k ≤ p → slice_index (map value (put_mid a k xs ys)) p ≡ slice_index (map value xs) p
   read_behind p past =
       ap (λ (l : List ℕ). slice_index l p) as_numbers ∙ number_behind a k (map value xs) (map value ys) room same_count p past

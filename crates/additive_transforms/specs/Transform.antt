@@ -33,10 +33,10 @@ pub record AreTheCoefficients (width : ℕ) (times : ℕ → ℕ → ℕ) (vecto
   pub only : (others : List ℕ) → length others ≡ length values → ((p : ℕ) → slice_index others p < 2 ^ width)
       → HoldValuesAtPoints width times vector z others values → others ≡ coefficients
 
--- the same in the field of GHASH
+-- `HoldValuesAtPoints` in the field of GHASH
 abbrev pub HoldPolynomialValues : ℕ → List ℕ → List ℕ → Type 0
 HoldPolynomialValues = HoldValuesAtPoints 128 ghash_product ghash_cantor_vector
 
--- and these coefficients, and no others, have those values there
+-- `AreTheCoefficients` in the field of GHASH
 abbrev pub AreOnlyCoefficients : ℕ → List ℕ → List ℕ → Type 0
 AreOnlyCoefficients = AreTheCoefficients 128 ghash_product ghash_cantor_vector

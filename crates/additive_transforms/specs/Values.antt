@@ -13,7 +13,7 @@ ValuesOfImages =
     → value_of 1 (mul_mod width modulus) (basis_image width modulus images) cs (basis_image width modulus images a)
     ≡ basis_image width modulus images (value_of 1 (tower_mul k) (λ c. c) cs a)
 
--- the same of the list of the images
+-- `ValuesOfImages`, with the list of the coefficients' images
 abbrev pub ValuesOfListsOfImages : Type 0
 ValuesOfListsOfImages =
     (k width modulus : ℕ) (images : List ℕ) → IsHomomorphism k width modulus images → (cs : List ℕ) (a : ℕ)

@@ -113,7 +113,7 @@ impl<M: Paired> Scales for HalfMultiples<M> {
         merged.sum(both)
     }
 
-    // The same of the vector of all low halves and that of all high ones.
+    // `times` for two vectors, by the vector of all low halves and that of all high halves.
     #[inline(always)]
     fn times_two<V: ChunkVector>(&self, first: V, second: V) -> (V, V) {
         let (low, high) = transposed::<M, V>(first, second);
@@ -187,7 +187,7 @@ pub(crate) fn pair_of_vectors<M: Scales, V: ChunkVector>(
     }
 }
 
-/// The same of two pairs of vectors.
+/// `pair_of_vectors` for two pairs of vectors.
 #[inline(always)]
 pub(crate) fn two_pairs_of_vectors<M: Scales, V: ChunkVector>(
     multiples: &M,

@@ -43,8 +43,8 @@ pub fn forward<A: Allocator>(
 }
 
 /// Replaces the values at the points by the coefficients of their polynomial, of which there is one list: with the same `z` it
-/// takes back what `forward` did. It is `inverse_with` by `PolyKernel`. It asks what `forward` asks, and takes no memory; `products` rises
-/// by as much. `inverse_numbers` counts none, and is faster.
+/// takes back what `forward` did. It is `inverse_with` by `PolyKernel`. Same preconditions as `forward`, and `products` rises by as much;
+/// it allocates nothing. `inverse_numbers` counts none, and is faster.
 pub fn inverse(values: &mut [u128], z: u128, products: &mut u64)
     requires { FitsTransform (length values.old) products.old }
     ensures length { length values.new ≡ length values.old }

@@ -22,8 +22,8 @@ use std::marker::PhantomData;
 use std::simd::prelude::*;
 use word_tables::to_polynomial_128;
 
-/// What computes on the values of a transform: nothing else does. Each element stands for a value, which is a number of 128
-/// bits in the field of GHASH. A kernel counts the pairs of places that it computes.
+/// The butterflies of a transform; it touches its elements through these alone. Each element stands for a value, which is a number of
+/// 128 bits in the field of GHASH. A kernel counts the pairs that it computes.
 pub trait Kernel {
     /// An element of the slices that are transformed.
     type Elem;

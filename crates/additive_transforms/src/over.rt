@@ -15,7 +15,7 @@ pub fn evaluate_cantor<F: Field>(coefficients: &[F], x: F) -> F
     value_by_halves(coefficients, usize::BITS as usize, x)
 }
 
-// The same of at most 2^levels coefficients: the value of the lower half, and s_(levels - 1)(x) times that of the upper half.
+// `evaluate_cantor` for at most 2^levels coefficients: the value of the lower half, plus s_(levels - 1)(x) times that of the upper half.
 fn value_by_halves<F: Field>(coefficients: &[F], levels: usize, x: F) -> F
     requires few { levels ≤ 64 }
     requires fit { length coefficients.now ≤ 2 ^ levels }

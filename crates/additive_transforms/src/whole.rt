@@ -58,7 +58,7 @@ pub(crate) fn forward_words<V: Width, W: Holds<u128>>(words: &mut [W], z: u128)
     W::numbers_fit(words);
 }
 
-// The same of the low bits of the numbers.
+// `forward_words`, with results stated modulo 2^128.
 fn forward_low_words<V: Width, W: Holds<u128>>(words: &mut [W], z: u128)
     requires { (m : ℕ) × HasStages m (length words.old) }
     ensures length { length words.new ≡ length words.old }
@@ -89,8 +89,8 @@ pub(crate) fn inverse_words<V: Width, W: Holds<u128>>(words: &mut [W], z: u128)
 }
 
 /// Replaces the values at the points by the coefficients of their polynomial, of which there is one list: with the same `z` it takes back
-/// what `forward_with` did. Nothing but the kernel computes on its elements. It asks what `forward_with` asks, and takes no memory; the
-/// kernel's count rises by m * 2^(m - 1), as many pairs of places as there are.
+/// what `forward_with` did. Elements are touched through the kernel alone. Same preconditions as `forward_with`; it allocates nothing. The
+/// kernel's count rises by m * 2^(m - 1), the number of pairs.
 pub fn inverse_with<K: Kernel>(kernel: &mut K, values: &mut [K::Elem], z: u128)
     requires { FitsTransform (length values.old) (K.count kernel.old) }
     ensures length { length values.new ≡ length values.old }

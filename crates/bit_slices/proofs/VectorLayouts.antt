@@ -28,7 +28,7 @@ lanes_of_two x n number is fits l less = cases (cases_lt l 64)
         at (n * 64 + l) (n + 1) (l - 64) (omega (arith, more, less)) (omega (arith, more, less))
         ∙ sym (bit_at_cat_high (slice_index x (n + 1)) 64 (slice_index x n) l fits more) ∙ ap (λ (w : ℕ). bit_at w l) (sym is)
 
--- the same for the first two words
+-- `lanes_of_two` for the first two words
 pub lanes_of_first : (x : List ℕ) (number : ℕ) → number ≡ slice_index x 1 * 2 ^ 64 + slice_index x 0 → slice_index x 0 < 2 ^ 64
     → (l : ℕ) → l < 128 → bit_lane x l ≡ bit_at number l
 lanes_of_first x number is fits l less = ap (bit_lane x) (omega arith) ∙ lanes_of_two x 0 number is fits l less

@@ -10,7 +10,7 @@ pub record AreLanesExchanged (j : ℕ) (a b c d : ℕ → ℕ) : Type 0 where
   pub high_even : (h r : ℕ) → r < 2 ^ j → d (h * 2 ^ suc j + r) ≡ a (h * 2 ^ suc j + (2 ^ j + r))
   pub high_odd : (h r : ℕ) → r < 2 ^ j → d (h * 2 ^ suc j + (2 ^ j + r)) ≡ b (h * 2 ^ suc j + (2 ^ j + r))
 
--- the same of vectors whose words with odd numbers and words with even numbers change places
+-- `AreLanesExchanged` at j = 0, for the words of vectors: odd words of `a` and even words of `b` change places
 pub record AreWordsExchanged (a b c d : ℕ → ℕ) : Type 0 where
   pub low_even : (h : ℕ) → c (h * 2) ≡ a (h * 2)
   pub low_odd : (h : ℕ) → c (h * 2 + 1) ≡ b (h * 2)

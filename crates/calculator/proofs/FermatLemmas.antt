@@ -25,7 +25,7 @@ pub by_answer_of : {E : Type 0} (repr : E → ℕ) (answer : Option E) (want : O
 by_answer_of repr None want none some = none refl
 by_answer_of repr (Some y) want none some = some y refl
 
--- the same of an answer that is a number
+-- `by_answer_of` for an answer that is a number
 pub by_answer : (answer want : Option ℕ) → (answer ≡ None → None ≡ want) → ((y : ℕ) → answer ≡ Some y → Some y ≡ want) → answer ≡ want
 by_answer None want none some = none refl
 by_answer (Some y) want none some = some y refl

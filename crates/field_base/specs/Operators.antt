@@ -9,6 +9,6 @@ Means {R} gives repr number = (r : R) → gives r → repr r ≡ number
 abbrev pub Gives : {R : Type 0} → Type 0 → (R → Type 0) → (R → ℕ) → ℕ → Type 0
 Gives can gives repr number = can × Means gives repr number
 
--- the same of an operator that can always be used
+-- `Gives` for an operator that can always be used
 abbrev pub AlwaysGives : {R : Type 0} → (R → Type 0) → (R → ℕ) → ℕ → Type 0
 AlwaysGives gives repr number = Gives (Unit {0}) gives repr number

@@ -84,7 +84,7 @@ module _ (width : ℕ) (times : ℕ → ℕ → ℕ) (wide : 0 < width) (field :
       xor_lt width (word i p) (times r (bit_xor (word i p) (word (half + i) p))) (fits i p (omega (arith, below)) inside)
       (field.ring.below r (bit_xor (word i p) (word (half + i) p)))
 
--- the same as a matrix of twice so many rows
+-- `IsNear`, with the height replaced by an equal one
 near-height : (times : ℕ → ℕ → ℕ) (size n : ℕ) (generator : ℕ → ℕ → ℕ) (e one other : ℕ) (word : ℕ → ℕ → ℕ) → one ≡ other
     → IsNear times size n generator e one word → IsNear times size n generator e other word
 near-height times size n generator e one other word same near = subst (λ (h : ℕ). IsNear times size n generator e h word) same near

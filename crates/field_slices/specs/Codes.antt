@@ -77,7 +77,7 @@ LinesAreNear =
     → HasDistance times size n generator d
     → (e : ℕ) → 3 * e < d → HasGap width times size n generator e (e + 1)
 
--- The same by counting triples of points, for every linear code of distance d = n - c, where two code words agree at c places at most, and
+-- `LinesAreNear` by counting triples of points, for every linear code of distance d = n - c, whose words agree at c indices at most, and
 -- ((n - e) / n) ^ 3 > c / n + (d / n) (e + 2) / (s n): s n - 1 points are few (after E. Ben-Sasson, L. Goldberg, S. Kopparty and S. Saraf,
 -- DEEP-FRI: sampling outside the box improves soundness, 2019, the one-and-a-half Johnson distance).
 abbrev pub TriplesAreNear : Type 0

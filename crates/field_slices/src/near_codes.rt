@@ -10,8 +10,8 @@ pub fn lines_are_near()
     ensures { LinesAreNear }
 {}
 
-/// States the same for larger e, by triples of points: where e / n is below about 1 - (c / n)^(1/3), c + d = n, s n - 1 points are few. The
-/// larger s is, the nearer e comes to that bound.
+/// States the line lemma for larger e, by triples of points: where e / n is below about 1 - (c / n)^(1/3), c + d = n, s n - 1 points are
+/// few. The larger s is, the nearer e comes to that bound.
 pub fn triples_are_near()
     ensures { TriplesAreNear }
 {}

@@ -29,7 +29,7 @@ sum_below-xor f g (suc n) =
 
 -- ---- sums of values times factors
 
--- the same values and factors give the same sum
+-- values that agree below 2 ^ n give the same sum
 pub sum_of_factors-values : (times : ℕ → ℕ → ℕ) (f : ℕ → ℕ) (n : ℕ) (c d : ℕ → ℕ) → ((k : ℕ) → k < 2 ^ n → c k ≡ d k)
     → sum_of_factors times f n c ≡ sum_of_factors times f n d
 unfolding sum_of_factors

@@ -6,12 +6,12 @@ use Rattle.std.specs.Simd.Lanes.{zip2}
 use Rattle.ghash_slices.specs.LowStages.{ghash_product}
 use Rattle.ghash_slices.specs.Stages.{add_multiple}
 
--- the forward butterfly at each place: lo' is lo and the scalar times hi, and then hi' is hi and lo'
+-- the forward butterfly at each index: lo' = lo + scalar * hi, then hi' = hi + lo'
 pub record IsForward (scalar : ℕ) (lo hi lo' hi' : List ℕ) : Type 0 where
   pub low : lo' ≡ zip2 (add_multiple ghash_product scalar) lo hi
   pub high : hi' ≡ zip2 bit_xor hi lo'
 
--- the inverse butterfly: the same two steps, the last first: hi' is hi and lo, and then lo' is lo and the scalar times hi'
+-- the inverse butterfly, the steps of `IsForward` in reverse: hi' = hi + lo, then lo' = lo + scalar * hi'
 pub record IsInverse (scalar : ℕ) (lo hi lo' hi' : List ℕ) : Type 0 where
   pub high : hi' ≡ zip2 bit_xor hi lo
   pub low : lo' ≡ zip2 (add_multiple ghash_product scalar) lo hi'

@@ -61,7 +61,7 @@ impl ScalarProducts for SplitScalar {
     }
 }
 
-// The same halves. Where they are read from memory, the mask shows the compiler that they have 32 bits; it leaves no instruction.
+// The halves, unchanged. The mask tells the compiler that halves read from memory have 32 bits, and costs no instruction.
 #[inline(always)]
 fn narrow_halves(
     halves: (Classes<u64x2>, Classes<u64x2>, Classes<u64x2>),

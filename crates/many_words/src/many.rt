@@ -17,13 +17,12 @@ use field_base::{FieldKernel, Holds, Reads, Stored};
 use ghash_slices::Width;
 use std::simd::prelude::*;
 
-/// From how many words on a field computes many at once. Fewer are taken one after another, and neither copied first nor put in a block; so
-/// are all where there is no better body.
+/// Crossover lengths: shorter slices go word by word, without a copy or a block. So do all slices where a field has no better body.
 #[derive(Clone, Copy)]
 pub struct Sizes {
     /// The least number of words that are multiplied by the words at their places.
     pub multiplied: usize,
-    /// How many of these a block has: the words behind whole blocks are multiplied in narrow vectors.
+    /// How many of these a block has: the words after whole blocks are multiplied in narrow vectors.
     pub block: usize,
     /// The least number of words that are multiplied by one scalar.
     pub scaled: usize,
@@ -37,7 +36,7 @@ pub trait Many<R: Stored, W: Holds<R>>: FieldKernel<R> + Sized {
     /// The least number of words whose inverses take less than as a batch: by the inverse of one product, and three products each.
     const LEAST_IN_BATCH: usize = 0;
 
-    /// From how many words on it computes many at once, in vectors `V`.
+    /// The crossover lengths in vectors `V`.
     #[inline(always)]
     fn sizes<V: Vector>() -> Sizes
         ensures { 0 < result.block }

@@ -32,7 +32,7 @@ pub fn raise<R: Stored, W: Holds<R>, K: Many<R, W>, V: Width + Vector>(
     raise_many::<R, W, K, V>(words, exponent);
 }
 
-// The same, by blocks. It is apart and never inlined, since a function clears its locals when it is called.
+// `raise`, by blocks. Never inlined, since a function clears its locals when it is called.
 #[inline(never)]
 fn raise_many<R: Stored, W: Holds<R>, K: Many<R, W>, V: Width + Vector>(
     words: &mut [W],

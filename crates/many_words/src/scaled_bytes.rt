@@ -44,7 +44,7 @@ pub(crate) fn write_all<K: FieldKernel<u8>>(bytes: &[u8], scalar: u8, products: 
     }
 }
 
-// The same of at least a block.
+// `write_all` for at least a block.
 fn write_mapped<K: FieldKernel<u8>>(bytes: &[u8], scalar: u8, products: &mut [u8])
     requires same { length bytes.now ≡ length products.old }
     requires block { 32 ≤ length products.old }
@@ -87,7 +87,7 @@ pub(crate) fn add_all<K: FieldKernel<u8>>(sums: &mut [u8], bytes: &[u8], scalar:
     }
 }
 
-// The same of at most a block.
+// `add_all` for at most a block.
 fn add_few<K: FieldKernel<u8>>(sums: &mut [u8], bytes: &[u8], scalar: u8)
     requires same { length bytes.now ≡ length sums.old }
     requires block { length sums.old ≤ 32 }
@@ -103,7 +103,7 @@ fn add_few<K: FieldKernel<u8>>(sums: &mut [u8], bytes: &[u8], scalar: u8)
     }
 }
 
-// The same of at least a block.
+// `add_all` for at least a block.
 fn add_mapped<K: FieldKernel<u8>>(sums: &mut [u8], bytes: &[u8], scalar: u8)
     requires same { length bytes.now ≡ length sums.old }
     requires block { 32 ≤ length sums.old }

@@ -36,8 +36,8 @@ pub record EncodeError (level n k m words parity_words : ℕ) (error : Transform
   pub sizes : 2 ^ n + m ≤ 2 ^ 2 ^ level → SizeError k m words parity_words error
   pub room : 2 ^ n + m ≤ 2 ^ 2 ^ level → HaveOneSize k m words parity_words → error ≡ TooLittleSpace
 
--- the same of shards that are restored at 2 ^ r points, with a flag for each, where no more are missing than the parity has, and there is
--- space for five times as many words
+-- `CanEncode` for shards that are restored at 2 ^ r points: with a flag for each, no more lost than there are of parity, and space for five
+-- times as many words as points
 pub record CanRebuild (level r k m words parity_words space : ℕ) (present : List Bool) : Type 0 where
   pub flags : length present ≡ k + m
   pub points : 2 ^ r ≤ 2 ^ 2 ^ level

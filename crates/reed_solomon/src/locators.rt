@@ -164,7 +164,7 @@ fn set_locator<R: StoredBytes, L: Level<R>>(
     multiply_each::<R, L>(values, others);
 }
 
-// The same at four times as many points as places. The elements of the words are the values.
+// `set_locator` at four times as many points as places. The values are the elements that the words hold, by their low bits.
 #[cycle(halves)]
 fn set_extended<R: StoredBytes, L: Level<R>>(
     values: &mut [R],

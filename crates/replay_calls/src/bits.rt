@@ -25,8 +25,7 @@ pub(crate) fn rearranged(
     rearranged_rows::<M128, u8>(alloc, rearrangement, call)
 }
 
-/// The same of rows that are `U`, and of parts that are `V`. Types are named in one call alone: that they meet the bounds takes the check
-/// longer than what is done with them.
+/// `rearranged` for rows `U` and parts `V`. One call alone names the types: that they meet the bounds takes the check longer than the rest.
 fn rearranged_rows<U: Divisible<V>, V: Underlier>(
     alloc: Global,
     rearrangement: Rearrangement,

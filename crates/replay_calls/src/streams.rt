@@ -22,7 +22,7 @@ pub(crate) fn field_call(alloc: Global, field: Asked, call: &[&str]) -> Result<V
     }
 }
 
-/// The same of the field of a kernel.
+/// `field_call` for the field of a kernel.
 fn kernel_call<R: Unsigned + LittleEndian, K: HasPacking<R>>(
     alloc: Global,
     call: &[&str],
@@ -37,7 +37,7 @@ fn kernel_call<R: Unsigned + LittleEndian, K: HasPacking<R>>(
     stream(alloc, kind, listed.as_slice())
 }
 
-/// The same of elements of `Poly192`, each by three numbers, coefficient 0 first.
+/// `field_call` for elements of `Poly192`, each by three numbers, coefficient 0 first.
 pub(crate) fn cubic_call(alloc: Global, call: &[&str]) -> Result<Vec<u128>, Fault> {
     let [kind, list] = *call else {
         return Err(Fault::Line);

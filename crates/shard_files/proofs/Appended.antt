@@ -29,7 +29,7 @@ pub appends_all : (count total : ℕ) (bytes before now : ℕ → List ℕ) → 
     → AppendsToEach total bytes before now
 appends_all count total bytes before now is added = subst (λ (n : ℕ). AppendsToEach n bytes before now) is added
 
--- the same bytes by another name
+-- `AppendsToEach`, with the bytes replaced by equal ones
 pub appends_same : (count : ℕ) (bytes other before now : ℕ → List ℕ) → ((index : ℕ) → index < count → other index ≡ bytes index)
     → AppendsToEach count bytes before now → AppendsToEach count other before now
 appends_same count bytes other before now same added =
@@ -38,7 +38,7 @@ appends_same count bytes other before now same added =
       others = added.others;
     }
 
--- the same bytes in two parts
+-- two calls, one after the other, append the bytes of both
 pub appends_twice : (count : ℕ) (one two both before now next : ℕ → List ℕ)
     → ((index : ℕ) → index < count → both index ≡ one index ++ two index)
     → AppendsToEach count one before now → AppendsToEach count two now next → AppendsToEach count both before next

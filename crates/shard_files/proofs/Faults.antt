@@ -18,7 +18,7 @@ not_few error why is =
     refused : Memory ≡ TooFew → ⊥
     refused same = cc
 
--- the same where lost shards are written again
+-- `not_few` for a repair that is refused memory
 pub not_few_join : (error : JoinError) → error ≡ Memory → Join error ≢ Join TooFew
 not_few_join error memory is = apart (ap (λ (e : JoinError). Join e) (sym memory) ∙ is)
   where

@@ -280,7 +280,7 @@ module _ (origin : Origin) (files : Holdings) (stripe : ℕ) (whole shards : Lis
             let given = gathered.found index inside has in
             gives.true_ones index given.0 (shard_at origin.size shards index) inside given.1 (shard_long origin.size (shard_total origin) index shards shards_long inside) given.2
 
--- the same of a group whose origin is known
+-- `gathered_enough` and `enough_there` for a group with an equal origin of its own
 module _ (origin own : Origin) (same : own ≡ origin) (files : Holdings) (stripe : ℕ) (shards : List ℕ) (present : List Bool)
     (gathered : IsGathered origin files stripe files.places shards present)
     (long : length shards ≡ shard_total own * own.size) (flags : length present ≡ shard_total own)

@@ -10,7 +10,7 @@ use Rattle.shard_files.proofs.Written.{piece_of, pieces_more}
 pub lost_none : (lost : List Bool) (bytes before : ℕ → List ℕ) → AppendsToLost 0 lost bytes before before
 lost_none lost bytes before = record { grown = λ index below is. absurd (omega (arith, below)); others = λ index other. refl }
 
--- the same bytes in two parts
+-- `appends_twice` for files of lost shards
 pub lost_twice : (count : ℕ) (lost : List Bool) (one two both before now next : ℕ → List ℕ)
     → ((index : ℕ) → index < count → both index ≡ one index ++ two index)
     → AppendsToLost count lost one before now → AppendsToLost count lost two now next → AppendsToLost count lost both before next
@@ -22,7 +22,7 @@ lost_twice count lost one two both before now next same first second =
       others = λ index other. second.others index other ∙ first.others index other;
     }
 
--- the same bytes by another name
+-- `appends_same` for files of lost shards
 pub lost_same : (count : ℕ) (lost : List Bool) (one other before now : ℕ → List ℕ) → ((index : ℕ) → index < count → other index ≡ one index)
     → AppendsToLost count lost one before now → AppendsToLost count lost other before now
 lost_same count lost one other before now same added =

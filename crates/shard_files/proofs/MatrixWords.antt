@@ -39,7 +39,7 @@ sized_by total size bytes is some wide = (
     at_least_one : (n : ℕ) → 0 < n → 1 ≤ n
     at_least_one n h = omega (arith, h)
 
--- the same by the counts of a code
+-- `sized_by` for the counts of a code, which are k and m
 pub sized_own : (k m own_data own_parity size bytes : ℕ) → own_data ≡ k → own_parity ≡ m → 0 < k → 0 < size → bytes ≡ (k + m) * size
     → HasShardSize (own_data + own_parity) bytes
 sized_own k m own_data own_parity size bytes data_is parity_is some wide long =

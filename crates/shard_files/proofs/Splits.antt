@@ -39,7 +39,7 @@ split_of_encoded origin content filled shards long fits same kept word =
     byte i below =
         get_or-take (length content) shards i 0 below ∙ kept i (omega (arith, below, fits)) ∙ same i (omega (arith, below, room))
 
--- the same by the code of a layout
+-- `split_of_encoded`, by the numbers of a layout's code
 pub split_of_code : (layout : Layout) (content filled shards : List ℕ) → length shards ≡ shard_total layout.origin * layout.origin.size
     → length content ≤ stripe_width layout.origin → ((i : ℕ) → i < length shards → get_or filled i 0 ≡ get_or content i 0)
     → ((i : ℕ) → i < layout.code.data_shards * layout.code.size → get_or shards i 0 ≡ get_or filled i 0)

@@ -226,7 +226,7 @@ impl Scan {
         choice
     }
 
-    // What is chosen once the file at a place was looked at, after others.
+    // The choice among the files up to this index, from that among the files before it.
     fn after(&self, before: Choice, place: usize, is_wanted: bool) -> Choice
         ensures { (wanted : List Bool) → is_wanted ≡ slice_index_or wanted place false
             → IsChoice self.now.seen.items wanted place before → IsChoice self.now.seen.items wanted (place + 1) result }
@@ -238,7 +238,7 @@ impl Scan {
         }
     }
 
-    // The same where it is wanted.
+    // `after`, for a file that is wanted.
     fn better(&self, before: Choice, place: usize) -> Choice
         ensures { (wanted : List Bool) → slice_index_or wanted place false ≡ true
             → IsChoice self.now.seen.items wanted place before → IsChoice self.now.seen.items wanted (place + 1) result }
@@ -251,7 +251,7 @@ impl Scan {
         }
     }
 
-    // The same where none was wanted.
+    // `better`, where none before was wanted.
     fn after_nothing(&self, place: usize) -> Choice
         ensures { (wanted : List Bool) → slice_index_or wanted place false ≡ true
             → IsChoice self.now.seen.items wanted place Nothing → IsChoice self.now.seen.items wanted (place + 1) result }
@@ -263,7 +263,7 @@ impl Scan {
         }
     }
 
-    // The same where none had enough.
+    // `better`, where none before had enough shards, and `first` had the most.
     fn after_few(&self, first: usize, place: usize) -> Choice
         ensures { (wanted : List Bool) → slice_index_or wanted place false ≡ true
             → HasMost self.now.seen.items wanted place first → IsChoice self.now.seen.items wanted (place + 1) result }
@@ -278,7 +278,7 @@ impl Scan {
         }
     }
 
-    // The same where one had.
+    // `better`, where `first` had enough shards, and no other file.
     fn after_only(&self, first: usize, place: usize) -> Choice
         ensures { (wanted : List Bool) → slice_index_or wanted place false ≡ true
             → IsOnly self.now.seen.items wanted place first → IsChoice self.now.seen.items wanted (place + 1) result }

@@ -27,7 +27,7 @@ pub(crate) fn split_file(rt: &HostRuntime, words: &Words<'_>, file: &str) -> Res
     work
 }
 
-// The same where this run alone writes shards of that name.
+// `split_file`, with the lock held.
 fn split_locked(rt: &HostRuntime, words: &Words<'_>, file: &str, base: String) -> Result<()> {
     let (data, parity) = (words.data_shards, words.parity_shards);
     let files = NewFiles::new(rt, mode_of(rt, file)?, words.is_forced);
@@ -104,7 +104,7 @@ pub(crate) fn join_file(rt: &HostRuntime, words: &Words<'_>, file: &str) -> Resu
     work
 }
 
-// The same where this run alone writes that file.
+// `join_file` to a file, with the lock held.
 fn join_locked(rt: &HostRuntime, words: &Words<'_>, file: &str) -> Result<()> {
     let found = require_shards(rt, words, file)?;
     let mut new = NewFiles::new(rt, found.mode(rt)?, words.is_forced);

@@ -216,7 +216,7 @@ pub(crate) fn find_shards<'a>(
     }))
 }
 
-/// The same, where it is an error that there is no one set of shards.
+/// `find_shards`, failing where there is no one set of shards.
 pub(crate) fn require_shards<'a>(
     rt: &HostRuntime,
     words: &Words<'_>,

@@ -26,7 +26,7 @@ pub(crate) fn verify_file(rt: &HostRuntime, words: &Words<'_>, file: &str) -> Re
     }
 }
 
-// The same of shards that were found.
+// `verify_file`, once its shards are found.
 fn verify_found(rt: &HostRuntime, found: &Found<'_>) -> Result<ExitCode> {
     let faults = faults_of(rt, found)?;
     let (file, layout) = (found.file, found.seen.layout);
@@ -116,7 +116,7 @@ pub(crate) fn repair_file(rt: &HostRuntime, words: &Words<'_>, file: &str) -> Re
     work
 }
 
-// The same where this run alone writes shards of that name.
+// `repair_file`, with the lock held.
 fn repair_locked(rt: &HostRuntime, words: &Words<'_>, file: &str) -> Result<()> {
     let found = require_shards(rt, words, file)?;
     require_enough(&found)?;

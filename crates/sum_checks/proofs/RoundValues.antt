@@ -171,7 +171,7 @@ module _ (width : ℕ) (times : ℕ → ℕ → ℕ) (ring : IsRing width 1 time
             (λ i below. terms_value-same times count terms (row_entry count sums i) (λ j. bit_xor (lower i j) (upper i j)) within
             (λ j inside. sums_at (i * count + j) (place i j below inside)))
 
-    -- the same, as it is computed
+    -- `round-by_ends`, with lists and sums as the code computes them
     pub pairs-value : (x first second leading value : ℕ) (lowers uppers sums : List ℕ)
         → lowers ≡ take (length values / 2) values → uppers ≡ drop (length values / 2) values → sums ≡ zip2 bit_xor lowers uppers
         → first ≡ honest_at times terms count n values 0 → second ≡ cube_sum times terms count n uppers → leading ≡ cube_sum times terms count n sums

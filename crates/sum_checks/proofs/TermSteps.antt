@@ -17,7 +17,7 @@ first-rest [] x rest some read others = absurd (omega (arith, some))
 first-rest (y ∷ ys) x rest some read others =
     ap₂ (λ (z : _) (zs : List _). z ∷ zs) (sym read) (sym (others ∙ take_rest (y ∷ ys) 1))
 
--- the same of numbers
+-- `first-rest` for a list of numbers
 pub first-number : (ns rest : List ℕ) → 0 < length ns → rest ≡ take (length ns - 1) (drop 1 ns) → ns ≡ slice_index ns 0 ∷ rest
 first-number [] rest some others = absurd (omega (arith, some))
 first-number (n ∷ ns) rest some others = ap (λ (ms : List ℕ). n ∷ ms) (sym (others ∙ take_rest (n ∷ ns) 1))

@@ -229,8 +229,8 @@ fn value_at<F: Field>(round: &Round<'_, F>, scratch: &mut [F], x: F, first: F) -
     cube_sum(round.terms, &scratch[..half], round.count, round.rounds)
 }
 
-// The same of terms with two factors each, where `sums` is half as long as the values. The polynomial has degree two. Its leading coefficient
-// is the sum of the terms of the sums of both halves, so that no value is multiplied by x.
+// `value_at` for terms with two factors each; `sums` is half as long as the values. The polynomial has degree two; its leading coefficient
+// is the sum of the terms at the sums of both halves, so that no value is multiplied by x.
 fn value_of_pairs<F: Field>(round: &Round<'_, F>, sums: &mut [F], x: F, first: F) -> F
     requires pairs { ArePairs (map (term_product F.repr) round.now.terms.now) }
     requires within { AreWithin round.now.count (map (term_product F.repr) round.now.terms.now) }

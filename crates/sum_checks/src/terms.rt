@@ -200,7 +200,7 @@ fn rows_from<F>(values: &[F], count: usize, start: usize, size: usize) -> &[F]
     &values[start * count..][..size * count]
 }
 
-// The sum over so many rows, in blocks of as many as `left` and `right` have places.
+// The sum of the terms over so many rows, in blocks as long as `left` and `right`.
 fn blocks_sum<F: Field>(
     terms: &[Term<F>],
     values: &[F],
@@ -227,7 +227,7 @@ fn blocks_sum<F: Field>(
     sum
 }
 
-// The same row by row.
+// `blocks_sum`, row by row.
 fn sum_by_rows<F: Field>(terms: &[Term<F>], values: &[F], count: usize, rows: usize) -> F
     requires within { AreWithin count (map (term_product F.repr) terms.now) }
     requires size { length values.now ≡ rows * count }
@@ -244,7 +244,7 @@ fn sum_by_rows<F: Field>(terms: &[Term<F>], values: &[F], count: usize, rows: us
 // How many rows go at once.
 const BLOCK: usize = 256;
 
-// The same block by block. There are at least as many values as a column has places, so that columns of a block fit in memory.
+// `blocks_sum`, with columns of its own. There are at least as many values as a column has, so that the columns fit in memory.
 fn sum_by_blocks<F: Field>(terms: &[Term<F>], values: &[F], count: usize, rows: usize) -> F
     requires within { AreWithin count (map (term_product F.repr) terms.now) }
     requires size { length values.now ≡ rows * count }

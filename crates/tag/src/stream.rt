@@ -31,7 +31,7 @@ pub fn hash<R: Read>(choice: Choice, key: &[u8; 16], input: &mut Input<R>) -> Re
     }
 }
 
-// The same by one kind of hash.
+// `hash`, by the universal hash `H`.
 fn hash_all<H: UniversalHash + Drop, R: Read>(
     key: &[u8; 16],
     input: &mut Input<R>,

@@ -29,7 +29,7 @@ module _ (element : List ℕ → ℕ) (key : ℕ) where
       (IsAbsorbed_block element key (hash_from element key h (drop a d) n) b m d (take 16 (drop at d)) at
       (IsAbsorbed_blocks h b m d a n held edge (omega (arith, fits))) (omega (arith, edge)) (omega (arith, fits)) refl)))
 
-  -- the same, by the bytes of the blocks alone
+  -- the hash after n blocks depends on the bytes of these alone
   pub blocks_alone : (h : ℕ) (d : List ℕ) (a n : ℕ) → a + n * 16 ≤ length d
       → hash_from element key h (take (n * 16) (drop a d)) n ≡ hash_from element key h (drop a d) n
   blocks_alone h d a n fits =

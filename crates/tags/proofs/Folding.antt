@@ -73,7 +73,7 @@ module _ (element : List ℕ → ℕ) (key sum : ℕ) (m : List ℕ) where
           hash_from_next k (omega (arith, is, fits))
           ∙ ap (λ (z : ℕ). added_block element key (hash_from k) (take 16 (drop z m))) (sym is)
 
-  -- the same, as a loop over slices has it
+  -- `hash_from_next` and `hash_from_four`, as loops over slices have them
   pub hash_from_slice : (n h r : ℕ) (x : List ℕ) → h ≡ hash_from n → n * 16 + 16 ≤ length m → x ≡ take 16 (drop (16 * n) m)
       → r ≡ added_block element key h x → r ≡ hash_from (n + 1)
   hash_from_slice n h r x of_h within of_x of_r =

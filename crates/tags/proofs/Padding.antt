@@ -111,7 +111,7 @@ gcm_message a c l whole =
     (first_blocks-zeros c ((16 - length c % 16) % 16) nc (omega arith)))
     (blocks_of_block l whole)
 
--- the same, with the block of lengths in two pieces
+-- `gcm_message`, with the block of lengths in two pieces
 pub pieces : (a c x y : List ℕ) → length x ≡ 8 → length y ≡ 8
     → blocks_of ((zero_padded (zero_padded a ++ c) ++ x) ++ y) ≡ blocks_of a ++ blocks_of c ++ (x ++ y) ∷ []
 pieces a c x y of_x of_y =

@@ -143,7 +143,7 @@ module _ (key : ℕ) where
           ∙ fold-append horner_step 0 (take i xs) (get_or xs i 0 ∷ [])
 
 module _ (element : List ℕ → ℕ) (key : ℕ) where
-  -- some blocks, and then those behind them
+  -- m blocks, and then the n after them
   pub hash_from_more : (s : ℕ) (d : List ℕ) (m n : ℕ) → (m + n) * 16 ≤ length d
       → hash_from element key (hash_from element key s d m) (drop (m * 16) d) n ≡ hash_from element key s d (m + n)
   hash_from_more s d m zero room =
@@ -175,7 +175,7 @@ module _ (element : List ℕ → ℕ) (key : ℕ) where
       other : m + n + 1 ≡ m + suc n
       other = omega arith
 
-  -- the same by the bytes of the blocks behind alone
+  -- `hash_from_more`, by the bytes of these n blocks alone
   pub turn_more : (s : ℕ) (d x : List ℕ) (m n : ℕ) → (m + n) * 16 ≤ length d → x ≡ take (n * 16) (drop (m * 16) d)
       → fold (horner_step key) (hash_from element key s d m) (map element (first_blocks n x)) ≡ hash_from element key s d (m + n)
   turn_more s d x m n room is =

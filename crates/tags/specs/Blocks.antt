@@ -41,7 +41,7 @@ lengths_block associated text = block_of_lengths (length associated) (length tex
 abbrev pub gcm_blocks : List ℕ → List ℕ → List (List ℕ)
 gcm_blocks associated text = blocks_of associated ++ blocks_of text ++ lengths_block associated text ∷ []
 
--- the same of GCM-SIV, over the plain text, each length with its lowest byte first (RFC 8452, section 4)
+-- what GCM-SIV hashes: `gcm_blocks` of the plain text, but each length with its lowest byte first (RFC 8452, section 4)
 abbrev pub gcm_siv_blocks : List ℕ → List ℕ → List (List ℕ)
 gcm_siv_blocks associated text =
     blocks_of associated ++ blocks_of text ++ (to_le_bytes w64 (length associated * 8) ++ to_le_bytes w64 (length text * 8)) ∷ []

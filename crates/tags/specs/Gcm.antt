@@ -30,6 +30,6 @@ gcm_product x y = z_step 128 x (y % 2 ^ 128)
 abbrev pub gcm_hash : ℕ → List ℕ → ℕ
 gcm_hash key blocks = polynomial_hash gcm_product key blocks
 
--- the same over bytes
+-- `gcm_hash` over bytes
 unfoldable pub ghash : List ℕ → List (List ℕ) → List ℕ
 ghash key blocks = to_be_bytes w128 (gcm_hash (from_be_bytes w128 key) (map (from_be_bytes w128) blocks))

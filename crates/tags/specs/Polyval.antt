@@ -23,7 +23,7 @@ dot a b = mul_mod 128 polyval_modulus (mul_mod 128 polyval_modulus a b) inverse_
 abbrev pub polyval_hash : ℕ → List ℕ → ℕ
 polyval_hash key blocks = polynomial_hash dot key blocks
 
--- the same over bytes
+-- `polyval_hash` over bytes
 unfoldable pub polyval : List ℕ → List (List ℕ) → List ℕ
 polyval key blocks = to_le_bytes w128 (polyval_hash (from_le_bytes w128 key) (map (from_le_bytes w128) blocks))
 

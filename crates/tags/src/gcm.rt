@@ -23,7 +23,7 @@ pub fn gcm_ghash(key: &[u8; 16], associated: &[u8], text: &[u8]) -> [u8; 16]
     gcm_ghash_in_vectors::<u64x2>(key, associated, text)
 }
 
-/// The same as [`gcm_ghash`], computed in vectors `V`.
+/// [`gcm_ghash`], computed in vectors `V`.
 pub fn gcm_ghash_in_vectors<V: Width>(key: &[u8; 16], associated: &[u8], text: &[u8]) -> [u8; 16]
     requires associated_fits { length associated.now < 2 ^ 61 }
     requires text_fits { length text.now < 2 ^ 61 }

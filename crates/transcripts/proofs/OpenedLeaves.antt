@@ -319,7 +319,7 @@ half-power (suc n) some =
     let back : n ≡ suc n - 1 = omega arith in
     subst (λ (m : ℕ). 2 ^ suc n ≡ 2 ^ m + 2 ^ m) back (omega (arith, twice))
 
--- the same under other names
+-- `Opens`, with its arguments replaced by equal ones
 pub opens-as : (hash : List ℕ → List ℕ) (n first other : ℕ) (leaves others : Leaves) (nodes more : List (List ℕ)) (digest : List ℕ)
     → first ≡ other → leaves ≡ others → nodes ≡ more → Opens hash n first leaves nodes digest → Opens hash n other others more digest
 opens-as hash n first other leaves others nodes more digest place same sent opens =

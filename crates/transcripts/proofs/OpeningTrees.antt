@@ -75,7 +75,7 @@ module _ {A : Type 0} (tree : MerkleTree A) where
       let here : 2 ^ tree.depth + place leaves 0 ≡ node = omega (arith, at, once, only.1) in
       opens-leaf hash levels first leaves (digest_at tree node) none only.0 only.1 (are.digests 0 some ∙ ap (digest_at tree) here)
 
-  -- the same under other names
+  -- `AreLeavesOf`, with its arguments replaced by equal ones
   pub leaves-as : (low less high more : ℕ) (leaves others : Leaves) → low ≡ less → high ≡ more → leaves ≡ others
       → AreLeavesOf tree low high leaves → AreLeavesOf tree less more others
   leaves-as low less high more leaves others down up same are =

@@ -4,7 +4,7 @@ use Rattle.std.proofs.Math.Nat.{mul-le-mul_left, two-pow-succ}
 use Rattle.std.proofs.lemmas.Nat.{pow_pos}
 use Rattle.transcripts.specs.MerkleTrees.{node_input, row_input, rows_root}
 
--- the same rows have the same root
+-- equal rows have equal roots
 root-same : (hash : List ℕ → List ℕ) (n : ℕ) (f g : ℕ → List ℕ) → ((i : ℕ) → i < 2 ^ n → f i ≡ g i) → rows_root hash n f ≡ rows_root hash n g
 unfolding rows_root
 root-same hash zero f g same = ap (λ (r : List ℕ). hash (row_input r)) (same 0 (omega arith))

@@ -116,8 +116,8 @@ pub fn prove<
 }
 
 /// Whether the witness works, the opening is at the index that is sampled after it, and the path leads from the word there to the
-/// root. Everything that the opening holds is read. It fails with `Failed` exactly if a call of the challenger had failed before, which
-/// then stays as it is, and else only with `Memory`, where memory was refused to the challenger: it takes none of its own.
+/// root. Everything that the opening holds is read. It fails with `Failed` exactly if the challenger had failed before, which then stays
+/// unchanged, and else only with `Memory`, if the challenger could not allocate. Allocates nothing itself.
 pub fn accepts<
     H: ByteHasher32,
     W: Drop,

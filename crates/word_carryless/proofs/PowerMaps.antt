@@ -144,7 +144,7 @@ steps_28 : goes_by_x SQUARED_28_TIMES ≡ true
 unfolding sum_of_columns mul_mod rem rem_in carryless carryless_in
 steps_28 = refl
 
--- the same of those for 63, which are 28 and 28 and 7 (computed)
+-- `begins_28` and `steps_28` for 63 squarings, which are 28 and 28 and 7 (computed)
 begins_63 : (sum_of_columns SQUARED_63_TIMES 1 ≡ by_28 (by_28 (by_7 1))) × (sum_of_columns SQUARED_63_TIMES 2 ≡ by_28 (by_28 (by_7 2)))
 unfolding sum_of_columns square mul_mod rem rem_in carryless carryless_in
 begins_63 = (refl, refl)

@@ -30,7 +30,7 @@ module _ (c0 c1 c2 c3 : ℕ) (f0 : c0 < 256) (f1 : c1 < 256) (f2 : c2 < 256) (f3
   abbrev line : Bool → Bool → Bool → Bool → ℕ
   line b0 b1 b2 b3 = bit_xor (bit_xor (bit_xor (bit_and c0 (mask b0)) (bit_and c1 (mask b1))) (bit_and c2 (mask b2))) (bit_and c3 (mask b3))
 
-  -- the same by its columns
+  -- `line` as a sum of its columns
   by_columns : (b0 b1 b2 b3 : Bool) → line b0 b1 b2 b3
       ≡ bit_xor (digit b0 * c0) (bit_xor (digit b1 * c1) (bit_xor (digit b2 * c2) (bit_xor (digit b3 * c3) 0)))
   by_columns b0 b1 b2 b3 =

@@ -66,7 +66,7 @@ columns_apply once again are i =
     ∙ get_or-map (sum_of_columns once) once i 0
     ∙ ap (sum_of_columns once) (sym (column_at once i))
 
--- the same of the maps of two tables
+-- `columns_apply` for the maps of two tables
 twice_at : (first second : List ℕ) → columns_in 32 second ≡ columns_twice (columns_in 32 first) → (i : ℕ)
     → map_of second (2 ^ i) ≡ map_of first (map_of first (2 ^ i))
 unfolding map_of

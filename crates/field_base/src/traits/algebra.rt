@@ -40,7 +40,7 @@ pub trait Algebra<F: PrimeCharacteristicRing>: PrimeCharacteristicRing
         × Gives (Self.Mul-2.can_mul x y) (Self.Mul-2.mul_gives x y) Self.repr product
         × Gives (Self.MulAssign-2.can_mul_assign x y) (Self.MulAssign-2.mul_assign_gives x y) Self.repr product };
 
-    // The same, each as a law of its own, which is how a proof about a generic ring finds it.
+    // The parts of `operators_law`, as laws of their own: so a proof about a generic ring finds them.
     ghost can_add_image_law: { (x : Self) (y : F) → Self.Add-2.can_add x y } = { λ x y. (operators_law x y).0.0 };
 
     ghost add_image_law: { (x : Self) (y : F) (r : Self) → Self.Add-2.add_gives x y r

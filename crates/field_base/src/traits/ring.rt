@@ -276,7 +276,7 @@ pub trait PrimeCharacteristicRing: Represented
 
     ghost complete_law: { (r : Self) → Self.Sum.is_complete r × Self.Product.is_complete r };
 
-    // The same, each as a law of its own, which is how a proof about a generic ring finds it.
+    // The parts of these three laws, as laws of their own: so a proof about a generic ring finds them.
     ghost can_add_assign_law: { (x y : Self) → Self.can_add_assign x y } = { λ x y. (operators_law x y).0.0 };
 
     ghost add_assign_law: { (x y r : Self) → Self.add_assign_gives x y r
