@@ -17,7 +17,7 @@ mod word;
 mod words;
 
 pub use crate::bit::Bit;
-pub use crate::levels::{Called, Slices8, Slices16, Slices32, Slices64, Slices128};
+pub use crate::levels::{Slices8, Slices16, Slices32, Slices64, Slices128};
 pub use crate::moduli::PolynomialBlock;
 pub use crate::pair::Pair;
 pub use crate::polynomials::SlicedPolynomials;

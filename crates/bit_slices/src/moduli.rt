@@ -1,5 +1,5 @@
 // Products of blocks modulo two polynomials, each x^w and a tail of low degree.
-#![tactic(auto, unfolding(crate::specs::Called::called_lanes))]
+#![tactic(auto, unfolding(crate::specs::Called::lanes_8, crate::specs::Called::lanes_16, crate::specs::Called::lanes_32, crate::specs::Called::lanes_64, crate::specs::Called::lanes_128))]
 
 ghost use Rattle.std.specs.Prelude.{◌≡◌, ◌<◌, ◌-◌, ◌/◌, ◌^◌, ℕ, bit_xor};
 ghost use Rattle.field_base.specs.Quadratic.{pair};

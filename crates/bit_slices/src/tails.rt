@@ -1,5 +1,5 @@
 // The tails of two moduli, which are x^w and a tail of low degree: what multiplies by a tail bit by bit.
-#![tactic(auto, unfolding(crate::specs::Called::called_lanes))]
+#![tactic(auto, unfolding(crate::specs::Called::lanes_8))]
 
 ghost use Rattle.std.specs.Prelude.{◌≡◌, ◌<◌, ◌*◌, ◌/◌, ◌%◌, ◌^◌, ℕ, bit_xor, refl};
 ghost use Rattle.field_base.specs.Quadratic.{pair};

@@ -1,10 +1,10 @@
-use Rattle.bit_slices.specs.Called.{called_lanes}
+use Rattle.bit_slices.specs.Called.{lanes_8}
 use Rattle.bit_slices.specs.Lanes.{bit_lane}
 use Rattle.bit_slices.proofs.TailSteps.{eight_down}
 use Rattle.bit_slices.proofs.tails.shift_down.Goals as goal
 
 pub returns : goal.returns
-unfolding called_lanes
+unfolding lanes_8
 returns g c l =
     let words = g.V.WordVector.words in
     let before = c.args.carry.now.inner in

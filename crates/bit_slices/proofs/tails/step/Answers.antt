@@ -1,5 +1,5 @@
 use Rattle.std.proofs.Common.{◌≡◌, ◌%◌, ◌/◌, ℕ, sym, ◌∙◌, ap, ap₂, arith}
-use Rattle.bit_slices.specs.Called.{called_lanes}
+use Rattle.bit_slices.specs.Called.{lanes_8}
 use Rattle.bit_slices.specs.Lanes.{bit_lane}
 use Rattle.bit_slices.specs.lemmas.Lane.{bit_lane-lt}
 use Rattle.bit_slices.specs.Tails.{tail_product}
@@ -7,7 +7,7 @@ use Rattle.bit_slices.proofs.TailSteps.{step_carried, step_lowest, terms_added}
 use Rattle.bit_slices.proofs.tails.step.Goals as goal
 
 pub returns-clause-lowest : goal.returns-clause-lowest
-unfolding called_lanes
+unfolding lanes_8
 returns-clause-lowest g c l =
     let words = g.V.WordVector.words in
     let bit = bit_lane (words c.args.bit.now.words) l in
@@ -17,7 +17,7 @@ returns-clause-lowest g c l =
     ∙ ap (λ (z : ℕ). tail_product g.M.Tail.NUMBER bit z % 2) (sym (c.shift_down-lowest.ensures l))
 
 pub returns-clause-carried : goal.returns-clause-carried
-unfolding called_lanes
+unfolding lanes_8
 returns-clause-carried g c l =
     let words = g.V.WordVector.words in
     let tail = c.NUMBER-tail.result in
