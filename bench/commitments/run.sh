@@ -20,7 +20,7 @@ to="$copy/crates/bench_commitments"
 rm -rf "$to/src" "$to/proofs"
 copy_texts "$here" "$to"
 cp "$here/../provers/src/timing.txt" "$to/src/timing.rt"
-uses="field_base field_element field_space transcripts transcript_elements protocols anyhow"
+uses="field_base field_element field_space transcripts transcript_elements protocols small_tables anyhow"
 echo "bench_commitments: $uses" >> "$copy/crates.txt"
 
 # told KIND SIZE: what the program prints of one table.

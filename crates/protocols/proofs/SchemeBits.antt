@@ -5,13 +5,13 @@ use Rattle.protocols.specs.CommitmentScheme.{HasBits, HasMostBits, matrix_rows, 
 
 -- fewer bits are reached where more are
 pub bits-fewer : (m n bits fewer : ℕ) → fewer ≤ bits → HasBits m n bits → HasBits m n fewer
-bits-fewer m n bits fewer less bound = le_trans (mul-le-mul_right (opening_error m n) (pow-le-pow_right (lit< tt) less)) bound
+bits-fewer m n bits fewer less bound = le_trans (mul-le-mul_right (opening_error 0 m n) (pow-le-pow_right (lit< tt) less)) bound
 
 -- and more than the most are not
 pub bits-more : (m n bits more : ℕ) → bits < more → HasMostBits m n bits → HasBits m n more → ⊥
 bits-more m n bits more less top bound =
-    apart (opening_whole m) (2 ^ suc bits * opening_error m n) (2 ^ more * opening_error m n) top.most
-    (mul-le-mul_right (opening_error m n) (pow-le-pow_right (lit< tt) less)) bound
+    apart (opening_whole m) (2 ^ suc bits * opening_error 0 m n) (2 ^ more * opening_error 0 m n) top.most
+    (mul-le-mul_right (opening_error 0 m n) (pow-le-pow_right (lit< tt) less)) bound
   where
     apart : (whole least most : ℕ) → whole < least → least ≤ most → most ≤ whole → ⊥
     apart whole least most one two three = absurd (omega (arith, one, two, three))
@@ -23,26 +23,26 @@ seven-bits n few = record {
   most = le_trans least (mul-le-mul_left (2 ^ 84) bottom);
 }
   where
-    lucky : matrix_rows 7 n * (34 * 2 ^ word_levels 7 n) ≤ 2 ^ 40
+    lucky : (0 + matrix_rows 7 n) * (34 * 2 ^ word_levels 7 n) ≤ 2 ^ 40
     lucky =
         le_trans (mul-le-mul (rows-few n few) (mul-le-mul_left 34 (pow-le-pow_right (lit< tt) (levels-few n few)))) (lit≤ tt)
       where
-        rows-few : (n : ℕ) → n ≤ 39 → matrix_rows 7 n ≤ 16
+        rows-few : (n : ℕ) → n ≤ 39 → 0 + matrix_rows 7 n ≤ 16
         rows-few n few = omega (arith, few)
 
         levels-few : (n : ℕ) → n ≤ 39 → word_levels 7 n ≤ 25
         levels-few n few = omega (arith, few)
 
-    top : opening_error 7 n ≤ 2 ^ 40 * 256 ^ 2 ^ 7 + 2 ^ 128 * 163 ^ 2 ^ 7
+    top : opening_error 0 7 n ≤ 2 ^ 40 * 256 ^ 2 ^ 7 + 2 ^ 128 * 163 ^ 2 ^ 7
     top =
-        roomy (matrix_rows 7 n * (34 * 2 ^ word_levels 7 n) * 256 ^ 2 ^ 7) (2 ^ 40 * 256 ^ 2 ^ 7) (2 ^ 128 * 163 ^ 2 ^ 7)
+        roomy ((0 + matrix_rows 7 n) * (34 * 2 ^ word_levels 7 n) * 256 ^ 2 ^ 7) (2 ^ 40 * 256 ^ 2 ^ 7) (2 ^ 128 * 163 ^ 2 ^ 7)
         (mul-le-mul_right (256 ^ 2 ^ 7) lucky)
       where
         roomy : (a b c : ℕ) → a ≤ b → a + c ≤ b + c
         roomy a b c less = omega (arith, less)
 
-    bottom : 2 ^ 128 * 163 ^ 2 ^ 7 ≤ opening_error 7 n
-    bottom = roomy (matrix_rows 7 n * (34 * 2 ^ word_levels 7 n) * 256 ^ 2 ^ 7) (2 ^ 128 * 163 ^ 2 ^ 7)
+    bottom : 2 ^ 128 * 163 ^ 2 ^ 7 ≤ opening_error 0 7 n
+    bottom = roomy ((0 + matrix_rows 7 n) * (34 * 2 ^ word_levels 7 n) * 256 ^ 2 ^ 7) (2 ^ 128 * 163 ^ 2 ^ 7)
       where
         roomy : (a b : ℕ) → b ≤ a + b
         roomy a b = omega arith

@@ -6,7 +6,7 @@ use Rattle.transcripts.specs.Lists.{InTurn}
 use Rattle.transcripts.specs.States.{GivesByState, LeadsByState}
 use Rattle.sum_checks.specs.Sumcheck.{IsRunOf, Statement}
 use Rattle.sum_checks.proofs.Runs.{elements-same, observed-same, turns-same}
-use Rattle.protocols.specs.CommitmentScheme.{ArePlacesDrawn, OpensValue, VerdictsAgree, block_places, opening_work, place_bits}
+use Rattle.protocols.specs.CommitmentScheme.{ArePlacesDrawn, block_places, opening_work, place_bits}
 use Rattle.protocols.specs.JointTables.{AreTablesCombined, IsLeastCube, OpensTables, TableVerdictsAgree}
 
 -- tests that follow from each other
@@ -74,23 +74,6 @@ module _ {C S F : Type 0} (state : C → S) (observes gives : C → F → C → 
       numbers =
           given-same (λ from number to. gives_bits from (place_bits m n) number to) (bits_law (place_bits m n)) first.numbers second.numbers
           first.queries.0 new second.queries.0 other_new (first.count ∙ sym second.count) worked first.queries.3 second.queries.3
-
-  pub verdicts_agree : (repr : F → ℕ) (size width : ℕ) (times : ℕ → ℕ → ℕ) (vector : ℕ → ℕ)
-      → VerdictsAgree state observes gives passing checks gives_bits repr size width times vector
-  verdicts_agree repr size width times vector hash m n root point value row witness columns nodes prover verifier one other same first second =
-      same-tests one other (λ holds. second.decided.1 (turned first.works second.works first.places second.places drawn.0 drawn.1 (first.decided.0 holds)))
-      (λ holds. first.decided.1 (turned second.works first.works second.places first.places (sym drawn.0) (sym drawn.1) (second.decided.0 holds)))
-    where
-      drawn : (first.works ≡ second.works) × (first.places ≡ second.places) × (state first.new ≡ state second.new)
-      drawn = places-same same first.drawn second.drawn
-
-      turned : (a b : Bool) (ps qs : List ℕ) → a ≡ b → ps ≡ qs
-          → IsTrue a × OpensValue hash repr size width times vector m n root point value row ps columns nodes
-          → IsTrue b × OpensValue hash repr size width times vector m n root point value row qs columns nodes
-      turned a b ps qs is are held = (
-        subst (λ (t : Bool). IsTrue t) is held.0,
-        subst (λ (l : List ℕ). OpensValue hash repr size width times vector m n root point value row l columns nodes) are held.1,
-      )
 
   -- the least cube has one number of coordinates
   pub cube-same : (count levels other : ℕ) → IsLeastCube count levels → IsLeastCube count other → levels ≡ other

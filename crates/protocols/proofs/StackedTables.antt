@@ -48,7 +48,7 @@ module _ (width : ℕ) (times : ℕ → ℕ → ℕ) (ring : IsRing width 1 time
       ∙ sym (sum_below-xor (λ i. times (f i) (eq_corner times point i)) (λ i. times (g i) (eq_corner times point i)) (2 ^ length point))
 
   -- the value at no coordinates
-  value-none : (f : ℕ → ℕ) → f 0 < 2 ^ width → value_of times f [] ≡ f 0
+  pub value-none : (f : ℕ → ℕ) → f 0 < 2 ^ width → value_of times f [] ≡ f 0
   unfolding sum_below eq_corner
   value-none f fits =
       xor_comm 0 (times (f 0) 1) ∙ xor_zero_r (times (f 0) 1) ∙ ring.comm (f 0) 1 ∙ ring.one (f 0) ∙ mod-eq_of_lt fits
@@ -218,6 +218,17 @@ stacked-same count height column other p q same =
     pick x below (inr flat) =
         let empty : height ≡ 0 = omega (arith, flat) in
         absurd (let no : x < count * 0 = subst (λ (h : ℕ). x < count * h) empty below in omega (arith, no))
+
+-- the columns of one table alone are its own
+pub stacked-one : (height : ℕ) (column : ℕ → ℕ → List ℕ) (p : ℕ) → length (column 0 p) ≡ height → stacked 1 height column p ≡ column 0 p
+stacked-one height column p long =
+    same_number_lists (stacked 1 height column p) (column 0 p) (all ∙ sym long)
+    (λ x within.
+    ap (slice_index (stacked 1 height column p)) (let place : x ≡ 0 * height + x = omega arith in place)
+    ∙ stacked-at 1 height column p 0 x (omega arith) (subst (λ (n : ℕ). x < n) all within))
+  where
+    all : length (stacked 1 height column p) ≡ height
+    all = stacked-length 1 height column p ∙ one-mul height
 
 -- the value of a column of all tables is that at the challenges of the values of the tables' columns, and of zeros
 pub stacked-value : (width : ℕ) (times : ℕ → ℕ → ℕ) → IsRing width 1 times → (count : ℕ) (column : ℕ → ℕ → List ℕ) (p : ℕ)

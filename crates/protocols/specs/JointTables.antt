@@ -19,7 +19,7 @@ use Rattle.field_slices.specs.Openings.{IsOpened}
 use Rattle.transcripts.specs.Lists.{InTurn}
 use Rattle.sum_checks.specs.ZeroCheck.{IsRootAt}
 use Rattle.protocols.specs.CodeDistances.{point_generator}
-use Rattle.protocols.specs.CommitmentScheme.{ArePlacesDrawn, HoldsColumns, matrix_rows, opening_whole, place_bits, row_levels, value_columns, word_levels}
+use Rattle.protocols.specs.CommitmentScheme.{ArePlacesDrawn, HoldsColumns, matrix_rows, opening_error, opening_whole, place_bits, row_levels, value_columns, word_levels}
 use Rattle.protocols.specs.OpenedTables.{AreColumnsOf, CommitsTo, ShowsTable}
 use Rattle.protocols.specs.RootColumns.{HasSent, HaveOtherColumns}
 use Rattle.protocols.specs.Tables.{AgreesAt}
@@ -204,17 +204,13 @@ TablesAreBound {C} {F} observes gives passing checks gives_bits repr size width 
 
 -- ---- bits
 
--- `opening_error` of tables that so many challenges combine, each of which is one coordinate more
-abbrev pub tables_error : ℕ → ℕ → ℕ → ℕ
-tables_error levels m n = (levels + matrix_rows m n) * (34 * 2 ^ word_levels m n) * 256 ^ 2 ^ m + 2 ^ 128 * 163 ^ 2 ^ m
-
 -- Of all challenges, points and numbers of places at most the share 2 ^ -bits accepts a row that is not what the challenges and the point
 -- fold the near matrix to of the columns of all tables, one above the other, whatever these columns are and whatever is sent.
 abbrev pub FewTablesCheat : Type 0
 FewTablesCheat =
     (times : ℕ → ℕ → ℕ) (vector : ℕ → ℕ) → IsField 128 times → AreCantorVectors 128 times vector
     → ((b : ℕ) → b < 128 → vector b < 2 ^ 128)
-    → (levels m n bits : ℕ) → 6 ≤ m → m ≤ 8 → 6 ≤ n → n ≤ 39 → 2 ^ bits * tables_error levels m n ≤ opening_whole m
+    → (levels m n bits : ℕ) → 6 ≤ m → m ≤ 8 → 6 ≤ n → n ≤ 39 → 2 ^ bits * opening_error levels m n ≤ opening_whole m
     → (word : ℕ → ℕ → ℕ) (prover : List ℕ → ℕ → ℕ) (cheats : List ℕ → Bool)
     → HaveSymbols 128 (2 ^ m * 2 ^ place_bits m n) (2 ^ (levels + matrix_rows m n)) word
     → ((point : List ℕ) → length point ≡ levels + matrix_rows m n

@@ -3,11 +3,8 @@ pub mod CodeWords
 pub mod CommitmentScheme
 pub mod Interleaved
 pub mod JointTables
-pub mod ManyPoints
 pub mod OpenedTables
 pub mod ProductSums
 pub mod RootColumns
-pub mod SmallOpenings
-pub mod SmallTables
 pub mod SoundnessErrors
 pub mod Tables

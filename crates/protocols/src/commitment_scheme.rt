@@ -1,30 +1,19 @@
-// Commitments to tables of multilinear polynomials, as a scheme: sizes by the bits of soundness that are asked for, openings of a value at
-// a point, and their verdict, in any transcript. The rate of the code is 1/4.
-ghost use Rattle.std.specs.Prelude.{◌≡◌, ◌↔◌, ◌⊎◌, ◌+◌, ◌*◌, ◌^◌, ◌<◌, ◌≤◌, ◌∷◌, ◌++◌, ℕ, false, length, map, take, true};
-ghost use Rattle.std.specs.Prelude.{IfErr, IfNone, IfOk, IfSome, IsTrue};
-ghost use Rattle.std.specs.List.{range_with_len};
-ghost use Rattle.field_slices.specs.Multilinear.{multilinear_value};
-ghost use Rattle.transcripts.specs.{Commitments.{row_at}, Openings.{AreAscending}};
-ghost use Rattle.transcripts.specs.Grinding.{MayGrind};
+// Commitments to tables of multilinear polynomials, as a scheme: sizes by the bits of soundness that are asked for, and the places that an
+// opening draws, in any transcript. The rate of the code is 1/4.
+ghost use Rattle.std.specs.Prelude.{◌≡◌, ◌⊎◌, ◌+◌, ◌*◌, ◌^◌, ◌<◌, ◌≤◌, ℕ, false, length, true};
+ghost use Rattle.std.specs.Prelude.{IfErr, IfNone, IfOk, IfSome};
+ghost use Rattle.transcripts.specs.{Grinding.{MayGrind}, Openings.{AreAscending}};
 ghost use Rattle.sum_checks.specs.declared.error.ProtocolError.TheVariants.{Memory};
-ghost use Rattle.protocols.specs.CommitmentScheme.{ArePlacesDrawn, HasBits, HasMostBits, HoldsColumns, IsHonestValue, OpensValue};
-ghost use Rattle.protocols.specs.CommitmentScheme.{StopsOpening, VerifiesValue};
+ghost use Rattle.protocols.specs.CommitmentScheme.{ArePlacesDrawn, HasBits, HasMostBits, HoldsColumns, StopsOpening};
 ghost use Rattle.protocols.specs.CommitmentScheme.{block_places, matrix_rows, place_bits, place_count, row_levels, word_levels};
 
-use crate::tables::{
-    ClaimedRow, ColumnOpening, TableColumns, column_values, commit_table, open_columns,
-    verify_columns,
-};
-use field_base::traits::Field;
+use crate::tables::{TableColumns, commit_table};
 use field_bytes::ShortElement;
-use field_slices::evaluate_multilinear;
 use std::alloc::{AllocError, Allocator};
 use sum_checks::ProtocolError;
-use transcripts::merkle_paths::{Commitment, power_of_two};
+use transcripts::merkle_paths::power_of_two;
 use transcripts::queries::{check_queries, draw_queries};
-use transcripts::{
-    ByteHasher32, CanObserve, CanSample, CanSampleUniformBits, GrindingChallenger, both,
-};
+use transcripts::{ByteHasher32, CanObserve, CanSample, CanSampleUniformBits, GrindingChallenger};
 
 /// The logarithm of what a row's code word is longer than the row itself.
 pub const EXPANSION: usize = 2;
@@ -54,43 +43,6 @@ pub struct Parameters {
     ghost bits_are: { bits ≡ place_bits queries variables },
 }
 
-/// What is claimed of a committed table: that it has a value at a point.
-#[derive(Clone, Copy)]
-pub struct ClaimedValue<'a, F> {
-    /// The point.
-    pub point: &'a [F],
-    /// The value.
-    pub value: F,
-}
-
-/// What a prover sends of a claimed value.
-#[derive(Drop)]
-pub struct OpenedValue<F: Field, A: Allocator> {
-    /// The value.
-    pub value: F,
-    /// The values of the table's columns at the first coordinates.
-    pub row: Vec<F, A>,
-    /// The witness of the work.
-    pub witness: F,
-    /// The columns that are opened, one after the other.
-    pub columns: Vec<F, A>,
-    /// The nodes that open their bytes.
-    pub nodes: Vec<[u8; 32], A>,
-}
-
-/// What a verifier is sent of a claimed value.
-#[derive(Clone, Copy)]
-pub struct ValueOpening<'a, F> {
-    /// The values of the table's columns at the first coordinates.
-    pub row: &'a [F],
-    /// The witness of the work.
-    pub witness: F,
-    /// The columns that are opened, one after the other.
-    pub columns: &'a [F],
-    /// The nodes that open their bytes.
-    pub nodes: &'a [[u8; 32]],
-}
-
 impl Parameters {
     /// The sizes for tables of 2^variables elements, variables from 0 to 39, of which 2^queries places are opened, queries from 0 to 8, or
     /// all where there are fewer.
@@ -113,7 +65,7 @@ impl Parameters {
     }
 
     /// The sizes by which at most one of 2^bits draws of a point and of places accepts a prover that cheats, over a field of 2^128
-    /// elements (`laws::few_openings_cheat`): with 2^7 places opened if these reach the bits, else with 2^8. None if neither does, or if
+    /// elements (`laws::few_tables_cheat`, of one table): with 2^7 places opened if these reach the bits, else with 2^8. None if neither does, or if
     /// variables is below 6 or above 39. The 16 bits of work come on top.
     pub fn for_bits(variables: usize, bits: usize) -> Option<Parameters>
         ensures variables { IfSome result (λ found. found.variables ≡ variables) }
@@ -204,108 +156,6 @@ pub fn commit<F: ShortElement, H: ByteHasher32, A: Allocator + Copy>(
     Ok(held)
 }
 
-// What is observed of an opening: the point, the value, and the row.
-pub(crate) fn sent_elements<F: Field, A: Allocator>(
-    alloc: A,
-    claim: &ClaimedValue<'_, F>,
-    row: &[F],
-) -> Result<Vec<F, A>, AllocError>
-    ensures { IfOk result (λ sent. sent.items ≡ claim.now.point.now ++ claim.now.value ∷ row.now) }
-{
-    let mut sent = Vec::from_slice(alloc, claim.point)?;
-    sent.push(claim.value)?;
-    sent.extend_from_slice(row)?;
-    Ok(sent)
-}
-
-/// Opens the value of a table that `commit` has committed to with these sizes at a point of `variables` coordinates, in a transcript that
-/// may grind 16 bits: over a field of 24 bits or more. The point, the value and the row are observed, a challenge is sampled, the work is
-/// done, and then places are drawn. The caller's transcript begins with its statement, the sizes and the root, and the point is drawn
-/// behind them: of a point that is not drawn, `laws::values_are_bound` allows that its coordinates are lucky. A verifier in a transcript
-/// of the same state accepts what is sent (`laws::verdicts_agree`). In a transcript that has not failed it fails only if no witness is
-/// found, or if memory was refused.
-pub fn open<
-    F: ShortElement,
-    C: CanObserve<F> + CanSample<F> + GrindingChallenger<Witness = F> + CanSampleUniformBits<F>,
-    A: Allocator + Copy,
->(
-    alloc: A,
-    challenger: &mut C,
-    parameters: &Parameters,
-    held: &TableColumns<F, A>,
-    point: &[F],
-) -> Result<OpenedValue<F, A>, ProtocolError>
-    requires work { MayGrind C.witness_bits 16 }
-    requires coordinates { length point.now ≡ parameters.now.variables }
-    requires depth { held.now.tree.depth ≡ word_levels parameters.now.queries parameters.now.variables }
-    requires count { length held.now.columns.items ≡ 2 ^ 2 * 2 ^ row_levels parameters.now.queries parameters.now.variables
-        * 2 ^ matrix_rows parameters.now.queries parameters.now.variables }
-    ensures row { IfOk result (λ opened. map F.repr opened.row.items ≡ map (λ p. multilinear_value F.product
-        (map F.repr (row_at (2 ^ matrix_rows parameters.now.queries parameters.now.variables) held.now.columns.items p))
-        (map F.repr (take (matrix_rows parameters.now.queries parameters.now.variables) point.now)))
-        (range_with_len 0 (2 ^ row_levels parameters.now.queries parameters.now.variables))) }
-    ensures accepted { IfOk result (λ opened. IsHonestValue C.observes C.gives C.passing C.checks C.gives_bits F.repr F.NUM_BYTES F.width
-        F.product (λ i. F.basis (F.cantor i)) parameters.now.queries parameters.now.variables held.now.columns.items held.now.tree point.now
-        opened.value opened.row.items (C.number opened.witness) opened.columns.items opened.nodes.items challenger.old) }
-    ensures error { C.has_failed challenger.old ≡ false → IfErr result (StopsOpening C.passing C.witness_bits) }
-{
-    let (first, others) = point.split_at(parameters.rows);
-    let size = power_of_two(parameters.levels);
-    let row = column_values(alloc, held.columns.as_slice(), size, first)?;
-    let value = evaluate_multilinear(row.as_slice(), others);
-    let sent = sent_elements(alloc, &ClaimedValue { point, value }, row.as_slice())?;
-    let (witness, places) = grind_places(alloc, challenger, parameters, sent.as_slice())?;
-    let opened = open_columns(alloc, held, parameters.rows, places.as_slice())?;
-    Ok(OpenedValue {
-        value,
-        row,
-        witness,
-        columns: opened.columns,
-        nodes: opened.nodes,
-    })
-}
-
-/// Whether a committed table, over a field of at least 2^26 elements, has a value at a point of `variables` coordinates, as far as an
-/// opening says: the point, the value and the row are observed, then the witness is checked and places are drawn, and the columns there
-/// open the value. What may be lucky where it accepts, `laws::values_are_bound` says, and how seldom, `laws::few_openings_cheat`. In a
-/// transcript that has not failed it fails only if memory was refused.
-pub fn verify<
-    F: ShortElement,
-    H: ByteHasher32,
-    C: CanObserve<F> + CanSample<F> + GrindingChallenger<Witness = F> + CanSampleUniformBits<F>,
-    A: Allocator + Copy,
->(
-    alloc: A,
-    hasher: &H,
-    challenger: &mut C,
-    parameters: &Parameters,
-    root: [u8; 32],
-    claim: &ClaimedValue<'_, F>,
-    opening: &ValueOpening<'_, F>,
-) -> Result<bool, ProtocolError>
-    requires points { 26 ≤ F.width }
-    requires coordinates { length claim.now.point.now ≡ parameters.now.variables }
-    ensures verdict { IfOk result (λ accepted. VerifiesValue C.observes C.gives C.passing C.checks C.gives_bits F.repr (H.digest hasher.now)
-        F.NUM_BYTES F.width F.product (λ i. F.basis (F.cantor i)) parameters.now.queries parameters.now.variables root claim.now.point.now
-        claim.now.value opening.now.row.now (C.number opening.now.witness) opening.now.columns.now opening.now.nodes.now challenger.old
-        accepted) }
-    ensures memory { C.has_failed challenger.old ≡ false → IfErr result (λ error. error ≡ Memory) }
-{
-    let sent = sent_elements(alloc, claim, opening.row)?;
-    let witness = opening.witness;
-    let (works, places) = draw_places(alloc, challenger, parameters, sent.as_slice(), witness)?;
-    let opens = opens_value(
-        alloc,
-        hasher,
-        parameters,
-        root,
-        claim,
-        opening,
-        places.as_slice(),
-    )?;
-    Ok(both(works, opens))
-}
-
 /// What a prover draws behind what it has sent, of whatever tables and points that is: what is sent is observed, a challenge is sampled, a
 /// witness of 16 bits of work is searched for, and a place is sampled in each block. It returns the witness, which works, and the places,
 /// which ascend. The challenger may grind 16 bits: over a field of 24 bits or more. In a transcript that has not failed it fails only if
@@ -360,47 +210,4 @@ pub fn draw_places<
     let (works, numbers) = check_queries(alloc, challenger, witness, WORK, parameters.bits, count)?;
     let places = parameters.places(alloc, numbers.as_slice())?;
     Ok((works, places))
-}
-
-// Whether the columns at these places open the value.
-fn opens_value<F: ShortElement, H: ByteHasher32, A: Allocator + Copy>(
-    alloc: A,
-    hasher: &H,
-    parameters: &Parameters,
-    root: [u8; 32],
-    claim: &ClaimedValue<'_, F>,
-    opening: &ValueOpening<'_, F>,
-    places: &[usize],
-) -> Result<bool, AllocError>
-    requires points { 26 ≤ F.width }
-    requires coordinates { length claim.now.point.now ≡ parameters.now.variables }
-    ensures { IfOk result (λ opens. IsTrue opens ↔ OpensValue (H.digest hasher.now) F.repr F.NUM_BYTES F.width F.product
-        (λ i. F.basis (F.cantor i)) parameters.now.queries parameters.now.variables root claim.now.point.now claim.now.value
-        opening.now.row.now places.now opening.now.columns.now opening.now.nodes.now) }
-{
-    let (point, others) = claim.point.split_at(parameters.rows);
-    let row = opening.row;
-    let commitment = Commitment {
-        depth: EXPANSION + parameters.levels,
-        root,
-    };
-    let columns = ColumnOpening {
-        places,
-        columns: opening.columns,
-        nodes: opening.nodes,
-    };
-    let claimed = ClaimedRow { point, row };
-    let opens = verify_columns(
-        alloc,
-        hasher,
-        commitment,
-        parameters.levels,
-        &claimed,
-        &columns,
-    )?;
-    if !opens {
-        return Ok(false);
-    }
-    let value = evaluate_multilinear(row, others);
-    Ok(claim.value == value)
 }

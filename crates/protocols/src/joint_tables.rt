@@ -45,7 +45,7 @@ pub struct OpenedTables<F: Field, A: Allocator> {
 }
 
 // How many coordinates the least cube has with a corner for each of so many tables.
-pub(crate) fn cube_levels(count: usize) -> usize
+fn cube_levels(count: usize) -> usize
     requires few { count ≤ 256 }
     ensures cube { IsLeastCube count result }
     ensures few { result ≤ 8 }
@@ -59,7 +59,7 @@ pub(crate) fn cube_levels(count: usize) -> usize
 }
 
 // Observes the point and the values, and samples the challenges that combine so many tables.
-pub(crate) fn sample_challenges<F: Field, C: CanObserve<F> + CanSample<F>, A: Allocator + Copy>(
+fn sample_challenges<F: Field, C: CanObserve<F> + CanSample<F>, A: Allocator + Copy>(
     alloc: A,
     challenger: &mut C,
     count: usize,
@@ -408,7 +408,7 @@ fn row_agrees<F: ShortElement, A: Allocator + Copy, B: Allocator>(
 }
 
 // The value at the challenges of values, of which there are at most as many as the challenges' cube has corners, and zeros.
-pub(crate) fn value_at_challenges<F: Field, A: Allocator + Copy>(
+fn value_at_challenges<F: Field, A: Allocator + Copy>(
     alloc: A,
     values: &[F],
     challenges: &[F],

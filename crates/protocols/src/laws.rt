@@ -1,18 +1,12 @@
 // Soundness of protocols, for every prover, as contracts of functions that compute nothing: of tables of which columns are opened,
 // whatever columns a prover has chosen. It passes on the laws of sum-checks.
 ghost use Rattle.std.specs.Prelude.{◌*◌, ◌^◌, ◌<◌};
-ghost use Rattle.protocols.specs.CommitmentScheme.{FewOpeningsCheat, ValuesAreBound, VerdictsAgree};
 ghost use Rattle.protocols.specs.CodeDistances.{CodeWordsHaveDistance, FewQuarterRateCheats, QuarterRateGap};
 ghost use Rattle.protocols.specs.JointTables.{FewTablesCheat, OpenedTablesNeedLuck, TableVerdictsAgree, TablesAreBound};
-ghost use Rattle.protocols.specs.ManyPoints.{PointVerdictsAgree, PointsAreBound};
 ghost use Rattle.protocols.specs.OpenedTables.{OpenedRowsNeedLuck, OpenedValuesNeedLuck, TableIsOne};
 ghost use Rattle.protocols.specs.RootColumns.{RootsHoldColumns};
-ghost use Rattle.protocols.specs.SmallOpenings.{SmallValuesAreBound, SmallVerdictsAgree};
 ghost use Rattle.protocols.specs.SoundnessErrors.{FewRunsSave};
 
-pub use crate::small_tables::{
-    false_parts_need_root, mixed_sums_are_parts, small_values_are_weighted,
-};
 use field_bytes::ShortElement;
 pub use sum_checks::laws::{
     false_claims_need_luck, false_zeros_need_luck, few_challenges_save, honest_reduces,
@@ -80,34 +74,10 @@ pub fn table_is_one()
     ensures { TableIsOne }
 {}
 
-/// States soundness of the commitment scheme for every prover: openings of one root that `commitment_scheme::verify` accepts, any number
-/// of them, in transcripts of any challenger and for every hash function whose digests have one length, each show their value of the one
-/// table to which the root's columns commit, or a coordinate of the point is one of few, or the places are; or two of them have two inputs
-/// of the hash function that differ and have one digest.
-pub fn values_are_bound<
-    F: ShortElement,
-    C: CanObserve<F> + CanSample<F> + GrindingChallenger<Witness = F> + CanSampleUniformBits<F>,
->()
-    ensures { ValuesAreBound C.observes C.gives C.passing C.checks C.gives_bits F.repr F.NUM_BYTES F.width F.product
-        (λ i. F.basis (F.cantor i)) }
-{
-    opened_values_need_luck();
-    roots_hold_columns();
-}
-
-/// States completeness of the commitment scheme with what `commitment_scheme::open` says: in transcripts of the same state, whatever the
-/// challenger and the hash function are, the verdict on one opening is the same. So a verifier accepts what a prover has opened.
-pub fn verdicts_agree<
-    F: ShortElement,
-    C: CanObserve<F> + CanSample<F> + GrindingChallenger<Witness = F> + CanSampleUniformBits<F>,
->()
-    ensures { VerdictsAgree C.state C.observes C.gives C.passing C.checks C.gives_bits F.repr F.NUM_BYTES F.width F.product
-        (λ i. F.basis (F.cantor i)) }
-{}
-
-/// States the same of `joint_tables::verify_tables`: openings of the same roots that it accepts, any number of them, each show their values
-/// of the one table to which the columns of each root commit, or a challenge or a coordinate of the point is one of few, or the places are;
-/// or two of them have two inputs of the hash function that differ and have one digest, under one of the roots.
+/// States soundness of the commitment scheme for every prover: openings of the same roots that `joint_tables::verify_tables` accepts, any
+/// number of them, in transcripts of any challenger and for every hash function whose digests have one length, each show their values of the
+/// one table to which the columns of each root commit, or a challenge or a coordinate of the point is one of few, or the places are; or two of
+/// them have two inputs of the hash function that differ and have one digest, under one of the roots. One root has no challenges.
 pub fn tables_are_bound<
     F: ShortElement,
     C: CanObserve<F> + CanSample<F> + GrindingChallenger<Witness = F> + CanSampleUniformBits<F>,
@@ -119,8 +89,9 @@ pub fn tables_are_bound<
     roots_hold_columns();
 }
 
-/// States completeness of openings of several tables with what `joint_tables::open_tables` says: in transcripts of the same state the
-/// verdict on one opening is the same, and leads to the same state. So a verifier accepts what a prover has opened, and may go on.
+/// States completeness of the commitment scheme with what `joint_tables::open_tables` says: in transcripts of the same state, whatever the
+/// challenger and the hash function are, the verdict on one opening is the same, and leads to the same state. So a verifier accepts what a
+/// prover has opened, and may go on.
 pub fn table_verdicts_agree<
     F: ShortElement,
     C: CanObserve<F> + CanSample<F> + GrindingChallenger<Witness = F> + CanSampleUniformBits<F>,
@@ -129,72 +100,9 @@ pub fn table_verdicts_agree<
         (λ i. F.basis (F.cantor i)) }
 {}
 
-/// States soundness of openings of several tables at several points for every prover: openings of the same roots that
-/// `many_points::verify_points` accepts, any number of them, in transcripts of any challenger and for every hash function whose digests have
-/// one length, each show their values at all their points of the one table to which the columns of each root commit; or a challenge that
-/// combines tables or points is the root of a line that is not 0, or a challenge of the sum-check saves its claim, or a challenge or a
-/// coordinate where it ends, or the places, are few that are lucky; or two openings have two inputs of the hash function that differ and have
-/// one digest, under one of the roots.
-pub fn points_are_bound<
-    F: ShortElement,
-    C: CanObserve<F> + CanSample<F> + GrindingChallenger<Witness = F> + CanSampleUniformBits<F>,
->()
-    ensures { PointsAreBound C.observes C.gives C.passing C.checks C.gives_bits F.repr F.NUM_BYTES F.width F.product
-        (λ i. F.basis (F.cantor i)) }
-{
-    zero_needs_root();
-    false_claims_need_luck();
-    tables_are_bound::<F, C>();
-}
-
-/// States completeness of openings at several points with what `many_points::open_points` says: in transcripts of the same state the verdict
-/// on one opening is the same, and leads to the same state. So a verifier accepts what a prover has opened, and may go on.
-pub fn point_verdicts_agree<
-    F: ShortElement,
-    C: CanObserve<F> + CanSample<F> + GrindingChallenger<Witness = F> + CanSampleUniformBits<F>,
->()
-    ensures { PointVerdictsAgree C.state C.observes C.gives C.passing C.checks C.gives_bits F.repr F.NUM_BYTES F.width F.product
-        (λ i. F.basis (F.cantor i)) }
-{}
-
-/// States soundness of openings of tables of small elements for every prover: openings of one root that `small_tables::verify_small` accepts,
-/// any number of them, in transcripts of any challenger and for every hash function whose digests have one length, each show their value of
-/// the small elements that the one table packs to which the root's columns commit; or a coordinate of the point that mixes the parts is the
-/// root of a line that is not 0, or a challenge of the sum-check saves its claim, or the coordinates where it ends, or the places, are few
-/// that are lucky; or two openings have two inputs of the hash function that differ and have one digest.
-pub fn small_values_are_bound<
-    F: ShortElement,
-    C: CanObserve<F> + CanSample<F> + GrindingChallenger<Witness = F> + CanSampleUniformBits<F>,
->()
-    ensures { SmallValuesAreBound C.observes C.gives C.passing C.checks C.gives_bits F.repr F.NUM_BYTES F.width F.product
-        (λ i. F.basis (F.cantor i)) }
-{
-    small_values_are_weighted();
-    mixed_sums_are_parts();
-    false_parts_need_root();
-    false_claims_need_luck();
-    values_are_bound::<F, C>();
-}
-
-/// States completeness of openings of tables of small elements with what `small_tables::open_small` says: in transcripts of the same state
-/// the verdict on one opening is the same. So a verifier accepts what a prover has opened.
-pub fn small_verdicts_agree<
-    F: ShortElement,
-    C: CanObserve<F> + CanSample<F> + GrindingChallenger<Witness = F> + CanSampleUniformBits<F>,
->()
-    ensures { SmallVerdictsAgree C.state C.observes C.gives C.passing C.checks C.gives_bits F.repr F.NUM_BYTES F.width F.product
-        (λ i. F.basis (F.cantor i)) }
-{}
-
-/// States the soundness error of an opening as a number of bits over every field of 2^128 elements: of all coordinates that combine rows
-/// and of all numbers of places, at most one of 2^bits accepts a row that is not that of the table to which the columns commit.
-pub fn few_openings_cheat()
-    ensures { FewOpeningsCheat }
-{
-    few_quarter_rate_cheats();
-}
-
-/// States the same of tables that are opened together, where each challenge is one coordinate more.
+/// States the soundness error of an opening as a number of bits over every field of 2^128 elements: of all challenges that combine tables, of
+/// which each is one coordinate more and of which one table has none, of all coordinates that combine rows and of all numbers of places, at
+/// most one of 2^bits accepts a row that is not that of the tables to which the columns commit.
 pub fn few_tables_cheat()
     ensures { FewTablesCheat }
 {

@@ -1,5 +1,5 @@
-//! What joins protocols over any field: the low-degree extension of a message by an additive transform, commitments to tables of large and
-//! of small elements whose values are opened at points, sums of products, and proofs as bytes. It passes on sum-checks and Merkle trees.
+//! What joins protocols over any field: the low-degree extension of a message by an additive transform, commitments to tables whose values
+//! are opened at points, sums of products, and proofs as bytes. It passes on sum-checks and Merkle trees.
 #![tactic(auto)]
 
 pub mod commitment_scheme;
@@ -7,10 +7,8 @@ pub mod extension;
 pub mod interleaved;
 pub mod joint_tables;
 pub mod laws;
-pub mod many_points;
 pub mod product_sums;
 pub mod proof_bytes;
-pub mod small_tables;
 pub mod tables;
 
 pub use sum_checks::{ProtocolError, statement, sumcheck, terms, zero_check};

@@ -4,7 +4,6 @@ mod code_words;
 mod far_matrices;
 mod honest;
 mod joint;
-mod many_points;
 mod openings;
 mod rows;
 mod small;

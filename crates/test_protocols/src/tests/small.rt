@@ -10,8 +10,8 @@ use field_element::{BinaryField8, BinaryField32};
 use field_space::BasedVectorSpace;
 use linked_list_allocator::LocalHeap;
 use protocols::ProtocolError;
-use protocols::commitment_scheme::{ClaimedValue, Parameters, ValueOpening, commit};
-use protocols::small_tables::{OpenedSmall, SmallField, SmallOpening, open_small, verify_small};
+use protocols::commitment_scheme::{Parameters, commit};
+use small_tables::{OpenedSmall, SmallField, open_small, verify_small};
 use std::alloc::{AllocError, Allocator, Global};
 use test_elements::{Ending, Growing, Rest, is_refused_in_turn};
 use transcript_elements::ByteLevel;
@@ -96,20 +96,6 @@ fn is_accepted<F: ByteLevel + BasedVectorSpace<F>, A: Allocator + Copy>(
     if F::bits() < 26 || point.len() != 2 + small.levels {
         return Err(ProtocolError::Shape);
     }
-    let value = sent.value;
-    let claim = ClaimedValue { point, value };
-    let packed = &sent.packed;
-    let proof = SmallOpening {
-        parts: sent.parts.as_slice(),
-        messages: sent.messages.as_slice(),
-        value: packed.value,
-        packed: ValueOpening {
-            row: packed.row.as_slice(),
-            witness: packed.witness,
-            columns: packed.columns.as_slice(),
-            nodes: packed.nodes.as_slice(),
-        },
-    };
     let (hasher, root) = (&Sha256Hasher, opening.root);
     let mut verifier = hashed::<F, A>(Vec::new(alloc));
     verify_small(
@@ -119,8 +105,8 @@ fn is_accepted<F: ByteLevel + BasedVectorSpace<F>, A: Allocator + Copy>(
         &sizes,
         small,
         root,
-        &claim,
-        &proof,
+        point,
+        sent,
     )
 }
 
@@ -129,7 +115,7 @@ fn apply<F: ByteLevel>(sent: &mut OpenedSmall<F, Global>, change: Change) {
         Change::Value => sent.value = sent.value + F::ONE,
         Change::Part => increment(sent.parts.as_mut_slice(), 1),
         Change::Message => increment(sent.messages.as_mut_slice(), 2),
-        Change::Packed => sent.packed.value = sent.packed.value + F::ONE,
+        Change::Packed => increment(sent.packed.values.as_mut_slice(), 0),
         Change::Row => increment(sent.packed.row.as_mut_slice(), 0),
     }
 }

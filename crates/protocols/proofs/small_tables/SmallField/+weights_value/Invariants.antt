@@ -1,6 +1,0 @@
-use Rattle.std.proofs.Common.{length}
-use Rattle.protocols.proofs.small_tables.SmallField.+weights_value.Given as goal
-
--- the coordinates that are left
-abbrev pub decreases-weights_value : goal.decreases-weights_value
-decreases-weights_value g l = length l.first.now

@@ -1,0 +1,3 @@
+mod SmallFields
+mod SmallOpenings
+mod SmallParts

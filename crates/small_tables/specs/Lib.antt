@@ -1,0 +1,2 @@
+pub mod SmallOpenings
+pub mod SmallTables
