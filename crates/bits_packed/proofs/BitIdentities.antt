@@ -1,5 +1,5 @@
 -- The identity matrix over GF(2) behind the words of another, and the inverse that reducing the two leaves.
-use Rattle.std.proofs.Common.{◌≡◌, ◌≢◌, ◌⊎◌, inl, inr, ℕ, ◌+◌, ◌-◌, ◌*◌, ◌<◌, ◌≤◌, Bool, List, length, refl, sym, ◌∙◌, ap, arith, below_more}
+use Rattle.std.proofs.Common.{◌≡◌, ◌≢◌, ◌⊎◌, inl, inr, ℕ, ◌+◌, ◌-◌, ◌*◌, ◌<◌, ◌≤◌, Bool, List, refl, sym, ◌∙◌, ap, arith}
 use Rattle.std.specs.Prelude.{bit_xor, if◌then◌else◌, nat_lt}
 use Rattle.std.proofs.lemmas.Bool.{cases_eq, cases_lt, le-ltb, lt-ltb}
 use Rattle.field_base.specs.lemmas.BitRing.{bits_ring}
@@ -44,32 +44,6 @@ identity_row words row from place old mid now cleared added = record {
         added.others row j inside (inr differs) ∙ zero_there j inside past
         ∙ sym (identity-other place (j - 64 * from) (λ e. differs (omega (arith, e, past))))
 
--- ---- row after row
-
--- the rows before row n have what is wanted, and the others what they had
-pub record BitRowsWritten (words : ℕ) (wanted : ℕ → ℕ → ℕ) (old now : List ℕ) (n : ℕ) : Type 0 where
-  pub shape : length now ≡ length old
-  pub done : (i j : ℕ) → i < n → j < 64 * words → bit_entry words now i j ≡ wanted i j
-  pub rest : (i j : ℕ) → n ≤ i → j < 64 * words → bit_entry words now i j ≡ bit_entry words old i j
-
-pub rows_none : (words : ℕ) (wanted : ℕ → ℕ → ℕ) (old : List ℕ) → BitRowsWritten words wanted old old 0
-rows_none words wanted old =
-    record { shape = refl; done = λ i j below inside. absurd (omega (arith, below)); rest = λ i j past inside. refl }
-
-pub rows_more : (words : ℕ) (wanted : ℕ → ℕ → ℕ) (own : ℕ → ℕ) (old now next : List ℕ) (n : ℕ) → BitRowsWritten words wanted old now n
-    → IsBitRowWritten words n own now next → ((j : ℕ) → j < 64 * words → own j ≡ wanted n j)
-    → BitRowsWritten words wanted old next (n + 1)
-rows_more words wanted own old now next n so_far write is =
-    record {
-      shape = write.shape ∙ so_far.shape;
-      done = λ i j below inside.
-          below_more (λ k. bit_entry words next k j ≡ wanted k j) n
-          (λ k before. write.others k j (λ e. absurd (omega (arith, e, before))) inside ∙ so_far.done k j before inside)
-          (write.entries j inside ∙ is j inside) i below;
-      rest = λ i j past inside.
-          write.others i j (λ e. absurd (omega (arith, e, past))) inside ∙ so_far.rest i j (omega (arith, past)) inside;
-    }
-
 -- ---- the inverse
 
 -- where a column of a matrix beside another stands, of two with n columns in `half` words a row
@@ -82,7 +56,7 @@ column_of-left half n j before = ap (λ (b : Bool). if b then j else 64 * half +
 column_of-right : (half n j : ℕ) → n ≤ j → column_of half n j ≡ 64 * half + (j - n)
 column_of-right half n j past = ap (λ (b : Bool). if b then j else 64 * half + (j - n)) (le-ltb j n past)
 
-module _ (half n r : ℕ) (fits : n ≤ 64 * half) (pivot : ℕ → ℕ) (old beside now : List ℕ)
+module _ (half : ℕ) {n r : ℕ} (fits : n ≤ 64 * half) {pivot : ℕ → ℕ} (old beside now : List ℕ)
     (identity : (i j : ℕ) → i < n → j < 64 * (half + half)
     → bit_entry (half + half) beside i j ≡ beside_identity (64 * half) (bit_entry (half + half) old) i j)
     (reduced : IsReducedEchelon n n r pivot (bit_entry (half + half) now))
@@ -154,7 +128,7 @@ module _ (half n r : ℕ) (fits : n ≤ 64 * half) (pivot : ℕ → ℕ) (old be
   pub bit_inverse_found : r ≡ n → AreInverseMatrices (tower_mul 0) n (bit_entry (half + half) old)
       (λ i j. bit_entry (half + half) now i (64 * half + j))
   bit_inverse_found full =
-      let found = inverse_found 1 (tower_mul 0) bits_ring n r pivot (bit_entry (half + half) old) M N
+      let found = inverse_found bits_ring (bit_entry (half + half) old)
       (λ i j. entry-lt (half + half) beside i (column_of half n j)) (λ i j. entry-lt (half + half) now i (column_of half n j)) halves left_reduced
       both_same full in (
         λ i j inside within. found.0 i j inside within
@@ -170,7 +144,7 @@ module _ (half n r : ℕ) (fits : n ≤ 64 * half) (pivot : ℕ → ℕ) (old be
   pub bit_inverse_missing : r ≢ n → (B : ℕ → ℕ → ℕ)
       → IsMatrixProduct (tower_mul 0) n n n B (bit_entry (half + half) old) identity_entry → ⊥
   bit_inverse_missing =
-      inverse_missing 1 (tower_mul 0) bits_ring n r pivot (bit_entry (half + half) old) M N
+      inverse_missing bits_ring (bit_entry (half + half) old)
       (λ i j. entry-lt (half + half) beside i (column_of half n j)) (λ i j. entry-lt (half + half) now i (column_of half n j)) halves left_reduced
       both_same
 

@@ -8,7 +8,7 @@ use Rattle.field_base.specs.lemmas.BitRing.{bits_ring}
 use Rattle.field_base.specs.Tower.{tower_mul}
 use Rattle.field_base.proofs.PowerLemmas.{one-times}
 use Rattle.field_slices.specs.Matrices.{cleared_entry, joined_entry}
-use Rattle.field_slices.proofs.Elimination.{PivotMade, brought-nonzero, cleared-other, cleared-own, joined-other, joined-same, pivot-made}
+use Rattle.field_slices.proofs.Elimination.{PivotMade, brought-nonzero, cleared-other, cleared-own, joined-nonzero, joined-other, joined-same, joins_other, joins_same, pivot-made}
 use Rattle.bits_packed.specs.BitMatrices.{ArePivotPlaces, IsBitRowWritten, IsBitWritten, IsStripAdded, bit_entry, present_bit, word_of}
 use Rattle.bits_packed.proofs.BitRows.{entry-lt, one_bit}
 use Rattle.bits_packed.proofs.PendingSums.{joined-sum, pivot-clears, present-before, present-free, present-lt, present-same}
@@ -43,7 +43,7 @@ module _ (rows columns rank row column : ℕ) (old brought cleared : ℕ → ℕ
   -- there is nothing to scale
   pivot-cleared : PivotMade (tower_mul 0) rows columns rank row column old cleared
   pivot-cleared =
-      pivot-made 1 (tower_mul 0) bits_ring rows columns rank row column rank_within row_within column_within old brought brought cleared
+      pivot-made bits_ring rows columns rank row column rank_within row_within column_within old brought brought cleared
       old_fits brought_fits brought_fits cleared_fits joins_same joins_other joins_rest
       1 (ap (λ (x : ℕ). tower_mul 0 x 1) leading_one ∙ one-times 1 1 (tower_mul 0) bits_ring 1 (lit< tt)) (lit< tt)
       (λ j inside. sym (times_one j)) (λ i j other inside. refl)
@@ -52,7 +52,7 @@ module _ (rows columns rank row column : ℕ) (old brought cleared : ℕ → ℕ
 
 -- ---- of packed matrices
 
-module _ (words rows rank row column : ℕ) (places next old brought taken new : List ℕ) (rank_within : rank < rows) (row_within : row < rows)
+module _ (words : ℕ) {rows rank row column : ℕ} (places next old : List ℕ) {brought taken new : List ℕ} (rank_within : rank < rows) (row_within : row < rows)
     (behind : rank ≤ row) (column_within : column < 64 * words) (has : ArePivotPlaces rows rank (column % 64) (slice_index places))
     (nonzero : bit_entry words old row column ≢ 0) (first : row ≢ rank → bit_entry words old rank column ≡ 0)
     (rank_zeros : (j : ℕ) → j < column → present_bit rows words column places old rank j ≡ 0)
@@ -91,7 +91,7 @@ module _ (words rows rank row column : ℕ) (places next old brought taken new :
   next_other b other = ap (λ (ps : List ℕ). slice_index ps b) sets ∙ get_or-set_other places bit b rank 0 other
 
   -- the places are those of rows up to the new one
-  pub places-more : ArePivotPlaces rows (rank + 1) (bit + 1) (slice_index next)
+  places-more : ArePivotPlaces rows (rank + 1) (bit + 1) (slice_index next)
   places-more =
       record {
         taken = λ b inside is. elim (cases_eq b bit) [
@@ -116,16 +116,10 @@ module _ (words rows rank row column : ℕ) (places next old brought taken new :
   abbrev B : ℕ → ℕ → ℕ
   B = bit_entry words brought
 
-  adds_same : row ≡ rank → (j : ℕ) → j < 64 * words → B rank j ≡ A rank j
-  adds_same own j inside = brings.entries j inside ∙ joined-same rank row A j own
-
-  adds_other : row ≢ rank → (j : ℕ) → j < 64 * words → B rank j ≡ bit_xor (A rank j) (A row j)
-  adds_other other j inside = brings.entries j inside ∙ joined-other rank row A j other
-
   one : B rank column ≡ 1
   one =
       one_bit (B rank column) (entry-lt words brought rank column)
-      (brought-nonzero (64 * words) rank row column A B column_within adds_same adds_other nonzero first)
+      (joined-nonzero column_within brings nonzero first)
 
   zeros : (j : ℕ) → j < start → B rank j ≡ 0
   zeros j before =
@@ -212,11 +206,11 @@ module _ (words rows rank row column : ℕ) (places next old brought taken new :
   joined_same : row ≡ rank → (j : ℕ) → j < 64 * words → joined rank j ≡ was rank j
   joined_same own =
       present-same rows start (64 * words) (slice_index places) A B strip_within
-      (λ b j inside is fits. brings.others (slice_index places b) j (apart b inside is).0 fits) rank (adds_same own)
+      (λ b j inside is fits. brings.others (slice_index places b) j (apart b inside is).0 fits) rank (joins_same column_within brings own)
 
   joined_other : row ≢ rank → (j : ℕ) → j < 64 * words → joined rank j ≡ bit_xor (was rank j) (was row j)
   joined_other other =
-      joined-sum rows start (64 * words) rank row (slice_index places) A B (entry-lt words old) strip_within apart (adds_other other) brings.others
+      joined-sum rows start (64 * words) rank row (slice_index places) A B (entry-lt words old) strip_within apart (joins_other column_within brings other) brings.others
 
   joined_rest : (i j : ℕ) → i ≢ rank → j < 64 * words → joined i j ≡ was i j
   joined_rest i j other fits =
@@ -231,9 +225,12 @@ module _ (words rows rank row column : ℕ) (places next old brought taken new :
       own_bits own_bit other_bits other_bit outside_word)
 
   pub pivot-pending : PivotMade (tower_mul 0) rows (64 * words) rank row column was is_now
-  pivot-pending =
-      pivot-cleared rows (64 * words) rank row column was joined is_now rank_within row_within column_within
-      (present-lt rows start (slice_index places) A (entry-lt words old)) (present-lt rows start (slice_index places) B (entry-lt words brought))
-      (present-lt rows start (slice_index next) (bit_entry words new) (entry-lt words new))
-      joined_same joined_other joined_rest clears
-      (λ e. nonzero (sym (in_own_column row) ∙ e)) (λ other. in_own_column rank ∙ first other)
+      × ArePivotPlaces rows (rank + 1) (bit + 1) (slice_index next)
+  pivot-pending = (
+    pivot-cleared rows (64 * words) rank row column was joined is_now rank_within row_within column_within
+        (present-lt rows start (slice_index places) A (entry-lt words old)) (present-lt rows start (slice_index places) B (entry-lt words brought))
+        (present-lt rows start (slice_index next) (bit_entry words new) (entry-lt words new))
+        joined_same joined_other joined_rest clears
+        (λ e. nonzero (sym (in_own_column row) ∙ e)) (λ other. in_own_column rank ∙ first other),
+    places-more,
+  )

@@ -11,7 +11,8 @@ use lib.Bits.{xor_zero_r}
 use Rattle.field_base.specs.Basis.{sum_below}
 use Rattle.field_base.specs.lemmas.BitRing.{two_cases}
 use Rattle.field_base.proofs.BasisSums.{sum_below-same}
-use Rattle.field_slices.specs.Matrices.{HaveSameRowSpace, IsReducedEchelon, IsRowCombination}
+use Rattle.field_base.specs.Tower.{tower_mul}
+use Rattle.field_slices.specs.Matrices.{AreRowsReduced, HaveSameRowSpace, IsReducedEchelon, IsRowCombination}
 use Rattle.field_slices.proofs.MatrixRows.{places-differ}
 use Rattle.bits_packed.specs.BitMatrices.{IsBitRowWritten, IsBitWritten, IsRangeWritten, bit_entry, kept_before, word_of}
 use Rattle.bits_packed.proofs.FourRowTables.{bit_of_product, bit_of_xor}
@@ -190,7 +191,14 @@ module _ (times : ℕ → ℕ → ℕ) (rows columns some : ℕ) (place : ℕ �
       → HaveSameRowSpace times rows some (λ i j. A i (place j)) (λ i j. B i (place j))
   space_of_columns A B same = λ v. (passes A B same v, passes B A (λ u. ((same u).1, (same u).0)) v)
 
--- ---- matrices with the same entries
+-- ---- matrices that are read alike
+
+-- the words of a row are counted in two ways
+pub same_words : {words count : ℕ} → words ≡ count → {rows columns rank : ℕ} {old now was pivots : List ℕ}
+    → AreRowsReduced (bit_entry words) (tower_mul 0) rows (64 * words) columns rank old now was pivots
+    → AreRowsReduced (bit_entry count) (tower_mul 0) rows (64 * count) columns rank old now was pivots
+same_words are {rows} {columns} {rank} {old} {now} {was} {pivots} =
+    subst (λ (n : ℕ). AreRowsReduced (bit_entry n) (tower_mul 0) rows (64 * n) columns rank old now was pivots) are
 
 module _ (rows columns : ℕ) (A B : ℕ → ℕ → ℕ) (same : (i j : ℕ) → i < rows → j < columns → B i j ≡ A i j) where
   pub space_equal : (times : ℕ → ℕ → ℕ) → HaveSameRowSpace times rows columns A B

@@ -100,12 +100,10 @@ pub group-step : (first g weight bits row : ℕ) (product old now next : List �
     → IsRangeWritten first (8 * (g + 1)) (λ p. bit_xor (slice_index old (first + p)) (weight * bit_entry 8 product row p)) old next
 group-step first g weight bits row product old now next is so_far more =
     subst (λ (n : ℕ). IsRangeWritten first n wanted old next) count
-    (range_more first (8 * g) 8 wanted old now next so_far
-    (range_same (first + 8 * g) 8 (λ p. bit_xor (slice_index now (first + 8 * g + p)) (weight * bit_at bits p)) (λ p. wanted (8 * g + p)) now next
-    (λ p below.
+    (range_more so_far (range_same (λ p below.
     let place : first + 8 * g + p ≡ first + (8 * g + p) = omega arith in
     ap₂ (λ (x y : ℕ). bit_xor x (weight * y))
-    (ap (slice_index now) place ∙ range_rest first (8 * g) wanted old now so_far (8 * g + p) (omega arith))
+    (ap (slice_index now) place ∙ range_rest so_far (8 * g + p) (omega arith))
     (group-bit product row g p bits is below))
     more))
   where

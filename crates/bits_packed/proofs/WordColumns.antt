@@ -8,7 +8,7 @@ use lib.Bits.{xor_self, xor_zero_r}
 use Rattle.std.specs.Int.Bits.{xor_zero_l}
 use Rattle.field_base.proofs.BasisSums.{sum_below-same}
 use Rattle.field_slices.specs.Matrices.{identity_entry}
-use Rattle.bits_packed.specs.BitMatrices.{ArePivotsSet, AreWordsAdded, HasTables, IsBitWritten, IsRangeWritten, IsStripAdded, bit_entry, pending_sum, present_entry, entry_within, row_word, sum_at_bits, sum_of_digits, word_of}
+use Rattle.bits_packed.specs.BitMatrices.{ArePivotsSet, AreWordsAdded, HasTables, IsBitWritten, IsRangeWritten, IsStripAdded, bit_entry, entry_within, pending_sum, present_entry, row_word, sum_at_bits, sum_of_digits, word_of}
 use Rattle.bits_packed.proofs.FourRowTables.{bit_of_product, bit_of_sum, bit_of_xor, row_behind, row_inside, sum_of_tables}
 use Rattle.bits_packed.proofs.PendingSums.{each_column, entry-inside, entry-none, identity-other, identity-same, present-before, present-behind, present-free, present-none, present-taken}
 use Rattle.bits_packed.proofs.WordRanges.{StripSoFar, range_start, range_step}
@@ -43,8 +43,7 @@ pub word_added : (start at value : ℕ) (old now : List ℕ) → at ≡ start �
 word_added start at value old now own inside is =
     subst (λ (values : List ℕ). IsRangeWritten start 1 (λ p. bit_xor (slice_index old (start + p)) value) old values)
     (ap (λ (a : ℕ). slice_set old a (bit_xor (slice_index old at) value)) place ∙ sym is)
-    (range_step start 0 (λ p. bit_xor (slice_index old (start + p)) value) old old
-    (range_start start (λ p. bit_xor (slice_index old (start + p)) value) old) (bit_xor (slice_index old at) value)
+    (range_step range_start (bit_xor (slice_index old at) value)
     (omega (arith, own, inside)) (ap (λ (a : ℕ). bit_xor (slice_index old a) value) (sym place)))
   where
     place : start + 0 ≡ at

@@ -11,11 +11,11 @@ use lib.Arith.{digits_lt}
 
 -- ---- ranges
 
-pub range_start : (start : ℕ) (wanted : ℕ → ℕ) (old : List ℕ) → IsRangeWritten start 0 wanted old old
-range_start start wanted old =
+pub range_start : {start : ℕ} {wanted : ℕ → ℕ} {old : List ℕ} → IsRangeWritten start 0 wanted old old
+range_start =
     record { shape = refl; written = λ p below. absurd (omega (arith, below)); others = λ p outside. refl }
 
-module _ (start n : ℕ) (wanted : ℕ → ℕ) (old now : List ℕ) (so_far : IsRangeWritten start n wanted old now) where
+module _ {start n : ℕ} {wanted : ℕ → ℕ} {old now : List ℕ} (so_far : IsRangeWritten start n wanted old now) where
   -- a place outside of the longer range is not the one that is written
   apart : (p : ℕ) → (p < start) ⊎ (start + (n + 1) ≤ p) → p ≢ start + n
   apart p (inl before) = λ e. absurd (omega (arith, e, before))
@@ -48,13 +48,13 @@ module _ (start n : ℕ) (wanted : ℕ → ℕ) (old now : List ℕ) (so_far : I
   range_end count e = rw (sym e) so_far
 
 -- other names for the words that are written
-pub range_same : (start count : ℕ) (wanted other : ℕ → ℕ) (old now : List ℕ) → ((p : ℕ) → p < count → wanted p ≡ other p)
+pub range_same : {start count : ℕ} {wanted other : ℕ → ℕ} {old now : List ℕ} → ((p : ℕ) → p < count → wanted p ≡ other p)
     → IsRangeWritten start count wanted old now → IsRangeWritten start count other old now
-range_same start count wanted other old now same write =
+range_same same write =
     record { shape = write.shape; written = λ p inside. write.written p inside ∙ same p inside; others = write.others }
 
 -- a range, and one behind it
-module _ (start n m : ℕ) (wanted : ℕ → ℕ) (old now next : List ℕ) (first : IsRangeWritten start n wanted old now)
+module _ {start n m : ℕ} {wanted : ℕ → ℕ} {old now next : List ℕ} (first : IsRangeWritten start n wanted old now)
     (second : IsRangeWritten (start + n) m (λ p. wanted (n + p)) now next) where
   in_second : (p : ℕ) → n ≤ p → p < n + m → slice_index next (start + p) ≡ wanted p
   in_second p past inside =
@@ -102,9 +102,7 @@ module _ (to from count n m : ℕ) (old now next : List ℕ) (inside : n + m ≤
 
   pub added_more : IsRangeWritten to (n + m) (λ p. bit_xor (slice_index old (to + p)) (slice_index old (from + p))) old next
   added_more =
-      range_more to n m (λ p. bit_xor (slice_index old (to + p)) (slice_index old (from + p))) old now next so_far
-      (range_same (to + n) m (λ p. bit_xor (slice_index now (to + n + p)) (slice_index now (from + n + p)))
-      (λ p. bit_xor (slice_index old (to + (n + p))) (slice_index old (from + (n + p)))) now next part write)
+      range_more so_far (range_same part write)
 
 -- what a word becomes by the sum of the words of a list and those from a place on
 abbrev pub added_to : List ℕ → List ℕ → ℕ → ℕ → ℕ
@@ -188,8 +186,8 @@ pub record StripSoFar (words start width n : ℕ) (sums : ℕ → ℕ → ℕ) (
   pub added : IsStripAdded words start width n sums old now
   pub rest : (i w : ℕ) → n ≤ i → w < width → word_of words now i (start + w) ≡ word_of words old i (start + w)
 
-pub strip_start : (words start width : ℕ) (sums : ℕ → ℕ → ℕ) (old : List ℕ) → StripSoFar words start width 0 sums old old
-strip_start words start width sums old =
+pub strip_start : {words start width : ℕ} {sums : ℕ → ℕ → ℕ} {old : List ℕ} → StripSoFar words start width 0 sums old old
+strip_start =
     record {
       added = record {
         shape = refl;
@@ -199,7 +197,7 @@ strip_start words start width sums old =
       rest = λ i w past inside. refl;
     }
 
-module _ (words start width : ℕ) (strip : IsStrip words start width) (n : ℕ) (sums : ℕ → ℕ → ℕ) (own : ℕ → ℕ) (old now next : List ℕ)
+module _ {words start width : ℕ} (strip : IsStrip words start width) {n : ℕ} {sums : ℕ → ℕ → ℕ} (own : ℕ → ℕ) {old now next : List ℕ}
     (so_far : StripSoFar words start width n sums old now)
     (write : IsRangeWritten (n * words + start) width (λ p. bit_xor (slice_index now (n * words + start + p)) (own p)) now next)
     (is : (w : ℕ) → w < width → own w ≡ sums n w) where
@@ -237,9 +235,9 @@ module _ (words start width : ℕ) (strip : IsStrip words start width) (n : ℕ)
       }
 
 -- nothing is added before the first words are
-pub strip_none : (words start width rows : ℕ) (sums : ℕ → ℕ → ℕ) (old : List ℕ) → ((i w : ℕ) → sums i w ≡ 0)
+pub strip_none : {words start width rows : ℕ} {sums : ℕ → ℕ → ℕ} {old : List ℕ} → ((i w : ℕ) → sums i w ≡ 0)
     → IsStripAdded words start width rows sums old old
-strip_none words start width rows sums old none =
+strip_none {words} {start} {old = old} none =
     record {
       shape = refl;
       added = λ i w below inside. sym (ap (bit_xor (word_of words old i (start + w))) (none i w) ∙ xor_zero_r (word_of words old i (start + w)));
@@ -247,11 +245,11 @@ strip_none words start width rows sums old none =
     }
 
 -- words that are added after others
-pub strip_more : (words start width rows : ℕ) (before more sums : ℕ → ℕ → ℕ) (old mid now : List ℕ)
+pub strip_more : {words start width rows : ℕ} {before more sums : ℕ → ℕ → ℕ} {old mid now : List ℕ}
     → ((i w : ℕ) → i < rows → w < width → bit_xor (before i w) (more i w) ≡ sums i w)
     → IsStripAdded words start width rows before old mid → IsStripAdded words start width rows more mid now
     → IsStripAdded words start width rows sums old now
-strip_more words start width rows before more sums old mid now both first second =
+strip_more {words} {start} {before = before} {more = more} {old = old} both first second =
     record {
       shape = second.shape ∙ first.shape;
       added = λ i w below inside.
@@ -268,19 +266,19 @@ pub record WordsSoFar (words n rows : ℕ) (total : ℕ → ℕ → ℕ) (now : 
   pub done : (i v : ℕ) → i < rows → v < words → v < n → word_of words now i v ≡ total i v
   pub rest : (i v : ℕ) → i < rows → v < words → n ≤ v → word_of words now i v ≡ 0
 
-pub words_start : (words rows len : ℕ) (total : ℕ → ℕ → ℕ) (old now : List ℕ) → len ≡ rows * words
+pub words_start : {words rows len : ℕ} {total : ℕ → ℕ → ℕ} {old now : List ℕ} → len ≡ rows * words
     → IsRangeWritten 0 len (λ p. 0) old now → WordsSoFar words 0 rows total now
-words_start words rows len total old now whole cleared =
+words_start {words} {rows} {len} {old = old} {now = now} whole cleared =
     record {
       done = λ i v inside within below. absurd (omega (arith, below));
       rest = λ i v inside within past.
           front_read len (λ p. 0) old now cleared (i * words + v) (let less = digits_lt inside within in omega (arith, less, whole));
     }
 
-pub words_step : (words start width rows : ℕ) (total : ℕ → ℕ → ℕ) (now next : List ℕ) → IsStrip words start width
+pub words_step : {words start width rows : ℕ} {total : ℕ → ℕ → ℕ} {now next : List ℕ} → IsStrip words start width
     → (width ≡ 8) ⊎ (start + width ≡ words) → WordsSoFar words start rows total now
     → IsStripAdded words start width rows (λ i w. total i (start + w)) now next → WordsSoFar words (start + 8) rows total next
-words_step words start width rows total now next strip last so_far write =
+words_step {words} {start} {width} {rows} {total} {now} {next} strip last so_far write =
     record {
       done = λ i v inside within below. elim (cases_lt v start) [
         | inl before ↦ write.others i v within (inl before) ∙ so_far.done i v inside within before

@@ -1,11 +1,11 @@
 -- Matrices over GF(2), packed: each row in as many words of 64 bits, row after row in a list, place j of a row in bit j % 64 of its word
 -- j / 64. They are multiplied by the method of the four Russians (V. Arlazarov, E. Dinic, M. Kronrod and I. Faradzev, 1970; M. Albrecht,
 -- G. Bard and W. Hart, Efficient Multiplication of Dense Matrices over GF(2), ACM TOMS 37, 2010).
-use Rattle.std.specs.Prelude.{◌≡◌, ◌≢◌, ◌⊎◌, ℕ, ◌+◌, ◌-◌, ◌*◌, ◌/◌, ◌%◌, ◌^◌, ◌<◌, ◌≤◌, List, bit_xor, if◌then◌else◌, length, nat_lt, slice_index}
+use Rattle.std.specs.Prelude.{◌≡◌, ◌⊎◌, ℕ, ◌+◌, ◌-◌, ◌*◌, ◌/◌, ◌%◌, ◌^◌, ◌<◌, ◌≤◌, List, bit_xor, if◌then◌else◌, length, nat_lt, slice_index}
 use Rattle.std.specs.Array.{FillsFrom}
 use Rattle.std.specs.Int.{bit_at, div_ceil}
 use Rattle.field_base.specs.Basis.{sum_below}
-use Rattle.field_slices.specs.Matrices.{identity_entry}
+use Rattle.field_slices.specs.Matrices.{IsEntryWritten, IsRowWritten, identity_entry}
 
 -- how many words a row of so many bits takes
 abbrev pub words_for : ℕ → ℕ
@@ -28,16 +28,12 @@ pub record HasBitEntry (rows words row column len : ℕ) : Type 0 where
   pub column_within : column < 64 * words
 
 -- the row has these entries, in all bits of its words, and the other rows are as they were
-pub record IsBitRowWritten (words row : ℕ) (wanted : ℕ → ℕ) (old now : List ℕ) : Type 0 where
-  pub shape : length now ≡ length old
-  pub entries : (j : ℕ) → j < 64 * words → bit_entry words now row j ≡ wanted j
-  pub others : (i j : ℕ) → i ≢ row → j < 64 * words → bit_entry words now i j ≡ bit_entry words old i j
+abbrev pub IsBitRowWritten : ℕ → ℕ → (ℕ → ℕ) → List ℕ → List ℕ → Type 0
+IsBitRowWritten words = IsRowWritten (bit_entry words) (64 * words)
 
 -- the entry in this row and column has a value, and the others are as they were
-pub record IsBitWritten (words row column value : ℕ) (old now : List ℕ) : Type 0 where
-  pub shape : length now ≡ length old
-  pub written : bit_entry words now row column ≡ value
-  pub others : (i j : ℕ) → j < 64 * words → (i ≢ row) ⊎ (j ≢ column) → bit_entry words now i j ≡ bit_entry words old i j
+abbrev pub IsBitWritten : ℕ → ℕ → ℕ → ℕ → List ℕ → List ℕ → Type 0
+IsBitWritten words = IsEntryWritten (bit_entry words) (64 * words)
 
 -- what a row has before column n, and 0 from there on
 abbrev pub kept_before : ℕ → (ℕ → ℕ) → ℕ → ℕ

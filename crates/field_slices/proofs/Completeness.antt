@@ -8,7 +8,7 @@ use Rattle.field_slices.specs.Multilinear.{AreCornerValues, folded, multilinear_
 use Rattle.field_slices.proofs.CubeLaws.{folded-at, folded-corners, folded-length, line-one, line-zero, lower-at, lower-length, one-value, upper-at, upper-length, value-alone, value-folded}
 use Rattle.field_slices.specs.Sumcheck.{Accepts, AreHonest, IsRound, Quadratic, quadratic_at, sum_of_products}
 
-module _ (width : ℕ) (times : ℕ → ℕ → ℕ) (ring : IsRing width 1 times) (wide : 0 < width) where
+module _ {width : ℕ} {times : ℕ → ℕ → ℕ} (ring : IsRing width 1 times) (wide : 0 < width) where
   -- folding leaves the half whose places are on the lines through both halves
   folded-half : (m r : ℕ) (values half : List ℕ) → AreCornerValues width (suc m) values → length half ≡ 2 ^ m
       → ((i : ℕ) → i < 2 ^ m → on_line times r (slice_index values i) (slice_index values (2 ^ m + i)) ≡ slice_index half i)

@@ -35,7 +35,7 @@ drop-map repr zero xs = refl
 drop-map repr (suc n) [] = refl
 drop-map repr (suc n) (x ∷ xs) = drop-map repr n xs
 
-module _ (width : ℕ) (times : ℕ → ℕ → ℕ) (ring : IsRing width 1 times) (wide : 0 < width) where
+module _ {width : ℕ} {times : ℕ → ℕ → ℕ} (ring : IsRing width 1 times) (wide : 0 < width) where
   eq_corner-lt : (xs : List ℕ) (i : ℕ) → eq_corner times xs i < 2 ^ width
   unfolding eq_corner
   eq_corner-lt [] i = pow_below 0 width wide

@@ -23,7 +23,7 @@ module _ (width : ℕ) (times : ℕ → ℕ → ℕ) (ring : IsRing width 1 time
       → sum_below (λ k. times (sum_below (λ l. times (c l) (R l k)) m) (x k)) n
       ≡ sum_below (λ l. times (c l) (sum_below (λ k. times (R l k) (x k)) n)) m
   unfolding sum_below
-  combination-times c x R n zero = sum_of_nothing width times ring x n
+  combination-times c x R n zero = sum_of_nothing ring x n
   combination-times c x R n (suc m) =
       sum_with width times ring (λ k. sum_below (λ l. times (c l) (R l k)) m) (R m) x (c m) n
       ∙ ap (λ (s : ℕ). bit_xor s (times (c m) (sum_below (λ k. times (R m k) (x k)) n))) (combination-times c x R n m)
@@ -39,9 +39,9 @@ module _ (width : ℕ) (times : ℕ → ℕ → ℕ) (ring : IsRing width 1 time
     unfolding cofactor
     adjugate-product k i k_inside i_inside =
         let sums = λ (c : ℕ). sum_below (λ j. times (A k j) (identity_entry j c)) n in
-        sym (determinant-row_sum width times ring n i A (A k) identity_entry n i_inside)
-        ∙ as_row width times ring n A (with_row i sums A) i (A k)
-        (λ c inside. ap (λ (w : ℕ → ℕ). w c) (row-own i sums A) ∙ product-identity width times ring wide n A A_fits k c inside)
+        sym (determinant-row_sum ring n i A (A k) identity_entry n i_inside)
+        ∙ as_row ring n A (with_row i sums A) i (A k)
+        (λ c inside. ap (λ (w : ℕ → ℕ). w c) (row-own i sums A) ∙ product-identity ring wide n A A_fits k c inside)
         (λ r c _ _ other. ap (λ (w : ℕ → ℕ). w c) (row-other i sums A r other))
         ∙ replaced (cases_eq k i)
       where
@@ -49,12 +49,12 @@ module _ (width : ℕ) (times : ℕ → ℕ → ℕ) (ring : IsRing width 1 time
             → determinant_of times n (with_row i (A k) A) ≡ times (identity_entry k i) (determinant_of times n A)
         replaced (inl same) =
             let d = determinant_of times n A in
-            sym (as_row width times ring n A A i (A k) (λ c _. ap (λ (r : ℕ). A r c) (sym same)) (λ r c _ _ _. refl))
-            ∙ sym (one-times width 1 times ring d (determinant-lt width times ring wide n A))
+            sym (as_row ring n A A i (A k) (λ c _. ap (λ (r : ℕ). A r c) (sym same)) (λ r c _ _ _. refl))
+            ∙ sym (one-times width 1 times ring d (determinant-lt ring wide n A))
             ∙ ap (λ (x : ℕ). times x d) (sym (identity-only k i ∙ only-same i 1 k same))
         replaced (inr other) =
             let d = determinant_of times n A in
-            determinant-equal width times ring n k i (with_row i (A k) A) k_inside i_inside other
+            determinant-equal ring n k i (with_row i (A k) A) k_inside i_inside other
             (row-other i (A k) A k other ∙ sym (row-own i (A k) A))
             ∙ sym (ap (λ (x : ℕ). times x d) (identity-only k i ∙ only-other i 1 k other) ∙ zero-times width 1 times ring d)
 
@@ -78,19 +78,19 @@ module _ (width : ℕ) (times : ℕ → ℕ → ℕ) (ring : IsRing width 1 time
             let is = identity-only k i ∙ only-other i 1 k other in
             ap (λ (x : ℕ). times x 1) is ∙ zero-times width 1 times ring 1 ∙ sym is
 
-module _ (width : ℕ) (times : ℕ → ℕ → ℕ) (ring : IsRing width 1 times) (wide : 0 < width) (inverses : HasInverses width times) (n : ℕ) where
+module _ {width : ℕ} {times : ℕ → ℕ → ℕ} (ring : IsRing width 1 times) (wide : 0 < width) (inverses : HasInverses width times) (n : ℕ) where
   -- what has an inverse from one side has no determinant 0
   one-sided : (A B : ℕ → ℕ → ℕ) → ((i j : ℕ) → A i j < 2 ^ width) → IsMatrixProduct times n n n A B identity_entry
       → times (determinant_of times n A) (determinant_of times n B) ≡ 1
   one-sided A B A_fits is =
-      sym (determinant-product width times ring wide inverses n A B A_fits)
+      sym (determinant-product ring wide inverses n A B A_fits)
       ∙ determinant-same times n (product_entry times n A B) identity_entry (λ i j below inside. sym (is i j below inside))
-      ∙ determinant-identity width times ring wide n
+      ∙ determinant-identity ring wide n
 
   inverse-right : (A : ℕ → ℕ → ℕ) → ((i j : ℕ) → A i j < 2 ^ width) → determinant_of times n A ≢ 0
       → (R : ℕ → ℕ → ℕ) × ((i j : ℕ) → R i j < 2 ^ width) × IsMatrixProduct times n n n A R identity_entry
   inverse-right A A_fits nonzero =
-      let e = inverses (determinant_of times n A) (determinant-lt width times ring wide n A) nonzero in (
+      let e = inverses (determinant_of times n A) (determinant-lt ring wide n A) nonzero in (
         λ j i. times e.0 (cofactor width times ring wide n A A_fits j i),
         λ j i. ring.below e.0 (cofactor width times ring wide n A A_fits j i),
         right-inverse width times ring wide n A A_fits e.0 e.2,
@@ -126,7 +126,7 @@ module _ (width : ℕ) (times : ℕ → ℕ → ℕ) (ring : IsRing width 1 time
           ∙ combination-times width times ring (A i) (λ k. S k j) R n n
           ∙ sum_below-same (λ l. times (A i l) (product_entry times n R S l j)) (λ l. times (A i l) (identity_entry l j)) n
           (λ l within. ap (times (A i l)) (sym (second l j within inside)))
-          ∙ product-identity width times ring wide n A A_fits i j inside
+          ∙ product-identity ring wide n A A_fits i j inside
         where
           identity-product : (i j : ℕ) → i < n → sum_below (λ k. times (identity_entry i k) (S k j)) n ≡ S i j
           identity-product i j within =
@@ -152,6 +152,6 @@ module _ (width : ℕ) (times : ℕ → ℕ → ℕ) (ring : IsRing width 1 time
 
 pub determinant_tells_inverses : DeterminantTellsInverses
 determinant_tells_inverses width times n A wide field A_fits = (
-  inverse-both width times field.ring wide field.inverses n A A_fits,
-  λ none B is. no-left_inverse width times field.ring wide field.inverses n A B none is,
+  inverse-both field.ring wide field.inverses n A A_fits,
+  λ none B is. no-left_inverse field.ring wide field.inverses n A B none is,
 )

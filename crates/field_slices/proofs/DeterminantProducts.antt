@@ -52,12 +52,12 @@ find-nonzero x k (suc n) =
     last none (inr nonzero) (inl before) = inr (λ i past below. absurd (omega (arith, before, past, below)))
     last none (inr nonzero) (inr past) = inl (n, past, omega arith, nonzero)
 
-module _ (width : ℕ) (times : ℕ → ℕ → ℕ) (ring : IsRing width 1 times) (n : ℕ) where
+module _ {width : ℕ} {times : ℕ → ℕ → ℕ} (ring : IsRing width 1 times) (n : ℕ) where
   -- they keep the determinant of a product where row a itself stays
   multiples-keep : (a : ℕ) (t : ℕ → ℕ) (A B : ℕ → ℕ → ℕ) → a < n → t a ≡ 0
       → determinant_of times n (product_entry times n (multiples_added times a t A) B) ≡ determinant_of times n (product_entry times n A B)
   multiples-keep a t A B inside none =
-      determinant-multiples width times ring n a t (product_entry times n A B) (product_entry times n (multiples_added times a t A) B) inside
+      determinant-multiples ring n a t (product_entry times n A B) (product_entry times n (multiples_added times a t A) B) inside
       (λ j _. sums a j
       ∙ ap (bit_xor (product_entry times n A B a j))
       (ap (λ (s : ℕ). times s (product_entry times n A B a j)) none ∙ zero-times width 1 times ring (product_entry times n A B a j))
@@ -191,19 +191,19 @@ sum-one f b (suc n) inside zeros =
     nothing own (suc m) within =
         ap₂ bit_xor (nothing own m (omega (arith, within))) (zeros m (omega (arith, within)) (λ e. absurd (omega (arith, e, own, within))))
 
-module _ (width : ℕ) (times : ℕ → ℕ → ℕ) (ring : IsRing width 1 times) (n : ℕ) where
+module _ {width : ℕ} {times : ℕ → ℕ → ℕ} (ring : IsRing width 1 times) (n : ℕ) where
   -- a row that becomes a combination of all has the factor of its own coefficient
   determinant-combination : (b : ℕ) (A : ℕ → ℕ → ℕ) (x : ℕ → ℕ) → b < n
       → determinant_of times n (with_row b (λ j. sum_below (λ k. times (x k) (A k j)) n) A) ≡ times (x b) (determinant_of times n A)
   determinant-combination b A x inside =
-      determinant-row_sum width times ring n b A x A n inside
+      determinant-row_sum ring n b A x A n inside
       ∙ sum-one (λ k. times (x k) (determinant_of times n (with_row b (A k) A))) b n inside
       (λ k below other. ap (times (x k))
-      (determinant-equal width times ring n k b (with_row b (A k) A) below inside other
+      (determinant-equal ring n k b (with_row b (A k) A) below inside other
       (row-other b (A k) A k other ∙ sym (row-own b (A k) A)))
       ∙ times-zero width 1 times ring (x k))
       ∙ ap (times (x b))
-      (sym (as_row width times ring n A A b (A b) (λ j _. refl) (λ i j _ _ _. refl)))
+      (sym (as_row ring n A A b (A b) (λ j _. refl) (λ i j _ _ _. refl)))
 
   -- the product of a matrix that is 0 below the diagonal with another: its rows take the places of those of the other from the first on
   module _ (wide : 0 < width) (U B : ℕ → ℕ → ℕ) (zeros : (i j : ℕ) → i < n → j < i → U i j ≡ 0) where
@@ -214,12 +214,12 @@ module _ (width : ℕ) (times : ℕ → ℕ → ℕ) (ring : IsRing width 1 time
     triangle-rows zero within =
         determinant-same times n (mixed 0 (product_entry times n U B) B) B
         (λ i j _ _. ap (λ (w : ℕ → ℕ). w j) (mixed-past 0 (product_entry times n U B) B i (omega arith)))
-        ∙ sym (one-times width 1 times ring (determinant_of times n B) (determinant-lt width times ring wide n B))
+        ∙ sym (one-times width 1 times ring (determinant_of times n B) (determinant-lt ring wide n B))
     triangle-rows (suc k) within =
         let C = product_entry times n U B in
         let before = product_below times (λ i. U i i) k in
         let d = determinant_of times n B in
-        as_row width times ring n (mixed k C B) (mixed (suc k) C B) k (λ j. sum_below (λ i. times (U k i) (mixed k C B i j)) n)
+        as_row ring n (mixed k C B) (mixed (suc k) C B) k (λ j. sum_below (λ i. times (U k i) (mixed k C B i j)) n)
         (λ j _. ap (λ (w : ℕ → ℕ). w j) (mixed-before (suc k) C B k (omega arith))
         ∙ sum_below-same (λ i. times (U k i) (B i j)) (λ i. times (U k i) (mixed k C B i j)) n (λ i below. same i j (cases_lt i k)))
         (λ i j _ _ other. mixed-more k C B i j other)
@@ -255,13 +255,13 @@ identity-corner i j =
           ∙ sym (only-other j 1 i other) ∙ sym (identity-only i j)
     ]
 
-module _ (width : ℕ) (times : ℕ → ℕ → ℕ) (ring : IsRing width 1 times) (wide : 0 < width) where
+module _ {width : ℕ} {times : ℕ → ℕ → ℕ} (ring : IsRing width 1 times) (wide : 0 < width) where
   -- its determinant is 1
   pub determinant-identity : (n : ℕ) → determinant_of times n identity_entry ≡ 1
   unfolding determinant_of
   determinant-identity zero = refl
   determinant-identity (suc n) =
-      determinant-corner width times ring n identity_entry
+      determinant-corner ring n identity_entry
       (λ i _. identity-only (suc i) 0 ∙ only-other 0 1 (suc i) (λ e. absurd (omega (arith, e))))
       ∙ ap₂ times (identity-only 0 0 ∙ only-same 0 1 0 refl)
       (determinant-same times n (λ i j. identity_entry (suc i) (suc j)) identity_entry (λ i j _ _. identity-corner i j)
@@ -285,17 +285,17 @@ module _ (width : ℕ) (times : ℕ → ℕ → ℕ) (ring : IsRing width 1 time
   pub determinant-product : HasInverses width times → (n : ℕ) (A B : ℕ → ℕ → ℕ) → ((i j : ℕ) → A i j < 2 ^ width)
       → determinant_of times n (product_entry times n A B) ≡ times (determinant_of times n A) (determinant_of times n B)
   determinant-product inverses n A B A_fits =
-      let U = triangular width times ring n A inverses A_fits n (omega arith) in
+      let U = triangular ring n A inverses A_fits n (omega arith) in
       let diagonal = product_below times (λ i. U.0 i i) n in
       let zeros = λ (i j : ℕ) (within : i < n) (below : j < i). U.1.zeros i j within below (omega (arith, within, below)) in
       let own : determinant_of times n A ≡ diagonal =
       determinant-same times n A (product_entry times n A identity_entry) (λ i j _ within. sym (product-identity n A A_fits i j within))
-      ∙ sym (U.1.keeps identity_entry) ∙ triangle-product width times ring n wide U.0 identity_entry zeros
+      ∙ sym (U.1.keeps identity_entry) ∙ triangle-product ring n wide U.0 identity_entry zeros
       ∙ ap (times diagonal) (determinant-identity n) ∙ times-one width 1 times ring diagonal (product_below-lt (λ i. U.0 i i) n) in
-      sym (U.1.keeps B) ∙ triangle-product width times ring n wide U.0 B zeros
+      sym (U.1.keeps B) ∙ triangle-product ring n wide U.0 B zeros
       ∙ ap (λ (x : ℕ). times x (determinant_of times n B)) (sym own)
 
 pub determinants_multiply : DeterminantsMultiply
 determinants_multiply width times n A B C wide field A_fits is =
     determinant-same times n C (product_entry times n A B) (λ i j below inside. is i j below inside)
-    ∙ determinant-product width times field.ring wide field.inverses n A B A_fits
+    ∙ determinant-product field.ring wide field.inverses n A B A_fits

@@ -52,7 +52,7 @@ module _ (b : ℕ) (x : ℕ → ℕ) (A : ℕ → ℕ → ℕ) where
   pub row-other : (i : ℕ) → i ≢ b → with_row b x A i ≡ A i
   row-other i other = ap (λ (t : Bool). if t then x else A i) (ne_eqb i b other)
 
-module _ (width : ℕ) (times : ℕ → ℕ → ℕ) (ring : IsRing width 1 times) where
+module _ {width : ℕ} {times : ℕ → ℕ → ℕ} (ring : IsRing width 1 times) where
   -- With u and v in two rows that follow each other, those with u + v in both give 0, which is the sum of those with u and u, u and v, v and
   -- u, and v and v.
   module _ (n q : ℕ) (inside : suc q < n) (A : ℕ → ℕ → ℕ) where
@@ -62,19 +62,19 @@ module _ (width : ℕ) (times : ℕ → ℕ → ℕ) (ring : IsRing width 1 time
     both-same : (x : ℕ → ℕ) → with_both x x ≡ 0
     unfolding with_both
     both-same x =
-        determinant-pair width times ring n q (with_rows q x x A) inside (rows-first q x x A ∙ sym (rows-second q x x A))
+        determinant-pair ring n q (with_rows q x x A) inside (rows-first q x x A ∙ sym (rows-second q x x A))
 
     both-first : (u v y : ℕ → ℕ) → with_both (combined times 1 u v) y ≡ bit_xor (with_both u y) (times 1 (with_both v y))
     unfolding with_both
     both-first u v y =
-        determinant-linear width times ring n q 1 (with_rows q u y A) (with_rows q v y A) (with_rows q (combined times 1 u v) y A)
+        determinant-linear ring n q 1 (with_rows q u y A) (with_rows q v y A) (with_rows q (combined times 1 u v) y A)
         (omega (arith, inside)) (agree-first q (combined times 1 u v) y A u) (agree-first q (combined times 1 u v) y A v)
         (rows-first q (combined times 1 u v) y A ∙ sym (ap₂ (combined times 1) (rows-first q u y A) (rows-first q v y A)))
 
     both-second : (x u v : ℕ → ℕ) → with_both x (combined times 1 u v) ≡ bit_xor (with_both x u) (times 1 (with_both x v))
     unfolding with_both
     both-second x u v =
-        determinant-linear width times ring n (suc q) 1 (with_rows q x u A) (with_rows q x v A) (with_rows q x (combined times 1 u v) A)
+        determinant-linear ring n (suc q) 1 (with_rows q x u A) (with_rows q x v A) (with_rows q x (combined times 1 u v) A)
         inside (agree-second q x (combined times 1 u v) A u) (agree-second q x (combined times 1 u v) A v)
         (rows-second q x (combined times 1 u v) A ∙ sym (ap₂ (combined times 1) (rows-second q x u A) (rows-second q x v A)))
 
@@ -106,7 +106,7 @@ module _ (width : ℕ) (times : ℕ → ℕ → ℕ) (ring : IsRing width 1 time
   unfolding with_both
   determinant-apart n zero a A inside same =
       let none : a + 0 ≡ a = omega arith in
-      determinant-pair width times ring n a A (omega (arith, inside)) (same ∙ ap (λ (k : ℕ). A (suc k)) none)
+      determinant-pair ring n a A (omega (arith, inside)) (same ∙ ap (λ (k : ℕ). A (suc k)) none)
   determinant-apart n (suc d) a A inside same =
       let q = suc (a + d) in
       let next : suc (a + suc d) ≡ suc q = omega arith in
@@ -114,7 +114,7 @@ module _ (width : ℕ) (times : ℕ → ℕ → ℕ) (ring : IsRing width 1 time
       let turned = determinant-apart n d a (with_rows q (A (suc q)) (A q) A) (omega (arith, inside))
       (rows-other q (A (suc q)) (A q) A a (λ e. absurd (omega (arith, e))) (λ e. absurd (omega (arith, e)))
       ∙ same ∙ ap A next ∙ sym (rows-first q (A (suc q)) (A q) A)) in
-      sym (determinant-one width times ring n A (omega (arith, inside))) ∙ ap (times 1) (sym (both-are n q within A))
+      sym (determinant-one ring n A (omega (arith, inside))) ∙ ap (times 1) (sym (both-are n q within A))
       ∙ both-turned n q within A (A q) (A (suc q)) turned
 
   -- it is 0 where two rows are equal
@@ -137,12 +137,12 @@ module _ (width : ℕ) (times : ℕ → ℕ → ℕ) (ring : IsRing width 1 time
       let d = determinant_of times n Z in
       let e : d ≡ bit_xor d (times 1 d) =
       determinant-same times n Z (with_row b (combined times 1 (λ j. 0) (λ j. 0)) A) (λ i j _ _. entry i j (cases_eq i b))
-      ∙ determinant-linear width times ring n b 1 Z Z (with_row b (combined times 1 (λ j. 0) (λ j. 0)) A) inside
+      ∙ determinant-linear ring n b 1 Z Z (with_row b (combined times 1 (λ j. 0) (λ j. 0)) A) inside
       (λ i other. row-other b (λ j. 0) A i other ∙ sym (row-other b (combined times 1 (λ j. 0) (λ j. 0)) A i other))
       (λ i other. row-other b (λ j. 0) A i other ∙ sym (row-other b (combined times 1 (λ j. 0) (λ j. 0)) A i other))
       (row-own b (combined times 1 (λ j. 0) (λ j. 0)) A
       ∙ sym (ap₂ (combined times 1) (row-own b (λ j. 0) A) (row-own b (λ j. 0) A))) in
-      sym (determinant-one width times ring n Z (omega (arith, inside))) ∙ sym (xor_cancel d (times 1 d)) ∙ ap (bit_xor d) (sym e) ∙ xor_self d
+      sym (determinant-one ring n Z (omega (arith, inside))) ∙ sym (xor_cancel d (times 1 d)) ∙ ap (bit_xor d) (sym e) ∙ xor_self d
     where
       entry : (i j : ℕ) → (i ≡ b) ⊎ (i ≡ b → ⊥)
           → with_row b (λ j. 0) A i j ≡ with_row b (combined times 1 (λ j. 0) (λ j. 0)) A i j
@@ -164,7 +164,7 @@ module _ (width : ℕ) (times : ℕ → ℕ → ℕ) (ring : IsRing width 1 time
   determinant-row_sum n b A x Y (suc m) inside =
       let before = λ (j : ℕ). sum_below (λ k. times (x k) (Y k j)) m in
       let after = λ (j : ℕ). sum_below (λ k. times (x k) (Y k j)) (suc m) in
-      determinant-linear width times ring n b (x m) (with_row b before A) (with_row b (Y m) A) (with_row b after A) inside
+      determinant-linear ring n b (x m) (with_row b before A) (with_row b (Y m) A) (with_row b after A) inside
       (λ i other. row-other b before A i other ∙ sym (row-other b after A i other))
       (λ i other. row-other b (Y m) A i other ∙ sym (row-other b after A i other))
       (row-own b after A ∙ sym (ap₂ (combined times (x m)) (row-own b before A) (row-own b (Y m) A)))
@@ -173,7 +173,7 @@ module _ (width : ℕ) (times : ℕ → ℕ → ℕ) (ring : IsRing width 1 time
 
 -- ---- row operations, by entries
 
-module _ (width : ℕ) (times : ℕ → ℕ → ℕ) (ring : IsRing width 1 times) (n : ℕ) (A C : ℕ → ℕ → ℕ) where
+module _ {width : ℕ} {times : ℕ → ℕ → ℕ} (ring : IsRing width 1 times) (n : ℕ) (A C : ℕ → ℕ → ℕ) where
   -- where the entries of one row are those of a vector, and the others are kept
   pub as_row : (b : ℕ) (x : ℕ → ℕ) → ((j : ℕ) → j < n → C b j ≡ x j) → ((i j : ℕ) → i < n → j < n → i ≢ b → C i j ≡ A i j)
       → determinant_of times n C ≡ determinant_of times n (with_row b x A)
@@ -194,11 +194,11 @@ module _ (width : ℕ) (times : ℕ → ℕ → ℕ) (ring : IsRing width 1 time
       let x = combined times s (A b) (A a) in
       let B = with_row b (A a) A in
       as_row b x own others
-      ∙ determinant-linear width times ring n b s A B (with_row b x A) b_inside
+      ∙ determinant-linear ring n b s A B (with_row b x A) b_inside
       (λ i other. sym (row-other b x A i other)) (λ i other. row-other b (A a) A i other ∙ sym (row-other b x A i other))
       (row-own b x A ∙ ap (combined times s (A b)) (sym (row-own b (A a) A)))
       ∙ ap (λ (d : ℕ). bit_xor (determinant_of times n A) (times s d))
-      (determinant-equal width times ring n a b B a_inside b_inside differ (row-other b (A a) A a differ ∙ sym (row-own b (A a) A)))
+      (determinant-equal ring n a b B a_inside b_inside differ (row-other b (A a) A a differ ∙ sym (row-own b (A a) A)))
       ∙ ap (bit_xor (determinant_of times n A)) (times-zero width 1 times ring s) ∙ xor_zero_r (determinant_of times n A)
 
   -- a row times s makes it s times as much
@@ -208,15 +208,15 @@ module _ (width : ℕ) (times : ℕ → ℕ → ℕ) (ring : IsRing width 1 time
       let x = combined times s (λ j. 0) (A b) in
       let Z = with_row b (λ j. 0) A in
       as_row b x (λ j within. own j within ∙ sym (xor_zero_l (times s (A b j)))) others
-      ∙ determinant-linear width times ring n b s Z A (with_row b x A) inside
+      ∙ determinant-linear ring n b s Z A (with_row b x A) inside
       (λ i other. row-other b (λ j. 0) A i other ∙ sym (row-other b x A i other)) (λ i other. sym (row-other b x A i other))
       (row-own b x A ∙ ap (λ (w : ℕ → ℕ). combined times s w (A b)) (sym (row-own b (λ j. 0) A)))
-      ∙ ap (λ (d : ℕ). bit_xor d (times s (determinant_of times n A))) (determinant-zero_row width times ring n b A inside)
+      ∙ ap (λ (d : ℕ). bit_xor d (times s (determinant_of times n A))) (determinant-zero_row ring n b A inside)
       ∙ xor_zero_l (times s (determinant_of times n A))
 
 -- ---- multiples of one row added to the others
 
-module _ (width : ℕ) (times : ℕ → ℕ → ℕ) (ring : IsRing width 1 times) (n a : ℕ) (t : ℕ → ℕ) (A C : ℕ → ℕ → ℕ) (a_inside : a < n)
+module _ {width : ℕ} {times : ℕ → ℕ → ℕ} (ring : IsRing width 1 times) (n a : ℕ) (t : ℕ → ℕ) (A C : ℕ → ℕ → ℕ) (a_inside : a < n)
     (own : (j : ℕ) → j < n → C a j ≡ A a j)
     (others : (i j : ℕ) → i < n → j < n → i ≢ a → C i j ≡ bit_xor (A i j) (times (t i) (A a j))) where
   -- one row after the other
@@ -226,7 +226,7 @@ module _ (width : ℕ) (times : ℕ → ℕ → ℕ) (ring : IsRing width 1 time
   multiples-more (suc k) within =
       elim (cases_eq k a) [
         | inl same ↦ determinant-same times n (mixed (suc k) C A) (mixed k C A) (λ i j below inside. entry same i j inside (cases_eq i k))
-        | inr other ↦ determinant-added width times ring n (mixed k C A) (mixed (suc k) C A) a k (t k) a_inside (omega (arith, within))
+        | inr other ↦ determinant-added ring n (mixed k C A) (mixed (suc k) C A) a k (t k) a_inside (omega (arith, within))
             (λ e. other (sym e)) (λ j inside. sum other j inside) (λ i j _ _ apart. mixed-more k C A i j apart)
       ]
       ∙ multiples-more k (omega (arith, within))

@@ -90,7 +90,7 @@ module _ (r s : ℕ) (p q : ℕ → ℕ) (p_rises : (i k : ℕ) → i < k → k 
 
 -- ---- combinations of the rows of a reduced matrix
 
-module _ (width : ℕ) (times : ℕ → ℕ → ℕ) (ring : IsRing width 1 times) (rows columns r : ℕ) (p : ℕ → ℕ) (A : ℕ → ℕ → ℕ)
+module _ {width : ℕ} {times : ℕ → ℕ → ℕ} (ring : IsRing width 1 times) (rows columns r : ℕ) (p : ℕ → ℕ) (A : ℕ → ℕ → ℕ)
     (A_reduced : IsReducedEchelon rows columns r p A) where
   -- row i has 1 in the column of its leading entry, and 0 in those of the others
   at-pivot : (i k : ℕ) → i < rows → k < r → A i (p k) ≡ only k 1 i
@@ -156,7 +156,7 @@ module _ (width : ℕ) (times : ℕ → ℕ → ℕ) (ring : IsRing width 1 time
 
 -- ---- uniqueness
 
-module _ (width : ℕ) (times : ℕ → ℕ → ℕ) (ring : IsRing width 1 times) (rows columns r s : ℕ) (p q : ℕ → ℕ) (A B : ℕ → ℕ → ℕ)
+module _ {width : ℕ} {times : ℕ → ℕ → ℕ} (ring : IsRing width 1 times) (rows columns r s : ℕ) (p q : ℕ → ℕ) (A B : ℕ → ℕ → ℕ)
     (A_fits : (i j : ℕ) → A i j < 2 ^ width) (B_fits : (i j : ℕ) → B i j < 2 ^ width)
     (A_reduced : IsReducedEchelon rows columns r p A) (B_reduced : IsReducedEchelon rows columns s q B)
     (same : HaveSameRowSpace times rows columns A B) where
@@ -169,14 +169,14 @@ module _ (width : ℕ) (times : ℕ → ℕ → ℕ) (ring : IsRing width 1 time
   leading_within i below =
       let few = B_reduced.rank_fits in
       let one = B_reduced.leading i below in
-      leads-at width times ring rows columns r p A A_reduced (B i) (row_within i (omega (arith, few, below))) (q i)
+      leads-at ring rows columns r p A A_reduced (B i) (row_within i (omega (arith, few, below))) (q i)
       (B_reduced.pivots_fit i below) (λ e. absurd (omega (arith, e, one))) (λ m before. B_reduced.zeros_before i m below before)
 
   rows_agree : r ≡ s → ((k : ℕ) → k < r → k < s → p k ≡ q k) → (i j : ℕ) → i < rows → j < columns → A i j ≡ B i j
   rows_agree counts pivots i j inside within =
       elim (cases_lt i s) [
         | inl below ↦ sym (
-            expansion width times ring rows columns r p A A_reduced (B i) (row_within i inside) j within
+            expansion ring rows columns r p A A_reduced (B i) (row_within i inside) j within
             ∙ sum_below-same (λ k. times (B i (p k)) (A k j)) (λ k. times (only i 1 k) (A k j)) rows (λ k k_inside. term k k_inside (cases_lt k r))
             ∙ only-after width times ring i 1 (λ k. A k j) rows inside ∙ ring.one (A i j) ∙ mod-eq_of_lt (A_fits i j))
         | inr past ↦ A_reduced.zero_rows i j (at_least past) inside within ∙ sym (B_reduced.zero_rows i j past inside within)
@@ -201,11 +201,11 @@ module _ (width : ℕ) (times : ℕ → ℕ → ℕ) (ring : IsRing width 1 time
 
 pub echelon_is_unique : ReducedEchelonIsUnique
 echelon_is_unique width times rows columns r s p q A B ring A_fits B_fits A_reduced B_reduced same =
-    let q_in = leading_within width times ring rows columns r s p q A B A_fits B_fits A_reduced B_reduced same in
-    let p_in = leading_within width times ring rows columns s r q p B A B_fits A_fits B_reduced A_reduced (λ v. ((same v).1, (same v).0)) in
+    let q_in = leading_within ring rows columns r s p q A B A_fits B_fits A_reduced B_reduced same in
+    let p_in = leading_within ring rows columns s r q p B A B_fits A_fits B_reduced A_reduced (λ v. ((same v).1, (same v).0)) in
     let counts = rising-counts r s p q A_reduced.pivots_rise B_reduced.pivots_rise p_in q_in in
     let pivots = rising-same r s p q A_reduced.pivots_rise B_reduced.pivots_rise p_in q_in in (
       counts,
       (λ i below. pivots i below (omega (arith, below, counts))),
-      rows_agree width times ring rows columns r s p q A B A_fits B_fits A_reduced B_reduced same counts pivots,
+      rows_agree ring rows columns r s p q A B A_fits B_fits A_reduced B_reduced same counts pivots,
     )

@@ -1,5 +1,5 @@
 -- Elimination: what a row operation keeps, and how the reduced row echelon form grows by a column.
-use Rattle.std.proofs.Common.{◌≡◌, ◌≢◌, ◌⊎◌, inl, inr, ℕ, ◌+◌, ◌*◌, ◌^◌, ◌<◌, ◌≤◌, Bool, List, length, set, refl, sym, subst, ◌∙◌, ap, ap₂, arith, below_more}
+use Rattle.std.proofs.Common.{◌≡◌, ◌≢◌, ◌⊎◌, inl, inr, ℕ, ◌+◌, ◌^◌, ◌<◌, ◌≤◌, Bool, List, length, set, refl, sym, subst, ◌∙◌, ap, ap₂, arith, below_more}
 use Rattle.std.specs.Prelude.{bit_xor, if◌then◌else◌, slice_index}
 use Rattle.std.proofs.lemmas.Bool.{cases_eq, cases_lt, eq-eqb, ne_eqb}
 use Rattle.std.proofs.lemmas.List.{get_or-set_same, get_or-set_other}
@@ -8,10 +8,9 @@ use lib.Bits.{xor_self, xor_zero_r}
 use Rattle.field_base.specs.Ring.{IsRing}
 use Rattle.field_base.proofs.RingLemmas.{times-zero, xor_back}
 use Rattle.field_base.proofs.PowerLemmas.{one-times, times-one}
-use Rattle.field_slices.specs.Matrices.{IsRowCombination, HaveSameRowSpace, IsReducedEchelon, IsRowWritten, cleared_entry, entry_of, joined_entry}
+use Rattle.field_slices.specs.Matrices.{AreRowsReduced, IsRowCombination, HaveSameRowSpace, IsReducedEchelon, IsRowWritten, cleared_entry, joined_entry}
 use Rattle.field_slices.proofs.MatrixRows.{RowsWritten, mixed, mixed-before, mixed-past, rows_end, rows_from}
-use Rattle.field_base.proofs.Places.{numbers-lt}
-use Rattle.field_slices.proofs.RowSpaces.{same_space, space_then, combination_row, combination_rows, combination_multiple}
+use Rattle.field_slices.proofs.RowSpaces.{same_space, space_same, space_then, combination_row, combination_rows, combination_multiple}
 
 -- ---- a row that is added, and rows that are cleared
 
@@ -34,59 +33,59 @@ module _ (times : ℕ → ℕ → ℕ) (row column : ℕ) (A : ℕ → ℕ → �
 abbrev pub cleared_from : (ℕ → ℕ → ℕ) → ℕ → ℕ → ℕ → (ℕ → ℕ → ℕ) → ℕ → ℕ → ℕ
 cleared_from times from row column A = mixed from A (cleared_entry times row column A)
 
-module _ {V : Type 0} {number : V → ℕ} {columns : ℕ} (times : ℕ → ℕ → ℕ) (from row column : ℕ) {old : List V} where
+module _ {V : Type 0} {read : List V → ℕ → ℕ → ℕ} {columns : ℕ} (times : ℕ → ℕ → ℕ) (from row column : ℕ) {old : List V} where
   -- at first none is
-  pub cleared-start : RowsWritten number columns (cleared_from times from row column (entry_of number columns old)) old old from
+  pub cleared-start : RowsWritten read columns (cleared_from times from row column (read old)) old old from
   cleared-start =
-      let A = entry_of number columns old in
-      rows_from number columns (cleared_from times from row column A) old from
+      let A = read old in
+      rows_from
       (λ i j before inside. ap (λ (w : ℕ → ℕ). w j) (sym (mixed-before from A (cleared_entry times row column A) i before)))
 
   module _ {now : List V} {n : ℕ}
-      (so_far : RowsWritten number columns (cleared_from times from row column (entry_of number columns old)) old now n) where
+      (so_far : RowsWritten read columns (cleared_from times from row column (read old)) old now n) where
     -- the row that clears the others stays
-    clearing-stays : (j : ℕ) → j < columns → entry_of number columns now row j ≡ entry_of number columns old row j
+    clearing-stays : (j : ℕ) → j < columns → read now row j ≡ read old row j
     clearing-stays j inside =
         elim (cases_lt row n) [
           | inl below ↦ so_far.done row j below inside ∙ own (cases_lt row from)
           | inr past ↦ so_far.rest row j past inside
         ]
       where
-        own : (row < from) ⊎ (from ≤ row) → cleared_from times from row column (entry_of number columns old) row j ≡ entry_of number columns old row j
+        own : (row < from) ⊎ (from ≤ row) → cleared_from times from row column (read old) row j ≡ read old row j
         own (inl before) =
             ap (λ (w : ℕ → ℕ). w j)
-            (mixed-before from (entry_of number columns old) (cleared_entry times row column (entry_of number columns old)) row before)
+            (mixed-before from (read old) (cleared_entry times row column (read old)) row before)
         own (inr past) =
             ap (λ (w : ℕ → ℕ). w j)
-            (mixed-past from (entry_of number columns old) (cleared_entry times row column (entry_of number columns old)) row past)
-            ∙ cleared-own times row column (entry_of number columns old) row j refl
+            (mixed-past from (read old) (cleared_entry times row column (read old)) row past)
+            ∙ cleared-own times row column (read old) row j refl
 
     -- so that what the next row is to become can be said by the entries as they are
     pub cleared-step : column < columns → from ≤ n → (j : ℕ) → j < columns
-        → cleared_entry times row column (entry_of number columns now) n j
-        ≡ cleared_from times from row column (entry_of number columns old) n j
+        → cleared_entry times row column (read now) n j
+        ≡ cleared_from times from row column (read old) n j
     cleared-step within reached j inside =
         elim (cases_eq n row) [
-          | inl same ↦ cleared-own times row column (entry_of number columns now) n j same ∙ so_far.rest n j (omega arith) inside
-              ∙ sym (cleared-own times row column (entry_of number columns old) n j same) ∙ sym later
-          | inr other ↦ cleared-other times row column (entry_of number columns now) n j other
+          | inl same ↦ cleared-own times row column (read now) n j same ∙ so_far.rest n j (omega arith) inside
+              ∙ sym (cleared-own times row column (read old) n j same) ∙ sym later
+          | inr other ↦ cleared-other times row column (read now) n j other
               ∙ ap₂ bit_xor (so_far.rest n j (omega arith) inside)
               (ap₂ times (so_far.rest n column (omega arith) within) (clearing-stays j inside))
-              ∙ sym (cleared-other times row column (entry_of number columns old) n j other) ∙ sym later
+              ∙ sym (cleared-other times row column (read old) n j other) ∙ sym later
         ]
       where
-        later : cleared_from times from row column (entry_of number columns old) n j
-            ≡ cleared_entry times row column (entry_of number columns old) n j
+        later : cleared_from times from row column (read old) n j
+            ≡ cleared_entry times row column (read old) n j
         later =
             ap (λ (w : ℕ → ℕ). w j)
-            (mixed-past from (entry_of number columns old) (cleared_entry times row column (entry_of number columns old)) n reached)
+            (mixed-past from (read old) (cleared_entry times row column (read old)) n reached)
 
     pub cleared-end : (rows : ℕ) → rows ≤ n → (i j : ℕ) → from ≤ i → i < rows → j < columns
-        → entry_of number columns now i j ≡ cleared_entry times row column (entry_of number columns old) i j
+        → read now i j ≡ cleared_entry times row column (read old) i j
     cleared-end rows past i j reached below inside =
         rows_end so_far rows past i j below inside
         ∙ ap (λ (w : ℕ → ℕ). w j)
-        (mixed-past from (entry_of number columns old) (cleared_entry times row column (entry_of number columns old)) i reached)
+        (mixed-past from (read old) (cleared_entry times row column (read old)) i reached)
 
 -- ---- a pivot
 
@@ -120,7 +119,7 @@ row_by_row P rows rank own others i below =
     ]
 
 -- matrices of which one row is said apart
-module _ (width : ℕ) (times : ℕ → ℕ → ℕ) (ring : IsRing width 1 times) (rows columns rank : ℕ) (A B : ℕ → ℕ → ℕ)
+module _ {width : ℕ} {times : ℕ → ℕ → ℕ} (ring : IsRing width 1 times) (rows columns rank : ℕ) (A B : ℕ → ℕ → ℕ)
     (A_fits : (i j : ℕ) → A i j < 2 ^ width) (B_fits : (i j : ℕ) → B i j < 2 ^ width)
     (there : IsRowCombination times rows columns A (B rank)) (back : IsRowCombination times rows columns B (A rank)) where
   space_of_rows : ((i : ℕ) → i < rows → i ≢ rank → IsRowCombination times rows columns A (B i))
@@ -141,7 +140,7 @@ module _ (width : ℕ) (times : ℕ → ℕ → ℕ) (ring : IsRing width 1 time
 
 -- What the three steps of a pivot do: `brought` has row `row` added to row `rank`, where it is another; `scaled` has row `rank` times
 -- `inverse`; and `cleared` has multiples of row `rank` added to the others.
-module _ (width : ℕ) (times : ℕ → ℕ → ℕ) (ring : IsRing width 1 times) (rows columns rank row column : ℕ)
+module _ {width : ℕ} {times : ℕ → ℕ → ℕ} (ring : IsRing width 1 times) (rows columns rank row column : ℕ)
     (rank_within : rank < rows) (row_within : row < rows) (column_within : column < columns)
     (old brought scaled cleared : ℕ → ℕ → ℕ)
     (old_fits : (i j : ℕ) → old i j < 2 ^ width) (brought_fits : (i j : ℕ) → brought i j < 2 ^ width)
@@ -151,7 +150,7 @@ module _ (width : ℕ) (times : ℕ → ℕ → ℕ) (ring : IsRing width 1 time
     (brings_rest : (i j : ℕ) → i ≢ rank → j < columns → brought i j ≡ old i j) where
   brought-space : HaveSameRowSpace times rows columns old brought
   brought-space =
-      space_of_row width times ring rows columns rank old brought old_fits brought_fits (there (cases_eq row rank)) (back (cases_eq row rank))
+      space_of_row ring rows columns rank old brought old_fits brought_fits (there (cases_eq row rank)) (back (cases_eq row rank))
       brings_rest
     where
       one_of : (x : ℕ) → x < 2 ^ width → x ≡ times 1 x
@@ -181,7 +180,7 @@ module _ (width : ℕ) (times : ℕ → ℕ → ℕ) (ring : IsRing width 1 time
       (clears_own : (j : ℕ) → j < columns → cleared rank j ≡ scaled rank j) where
     scaled-space : HaveSameRowSpace times rows columns brought scaled
     scaled-space =
-        space_of_row width times ring rows columns rank brought scaled brought_fits scaled_fits
+        space_of_row ring rows columns rank brought scaled brought_fits scaled_fits
         (combination_multiple width times ring rows columns brought rank inverse (scaled rank) rank_within (λ j inside. scales j inside))
         (combination_multiple width times ring rows columns scaled rank (brought rank column) (brought rank) rank_within
         (λ j inside.
@@ -191,7 +190,7 @@ module _ (width : ℕ) (times : ℕ → ℕ → ℕ) (ring : IsRing width 1 time
 
     cleared-space : HaveSameRowSpace times rows columns scaled cleared
     cleared-space =
-        space_of_rows width times ring rows columns rank scaled cleared scaled_fits cleared_fits
+        space_of_rows ring rows columns rank scaled cleared scaled_fits cleared_fits
         (combination_row width times ring rows columns scaled scaled_fits rank (cleared rank) rank_within (λ j inside. clears_own j inside))
         (combination_row width times ring rows columns cleared cleared_fits rank (scaled rank) rank_within
         (λ j inside. sym (clears_own j inside)))
@@ -249,40 +248,30 @@ module _ (width : ℕ) (times : ℕ → ℕ → ℕ) (ring : IsRing width 1 time
       space = pivot-space;
     }
 
--- the same of matrices in lists
-module _ {V : Type 0} (number : V → ℕ) (width : ℕ) (times : ℕ → ℕ → ℕ) (ring : IsRing width 1 times) (wide : 0 < width)
-    (range : (x : V) → number x < 2 ^ width) (rows columns rank row column inverse : ℕ)
-    (rank_within : rank < rows) (row_within : row < rows) (column_within : column < columns) (old brought scaled cleared : List V)
-    (brings : IsRowWritten number columns rank (joined_entry rank row (entry_of number columns old)) old brought) where
-  joins_same : row ≡ rank → (j : ℕ) → j < columns → entry_of number columns brought rank j ≡ entry_of number columns old rank j
-  joins_same own j inside = brings.entries j inside ∙ joined-same rank row (entry_of number columns old) j own
+-- a row was brought to where the pivot is to be
+module _ {V : Type 0} {read : List V → ℕ → ℕ → ℕ} {columns rank row column : ℕ} (column_within : column < columns) {old brought : List V}
+    (brings : IsRowWritten read columns rank (joined_entry rank row (read old)) old brought) where
+  pub joins_same : row ≡ rank → (j : ℕ) → j < columns → read brought rank j ≡ read old rank j
+  joins_same own j inside = brings.entries j inside ∙ joined-same rank row (read old) j own
 
-  joins_other : row ≢ rank → (j : ℕ) → j < columns → entry_of number columns brought rank j
-      ≡ bit_xor (entry_of number columns old rank j) (entry_of number columns old row j)
-  joins_other other j inside = brings.entries j inside ∙ joined-other rank row (entry_of number columns old) j other
+  pub joins_other : row ≢ rank → (j : ℕ) → j < columns → read brought rank j ≡ bit_xor (read old rank j) (read old row j)
+  joins_other other j inside = brings.entries j inside ∙ joined-other rank row (read old) j other
 
-  pub joined-nonzero : entry_of number columns old row column ≢ 0 → (row ≢ rank → entry_of number columns old rank column ≡ 0)
-      → entry_of number columns brought rank column ≢ 0
-  joined-nonzero nonzero first =
-      brought-nonzero columns rank row column (entry_of number columns old) (entry_of number columns brought) column_within joins_same
-      joins_other nonzero first
+  pub joined-nonzero : read old row column ≢ 0 → (row ≢ rank → read old rank column ≡ 0) → read brought rank column ≢ 0
+  joined-nonzero = brought-nonzero columns rank row column (read old) (read brought) column_within joins_same joins_other
 
-  fits : (values : List V) (i j : ℕ) → entry_of number columns values i j < 2 ^ width
-  fits values i j = numbers-lt number width range values (i * columns + j)
-
-  pub pivot-written : times (entry_of number columns brought rank column) inverse ≡ 1
-      → IsRowWritten number columns rank (λ j. times inverse (entry_of number columns brought rank j)) brought scaled
-      → ((i j : ℕ) → i < rows → j < columns
-      → entry_of number columns cleared i j ≡ cleared_entry times rank column (entry_of number columns scaled) i j)
-      → PivotMade times rows columns rank row column (entry_of number columns old) (entry_of number columns cleared)
-  pivot-written inverts scales clears =
-      pivot-made width times ring rows columns rank row column rank_within row_within column_within
-      (entry_of number columns old) (entry_of number columns brought) (entry_of number columns scaled) (entry_of number columns cleared)
+  pub pivot-written : {width : ℕ} {times : ℕ → ℕ → ℕ} → IsRing width 1 times → 0 < width
+      → ((values : List V) (i j : ℕ) → read values i j < 2 ^ width) → {rows inverse : ℕ} → rank < rows → row < rows
+      → {scaled cleared : List V} → times (read brought rank column) inverse ≡ 1
+      → IsRowWritten read columns rank (λ j. times inverse (read brought rank j)) brought scaled
+      → ((i j : ℕ) → i < rows → j < columns → read cleared i j ≡ cleared_entry times rank column (read scaled) i j)
+      → PivotMade times rows columns rank row column (read old) (read cleared)
+  pivot-written {width} {times} ring wide fits {rows} {inverse} rank_within row_within {scaled} {cleared} inverts scales clears =
+      pivot-made ring rows columns rank row column rank_within row_within column_within (read old) (read brought) (read scaled) (read cleared)
       (fits old) (fits brought) (fits scaled) (fits cleared) joins_same joins_other brings.others
       inverse inverts (pow_below 0 width wide) scales.entries scales.others
-      (λ i j below other inside.
-      clears i j below inside ∙ cleared-other times rank column (entry_of number columns scaled) i j other)
-      (λ j inside. clears rank j rank_within inside ∙ cleared-own times rank column (entry_of number columns scaled) rank j refl)
+      (λ i j below other inside. clears i j below inside ∙ cleared-other times rank column (read scaled) i j other)
+      (λ j inside. clears rank j rank_within inside ∙ cleared-own times rank column (read scaled) rank j refl)
 
 -- ---- the form
 
@@ -415,3 +404,46 @@ echelon_noted rows columns column rank row pivots A B found room inside leads cl
     (get_or-set_same pivots rank column 0 (omega (arith, rank_within, room))) leads clears
     (λ i j within before. stays i j within (omega (arith, before, inside))
     (so_far.zero_rows rank j (omega arith) rank_within before) (so_far.zero_rows row j found.0 found.1 before)) so_far
+
+-- ---- the rows of a list, some columns at a time
+
+module _ {V : Type 0} {read : List V → ℕ → ℕ → ℕ} {width : ℕ} {times : ℕ → ℕ → ℕ} (ring : IsRing width 1 times) {rows columns : ℕ} where
+  -- at first no column is reduced
+  pub reduced_none : {old : List V} {was : List ℕ} → AreRowsReduced read times rows columns 0 0 old old was was
+  reduced_none {old} {was} =
+      record {
+        shape = refl;
+        room = refl;
+        reduced = echelon_start rows (slice_index was) (read old);
+        rest = λ i past. refl;
+        space = space_same width times ring rows columns (read old);
+      }
+
+  module _ {column rank : ℕ} {old now : List V} {was pivots : List ℕ}
+      (so_far : AreRowsReduced read times rows columns column rank old now was pivots) where
+    -- and then more
+    pub reduced_then : {count found : ℕ} {next : List V} {places : List ℕ} → rank ≤ found
+        → AreRowsReduced read times rows columns count found now next pivots places
+        → AreRowsReduced read times rows columns count found old next was places
+    reduced_then {next = next} grows step =
+        record {
+          shape = step.shape ∙ so_far.shape;
+          room = step.room ∙ so_far.room;
+          reduced = step.reduced;
+          rest = λ i past. step.rest i past ∙ so_far.rest i (omega (arith, grows, past));
+          space = space_then width times ring rows columns (read old) (read now) (read next) so_far.space step.space;
+        }
+
+    -- until there are no more, or each row has a pivot
+    pub reduced_all : (count : ℕ) → (column ≡ count) ⊎ ((rank ≡ rows) × (column ≤ count))
+        → AreRowsReduced read times rows columns count rank old now was pivots
+    reduced_all count (inl all) =
+        subst (λ (n : ℕ). AreRowsReduced read times rows columns n rank old now was pivots) all so_far
+    reduced_all count (inr full) =
+        record {
+          shape = so_far.shape;
+          room = so_far.room;
+          reduced = echelon_full rows column count rank (slice_index pivots) (read now) full.0 full.1 so_far.reduced;
+          rest = so_far.rest;
+          space = so_far.space;
+        }

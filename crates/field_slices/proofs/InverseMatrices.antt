@@ -1,5 +1,5 @@
 -- The inverse of a matrix A, by reducing A beside the identity matrix.
-use Rattle.std.proofs.Common.{◌≡◌, ◌≢◌, ◌⊎◌, inl, inr, ℕ, zero, suc, ◌+◌, ◌-◌, ◌*◌, ◌%◌, ◌^◌, ◌<◌, ◌≤◌, Bool, List, refl, sym, subst, ◌∙◌, ap, arith}
+use Rattle.std.proofs.Common.{◌≡◌, ◌≢◌, ◌⊎◌, inl, inr, ℕ, zero, suc, ◌+◌, ◌-◌, ◌*◌, ◌%◌, ◌^◌, ◌<◌, ◌≤◌, Bool, refl, sym, subst, ◌∙◌, ap, arith}
 use Rattle.std.specs.Prelude.{if◌then◌else◌}
 use Rattle.std.proofs.lemmas.Bool.{cases_eq, cases_lt, lt-ltb, le-ltb}
 use Rattle.std.proofs.lemmas.Nat.{mul-add-lt}
@@ -7,8 +7,7 @@ use Rattle.field_base.specs.Basis.{sum_below}
 use Rattle.field_base.specs.Ring.{IsRing}
 use Rattle.field_base.proofs.BasisSums.{sum_below-same}
 use Rattle.field_base.proofs.RingLemmas.{mod-times}
-use Rattle.field_slices.specs.Matrices.{IsRowCombination, HaveSameRowSpace, IsReducedEchelon, IsMatrixProduct, AreInverseMatrices, product_entry, identity_entry, beside_identity, entry_of}
-use Rattle.field_base.proofs.Places.{numbers-lt}
+use Rattle.field_slices.specs.Matrices.{IsRowCombination, HaveSameRowSpace, IsReducedEchelon, IsMatrixProduct, AreInverseMatrices, product_entry, identity_entry, beside_identity}
 use Rattle.field_slices.proofs.RowSpaces.{only, only-same, only-other, identity-only, coefficient_at, combination_row}
 use Rattle.field_slices.proofs.EchelonUniqueness.{leads-at, rising-counts}
 
@@ -63,7 +62,7 @@ rising-all n p rises fits k within =
     let own = ap p start in
     omega (arith, above, last, last_fits, below, own, within)
 
-module _ (width : ℕ) (times : ℕ → ℕ → ℕ) (ring : IsRing width 1 times) (n : ℕ) where
+module _ {width : ℕ} {times : ℕ → ℕ → ℕ} (ring : IsRing width 1 times) (n : ℕ) where
   -- of a combination of rows whose left or right halves are the identity matrix the coefficients are known
   passes : (c u F : ℕ → ℕ) → ((k : ℕ) → k < n → u k ≡ c k % 2 ^ width)
       → sum_below (λ k. times (c k) (F k)) n ≡ sum_below (λ k. times (u k) (F k)) n
@@ -113,7 +112,7 @@ module _ (width : ℕ) (times : ℕ → ℕ → ℕ) (ring : IsRing width 1 time
       leading_entry i inside =
           let given : IsRowCombination times n (n + n) M (λ j. sum_below (λ k. times (B i k) (M k j)) n) = (B i, λ j _. refl) in
           let found = (same (λ j. sum_below (λ k. times (B i k) (M k j)) n)).0 given in
-          leads-at width times ring n n r pivot N reduced (λ j. sum_below (λ k. times (B i k) (M k j)) n)
+          leads-at ring n n r pivot N reduced (λ j. sum_below (λ k. times (B i k) (M k j)) n)
           (found.0, λ j within. found.1 j (omega (arith, within))) i inside
           (λ e. let one = sums i inside ∙ identity-only i i ∙ only-same i 1 i refl in absurd (omega (arith, one, e)))
           (λ m before. sums m (omega (arith, before, inside)) ∙ identity-only i m ∙ only-other m 1 i (λ e. absurd (omega (arith, e, before))))
@@ -129,7 +128,7 @@ module _ (width : ℕ) (times : ℕ → ℕ → ℕ) (ring : IsRing width 1 time
           (λ i below. (pivot i, reduced.pivots_fit i below, refl))
 
 -- the same of a matrix that has the identity matrix beside it
-module _ (width : ℕ) (times : ℕ → ℕ → ℕ) (ring : IsRing width 1 times) (n r : ℕ) (pivot : ℕ → ℕ) (A M N : ℕ → ℕ → ℕ)
+module _ {width : ℕ} {times : ℕ → ℕ → ℕ} (ring : IsRing width 1 times) {n r : ℕ} {pivot : ℕ → ℕ} (A : ℕ → ℕ → ℕ) {M N : ℕ → ℕ → ℕ}
     (M_fits : (i j : ℕ) → M i j < 2 ^ width) (N_fits : (i j : ℕ) → N i j < 2 ^ width)
     (halves : (i j : ℕ) → i < n → j < n + n → M i j ≡ beside_identity n A i j)
     (reduced : IsReducedEchelon n n r pivot N) (same : HaveSameRowSpace times n (n + n) M N) where
@@ -144,27 +143,10 @@ module _ (width : ℕ) (times : ℕ → ℕ → ℕ) (ring : IsRing width 1 time
   pub inverse_found : r ≡ n → AreInverseMatrices times n A (λ i j. N i (n + j))
   inverse_found full =
       let whole = subst (λ (k : ℕ). IsReducedEchelon n n k pivot N) full reduced in (
-        inverse_right width times ring n A M N M_fits N_fits left_half right_half same pivot whole,
-        inverse_left width times ring n A M N M_fits N_fits left_half right_half same pivot whole,
+        inverse_right ring n A M N M_fits N_fits left_half right_half same pivot whole,
+        inverse_left ring n A M N M_fits N_fits left_half right_half same pivot whole,
       )
 
   pub inverse_missing : r ≢ n → (B : ℕ → ℕ → ℕ) → IsMatrixProduct times n n n B A identity_entry → ⊥
   inverse_missing short B inverts =
-      short (sym (inverse_rank width times ring n A M N M_fits N_fits left_half right_half same r pivot reduced B inverts))
-
--- the rank tells whether there is an inverse, of matrices in lists
-pub inverse_tells : {V : Type 0} (number : V → ℕ) (width : ℕ) (times : ℕ → ℕ → ℕ) → IsRing width 1 times → ((x : V) → number x < 2 ^ width)
-    → (n r : ℕ) (pivot : ℕ → ℕ) (A : ℕ → ℕ → ℕ) (beside now : List V)
-    → ((i j : ℕ) → i < n → j < n + n → entry_of number (n + n) beside i j ≡ beside_identity n A i j)
-    → IsReducedEchelon n n r pivot (entry_of number (n + n) now)
-    → HaveSameRowSpace times n (n + n) (entry_of number (n + n) beside) (entry_of number (n + n) now)
-    → (r ≡ n → AreInverseMatrices times n A (λ i j. entry_of number (n + n) now i (n + j)))
-    × (r ≢ n → (B : ℕ → ℕ → ℕ) → IsMatrixProduct times n n n B A identity_entry → ⊥)
-inverse_tells number width times ring range n r pivot A beside now halves reduced same = (
-  inverse_found width times ring n r pivot A (entry_of number (n + n) beside) (entry_of number (n + n) now)
-      (λ i j. numbers-lt number width range beside (i * (n + n) + j)) (λ i j. numbers-lt number width range now (i * (n + n) + j))
-      halves reduced same,
-  inverse_missing width times ring n r pivot A (entry_of number (n + n) beside) (entry_of number (n + n) now)
-      (λ i j. numbers-lt number width range beside (i * (n + n) + j)) (λ i j. numbers-lt number width range now (i * (n + n) + j))
-      halves reduced same,
-)
+      short (sym (inverse_rank ring n A M N M_fits N_fits left_half right_half same r pivot reduced B inverts))

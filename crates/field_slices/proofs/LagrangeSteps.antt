@@ -8,7 +8,7 @@ use Rattle.field_base.proofs.FieldLemmas.{inverse-power}
 use Rattle.field_base.specs.Interpolation.{lagrange, other_factors}
 use Rattle.field_base.proofs.Interpolation.{factors-lt, factors-nonzero, factors_more, factors_skip}
 
-module _ (width : ℕ) (times : ℕ → ℕ → ℕ) (field : IsField width times) (wide : 0 < width) where
+module _ {width : ℕ} {times : ℕ → ℕ → ℕ} (field : IsField width times) (wide : 0 < width) where
   pub differences-none : (own x : ℕ) → 1 ≡ other_factors times (λ i. i) own x 0
   unfolding product_below
   differences-none own x = refl

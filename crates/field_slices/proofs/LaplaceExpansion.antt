@@ -164,7 +164,7 @@ minor-same times n b A B same =
     determinant-same times n (minor_entry b A) (minor_entry b B)
     (λ r c inside within. ap (λ (row : ℕ → ℕ). row (suc c)) (same (place_without b r) (without-own b r)))
 
-module _ (width : ℕ) (times : ℕ → ℕ → ℕ) (ring : IsRing width 1 times) where
+module _ {width : ℕ} {times : ℕ → ℕ → ℕ} (ring : IsRing width 1 times) where
   -- a sum of terms of which each has a multiple
   sum-scaled : (f g : ℕ → ℕ) (s n : ℕ)
       → sum_below (λ i. bit_xor (f i) (times s (g i))) n ≡ bit_xor (sum_below f n) (times s (sum_below g n))
@@ -277,7 +277,7 @@ module _ (width : ℕ) (times : ℕ → ℕ → ℕ) (ring : IsRing width 1 time
 
 -- ---- the first column
 
-module _ (width : ℕ) (times : ℕ → ℕ → ℕ) (ring : IsRing width 1 times) (n : ℕ) (A : ℕ → ℕ → ℕ) where
+module _ {width : ℕ} {times : ℕ → ℕ → ℕ} (ring : IsRing width 1 times) (n : ℕ) (A : ℕ → ℕ → ℕ) where
   -- a column of zeros
   pub determinant-zero_column : ((i : ℕ) → i < suc n → A i 0 ≡ 0) → determinant_of times (suc n) A ≡ 0
   unfolding determinant_of

@@ -1,5 +1,5 @@
 -- Solutions of linear equations, whose coefficients and right sides are the rows of a matrix.
-use Rattle.std.proofs.Common.{◌≡◌, ◌≢◌, ◌⊎◌, inl, inr, ℕ, zero, suc, ◌+◌, ◌^◌, ◌*◌, ◌<◌, ◌≤◌, List, refl, sym, ◌∙◌, ap, ap₂, arith, below_more}
+use Rattle.std.proofs.Common.{◌≡◌, ◌≢◌, ◌⊎◌, inl, inr, ℕ, zero, suc, ◌+◌, ◌^◌, ◌<◌, ◌≤◌, refl, sym, ◌∙◌, ap, ap₂, arith, below_more}
 use Rattle.std.specs.Prelude.{bit_xor}
 use Rattle.std.proofs.lemmas.Bool.{cases_eq, cases_lt}
 use Rattle.field_base.specs.Basis.{sum_below}
@@ -7,8 +7,7 @@ use Rattle.field_base.specs.Ring.{IsRing}
 use Rattle.field_base.proofs.BasisSums.{sum_below-same}
 use Rattle.field_base.proofs.PowerLemmas.{times-one}
 use Rattle.field_base.proofs.RingLemmas.{times-zero, zero-times}
-use Rattle.field_slices.specs.Matrices.{HaveSameRowSpace, IsReducedEchelon, IsSolution, entry_of}
-use Rattle.field_base.proofs.Places.{numbers-lt}
+use Rattle.field_slices.specs.Matrices.{HaveSameRowSpace, IsReducedEchelon, IsSolution}
 use Rattle.field_slices.proofs.RowSpaces.{only, only-same, only-other, only-after, sum_with, combination_row}
 use Rattle.field_slices.proofs.EchelonUniqueness.{find-pivot}
 
@@ -17,15 +16,15 @@ pub record SolvedBefore (count : ℕ) (pivot right x : ℕ → ℕ) (n : ℕ) : 
   pub at_pivots : (k : ℕ) → k < n → x (pivot k) ≡ right k
   pub elsewhere : (j : ℕ) → j < count → ((k : ℕ) → k < n → pivot k ≢ j) → x j ≡ 0
 
-module _ (count : ℕ) (pivot right x : ℕ → ℕ) where
+module _ {count : ℕ} {pivot right x : ℕ → ℕ} where
   pub solved_start : ((j : ℕ) → j < count → x j ≡ 0) → SolvedBefore count pivot right x 0
   solved_start zeros =
       record { at_pivots = λ k below. absurd (omega (arith, below)); elsewhere = λ j inside none. zeros j inside }
 
-  pub solved_step : (next : ℕ → ℕ) (n : ℕ) → pivot n < count → next (pivot n) ≡ right n
+  pub solved_step : {next : ℕ → ℕ} {n : ℕ} → pivot n < count → next (pivot n) ≡ right n
       → ((j : ℕ) → j < count → j ≢ pivot n → next j ≡ x j) → ((k : ℕ) → k < n → pivot k < pivot n)
       → SolvedBefore count pivot right x n → SolvedBefore count pivot right next (n + 1)
-  solved_step next n fits own others rises so_far =
+  solved_step {next} {n} fits own others rises so_far =
       record {
         at_pivots = below_more (λ k. next (pivot k) ≡ right k) n
             (λ k before.
@@ -38,13 +37,13 @@ module _ (count : ℕ) (pivot right x : ℕ → ℕ) where
       apart : (k : ℕ) → k < n → pivot k ≢ pivot n
       apart k before = λ e. let rise = rises k before in absurd (omega (arith, rise, e))
 
-module _ (width : ℕ) (times : ℕ → ℕ → ℕ) (ring : IsRing width 1 times) where
+module _ {width : ℕ} {times : ℕ → ℕ → ℕ} (ring : IsRing width 1 times) where
   pub sum_of_nothing : (x : ℕ → ℕ) (n : ℕ) → sum_below (λ j. times 0 (x j)) n ≡ 0
   unfolding sum_below
   sum_of_nothing x zero = refl
   sum_of_nothing x (suc n) = ap₂ bit_xor (sum_of_nothing x n) (zero-times width 1 times ring (x n))
 
-  module _ (rows columns count : ℕ) (within : count < columns) where
+  module _ {rows columns count : ℕ} (within : count < columns) where
     -- what solves the equations solves each combination of them
     module _ (M : ℕ → ℕ → ℕ) (x : ℕ → ℕ) (solves : IsSolution times rows count M x) where
       solves-combination : (c : ℕ → ℕ) (n : ℕ) → n ≤ rows
@@ -63,7 +62,7 @@ module _ (width : ℕ) (times : ℕ → ℕ → ℕ) (ring : IsRing width 1 time
         (λ j below. ap (λ (z : ℕ). times z (x j)) (row.1 j (omega (arith, below, within))))
         ∙ solves-combination M x solves row.0 rows (omega arith) ∙ sym (row.1 count within)
 
-    module _ (r : ℕ) (pivot : ℕ → ℕ) (M N : ℕ → ℕ → ℕ) (M_fits : (i j : ℕ) → M i j < 2 ^ width) (N_fits : (i j : ℕ) → N i j < 2 ^ width)
+    module _ {r : ℕ} {pivot : ℕ → ℕ} {M N : ℕ → ℕ → ℕ} (M_fits : (i j : ℕ) → M i j < 2 ^ width) (N_fits : (i j : ℕ) → N i j < 2 ^ width)
         (reduced : IsReducedEchelon rows count r pivot N) (same : HaveSameRowSpace times rows columns M N) where
       -- a row of zeros gives 0
       zero_row_sum : (x : ℕ → ℕ) (i : ℕ) → r ≤ i → i < rows → sum_below (λ j. times (N i j) (x j)) count ≡ 0
@@ -72,11 +71,11 @@ module _ (width : ℕ) (times : ℕ → ℕ → ℕ) (ring : IsRing width 1 time
           (λ j below. ap (λ (z : ℕ). times z (x j)) (reduced.zero_rows i j past inside below)) ∙ sum_of_nothing x count
 
       -- so that none solves an equation of zeros whose right side is not 0
-      pub solution_missing : (i : ℕ) → r ≤ i → i < rows → N i count ≢ 0 → (x : ℕ → ℕ) → IsSolution times rows count M x → ⊥
-      solution_missing i past inside nonzero x solves =
+      pub solution_missing : {i : ℕ} → r ≤ i → i < rows → N i count ≢ 0 → (x : ℕ → ℕ) → IsSolution times rows count M x → ⊥
+      solution_missing {i} past inside nonzero x solves =
           nonzero (sym (solution_passes M N x N_fits same solves i inside) ∙ zero_row_sum x i past inside)
 
-      module _ (x : ℕ → ℕ) (solved : SolvedBefore count pivot (λ k. N k count) x r)
+      module _ {x : ℕ → ℕ} (solved : SolvedBefore count pivot (λ k. N k count) x r)
           (zeros : (i : ℕ) → r ≤ i → i < rows → N i count ≡ 0) where
         -- in a row with a leading entry its unknown alone counts
         leading_row_sum : (i : ℕ) → i < r → i < rows → sum_below (λ j. times (N i j) (x j)) count ≡ N i count
@@ -126,24 +125,3 @@ module _ (width : ℕ) (times : ℕ → ℕ → ℕ) (ring : IsRing width 1 time
               | inl below ↦ leading_row_sum i below inside
               | inr past ↦ zero_row_sum x i past inside ∙ sym (zeros i past inside)
             ])
-
--- the same of matrices in lists
-module _ {V : Type 0} (number : V → ℕ) (width : ℕ) (times : ℕ → ℕ → ℕ) (ring : IsRing width 1 times) (range : (x : V) → number x < 2 ^ width)
-    (rows columns count r : ℕ) (behind : columns ≡ count + 1) (pivot : ℕ → ℕ) (old now : List V)
-    (reduced : IsReducedEchelon rows count r pivot (entry_of number columns now))
-    (same : HaveSameRowSpace times rows columns (entry_of number columns old) (entry_of number columns now)) where
-  fits : (values : List V) (i j : ℕ) → entry_of number columns values i j < 2 ^ width
-  fits values i j = numbers-lt number width range values (i * columns + j)
-
-  pub system_unsolvable : (i : ℕ) → r ≤ i → i < rows → entry_of number columns now i count ≢ 0 → (x : ℕ → ℕ)
-      → IsSolution times rows count (entry_of number columns old) x → ⊥
-  system_unsolvable =
-      solution_missing width times ring rows columns count (omega (arith, behind)) r pivot (entry_of number columns old)
-      (entry_of number columns now) (fits old) (fits now) reduced same
-
-  pub system_solved : (x : ℕ → ℕ) → SolvedBefore count pivot (λ k. entry_of number columns now k count) x r
-      → ((i : ℕ) → r ≤ i → i < rows → entry_of number columns now i count ≡ 0)
-      → IsSolution times rows count (entry_of number columns old) x
-  system_solved =
-      solution_found width times ring rows columns count (omega (arith, behind)) r pivot (entry_of number columns old)
-      (entry_of number columns now) (fits old) (fits now) reduced same

@@ -1,10 +1,11 @@
 -- Places of the entries of a matrix, and loops that write one row, or one row after the other.
-use Rattle.std.proofs.Common.{◌≡◌, ◌≢◌, ◌⊎◌, inl, inr, ℕ, ◌+◌, ◌-◌, ◌*◌, ◌<◌, ◌≤◌, Bool, List, ◌++◌, length, map, suc, refl, sym, ◌∙◌, ap, ap₂, subst, arith, below_more}
+use Rattle.std.proofs.Common.{◌≡◌, ◌≢◌, ◌⊎◌, inl, inr, ℕ, ◌+◌, ◌-◌, ◌*◌, ◌^◌, ◌<◌, ◌≤◌, Bool, List, ◌++◌, length, map, suc, refl, sym, ◌∙◌, ap, ap₂, subst, arith, below_more}
 use Rattle.std.specs.Prelude.{bit_xor, if◌then◌else◌, nat_lt, slice_index}
 use Rattle.std.proofs.Math.Nat.{mul-le-mul_right}
 use Rattle.std.proofs.lemmas.Bool.{cases_lt, cases_order, lt-ltb, le-ltb}
 use Rattle.std.proofs.lemmas.List.{get_or-append-add, get_or_append_left, get_or_past, length-append, length-map, map-append}
 use Rattle.std.proofs.lemmas.Nat.{mul-add-lt}
+use Rattle.field_base.proofs.Places.{numbers-lt}
 use Rattle.field_slices.specs.Matrices.{AreScaledSums, HasMatrixRow, IsEntryWritten, IsRowWritten, entry_of, put_entry}
 
 -- ---- places
@@ -39,28 +40,28 @@ places-differ columns i j row column inside within (inr other) = λ e. other (sa
 -- ---- one row
 
 -- the row has what is wanted before column n, and what it had from there on, and the other rows have what they had
-pub record RowWritten {V : Type 0} (number : V → ℕ) (columns row : ℕ) (wanted : ℕ → ℕ) (old now : List V) (n : ℕ) : Type 0 where
+pub record RowWritten {V : Type 0} (read : List V → ℕ → ℕ → ℕ) (columns row : ℕ) (wanted : ℕ → ℕ) (old now : List V) (n : ℕ) : Type 0 where
   pub shape : length now ≡ length old
-  pub done : (j : ℕ) → j < n → entry_of number columns now row j ≡ wanted j
-  pub rest : (j : ℕ) → n ≤ j → j < columns → entry_of number columns now row j ≡ entry_of number columns old row j
-  pub others : (i j : ℕ) → i ≢ row → j < columns → entry_of number columns now i j ≡ entry_of number columns old i j
+  pub done : (j : ℕ) → j < n → read now row j ≡ wanted j
+  pub rest : (j : ℕ) → n ≤ j → j < columns → read now row j ≡ read old row j
+  pub others : (i j : ℕ) → i ≢ row → j < columns → read now i j ≡ read old i j
 
-module _ {V : Type 0} (number : V → ℕ) (columns row : ℕ) (wanted : ℕ → ℕ) (old : List V) where
-  pub row_from : (n : ℕ) → ((j : ℕ) → j < n → entry_of number columns old row j ≡ wanted j)
-      → RowWritten number columns row wanted old old n
-  row_from n done = record { shape = refl; done = done; rest = λ j past inside. refl; others = λ i j other inside. refl }
+module _ {V : Type 0} {read : List V → ℕ → ℕ → ℕ} {columns row : ℕ} {wanted : ℕ → ℕ} {old : List V} where
+  pub row_from : {n : ℕ} → ((j : ℕ) → j < n → read old row j ≡ wanted j)
+      → RowWritten read columns row wanted old old n
+  row_from done = record { shape = refl; done = done; rest = λ j past inside. refl; others = λ i j other inside. refl }
 
-  pub row_start : RowWritten number columns row wanted old old 0
-  row_start = row_from 0 (λ j below. absurd (omega (arith, below)))
+  pub row_start : RowWritten read columns row wanted old old 0
+  row_start = row_from (λ j below. absurd (omega (arith, below)))
 
-module _ {V : Type 0} {number : V → ℕ} {columns row : ℕ} {wanted : ℕ → ℕ} {old now : List V} {n : ℕ}
-    (so_far : RowWritten number columns row wanted old now n) where
-  pub row_step : {next : List V} {value : ℕ} → n < columns → value ≡ wanted n → IsEntryWritten number columns row n value now next
-      → RowWritten number columns row wanted old next (n + 1)
+module _ {V : Type 0} {read : List V → ℕ → ℕ → ℕ} {columns row : ℕ} {wanted : ℕ → ℕ} {old now : List V} {n : ℕ}
+    (so_far : RowWritten read columns row wanted old now n) where
+  pub row_step : {next : List V} {value : ℕ} → n < columns → value ≡ wanted n → IsEntryWritten read columns row n value now next
+      → RowWritten read columns row wanted old next (n + 1)
   row_step {next} within is write =
       record {
         shape = write.shape ∙ so_far.shape;
-        done = below_more (λ j. entry_of number columns next row j ≡ wanted j) n
+        done = below_more (λ j. read next row j ≡ wanted j) n
             (λ j below. write.others row j (omega (arith, below, within)) (inr (λ e. absurd (omega (arith, e, below)))) ∙ so_far.done j below)
             (write.written ∙ is);
         rest = λ j past inside.
@@ -69,8 +70,8 @@ module _ {V : Type 0} {number : V → ℕ} {columns row : ℕ} {wanted : ℕ →
       }
 
   -- from column n on the row is to stay
-  pub row_stays : ((j : ℕ) → n ≤ j → j < columns → wanted j ≡ entry_of number columns old row j)
-      → IsRowWritten number columns row wanted old now
+  pub row_stays : ((j : ℕ) → n ≤ j → j < columns → wanted j ≡ read old row j)
+      → IsRowWritten read columns row wanted old now
   row_stays stays =
       record {
         shape = so_far.shape;
@@ -82,17 +83,17 @@ module _ {V : Type 0} {number : V → ℕ} {columns row : ℕ} {wanted : ℕ →
         others = so_far.others;
       }
 
-  pub row_end : columns ≤ n → IsRowWritten number columns row wanted old now
+  pub row_end : columns ≤ n → IsRowWritten read columns row wanted old now
   row_end past = record {
     shape = so_far.shape;
     entries = λ j inside. so_far.done j (omega (arith, past, inside));
     others = so_far.others;
   }
 
-module _ {V : Type 0} {number : V → ℕ} {columns row : ℕ} {wanted : ℕ → ℕ} {old now : List V}
-    (write : IsRowWritten number columns row wanted old now) where
+module _ {V : Type 0} {read : List V → ℕ → ℕ → ℕ} {columns row : ℕ} {wanted : ℕ → ℕ} {old now : List V}
+    (write : IsRowWritten read columns row wanted old now) where
   -- what is wanted in other words
-  pub row_wanted : {same : ℕ → ℕ} → ((j : ℕ) → j < columns → wanted j ≡ same j) → IsRowWritten number columns row same old now
+  pub row_wanted : {same : ℕ → ℕ} → ((j : ℕ) → j < columns → wanted j ≡ same j) → IsRowWritten read columns row same old now
   row_wanted is = record {
     shape = write.shape;
     entries = λ j inside. write.entries j inside ∙ is j inside;
@@ -101,7 +102,7 @@ module _ {V : Type 0} {number : V → ℕ} {columns row : ℕ} {wanted : ℕ →
 
   -- one row is written twice
   pub row_again : {own after : ℕ → ℕ} {next : List V} → ((j : ℕ) → j < columns → own j ≡ after j)
-      → IsRowWritten number columns row own now next → IsRowWritten number columns row after old next
+      → IsRowWritten read columns row own now next → IsRowWritten read columns row after old next
   row_again is again =
       record {
         shape = again.shape ∙ write.shape;
@@ -112,35 +113,35 @@ module _ {V : Type 0} {number : V → ℕ} {columns row : ℕ} {wanted : ℕ →
 -- ---- rows
 
 -- the rows before n have what is wanted, and the others what they had
-pub record RowsWritten {V : Type 0} (number : V → ℕ) (columns : ℕ) (wanted : ℕ → ℕ → ℕ) (old now : List V) (n : ℕ) : Type 0 where
+pub record RowsWritten {V : Type 0} (read : List V → ℕ → ℕ → ℕ) (columns : ℕ) (wanted : ℕ → ℕ → ℕ) (old now : List V) (n : ℕ) : Type 0 where
   pub shape : length now ≡ length old
-  pub done : (i j : ℕ) → i < n → j < columns → entry_of number columns now i j ≡ wanted i j
-  pub rest : (i j : ℕ) → n ≤ i → j < columns → entry_of number columns now i j ≡ entry_of number columns old i j
+  pub done : (i j : ℕ) → i < n → j < columns → read now i j ≡ wanted i j
+  pub rest : (i j : ℕ) → n ≤ i → j < columns → read now i j ≡ read old i j
 
-module _ {V : Type 0} (number : V → ℕ) (columns : ℕ) (wanted : ℕ → ℕ → ℕ) (old : List V) where
-  pub rows_from : (n : ℕ) → ((i j : ℕ) → i < n → j < columns → entry_of number columns old i j ≡ wanted i j)
-      → RowsWritten number columns wanted old old n
-  rows_from n done = record { shape = refl; done = done; rest = λ i j past inside. refl }
+module _ {V : Type 0} {read : List V → ℕ → ℕ → ℕ} {columns : ℕ} {wanted : ℕ → ℕ → ℕ} {old : List V} where
+  pub rows_from : {n : ℕ} → ((i j : ℕ) → i < n → j < columns → read old i j ≡ wanted i j)
+      → RowsWritten read columns wanted old old n
+  rows_from done = record { shape = refl; done = done; rest = λ i j past inside. refl }
 
-  pub rows_start : RowsWritten number columns wanted old old 0
-  rows_start = rows_from 0 (λ i j below inside. absurd (omega (arith, below)))
+  pub rows_start : RowsWritten read columns wanted old old 0
+  rows_start = rows_from (λ i j below inside. absurd (omega (arith, below)))
 
-module _ {V : Type 0} {number : V → ℕ} {columns : ℕ} {wanted : ℕ → ℕ → ℕ} {old now : List V} {n : ℕ}
-    (so_far : RowsWritten number columns wanted old now n) where
+module _ {V : Type 0} {read : List V → ℕ → ℕ → ℕ} {columns : ℕ} {wanted : ℕ → ℕ → ℕ} {old now : List V} {n : ℕ}
+    (so_far : RowsWritten read columns wanted old now n) where
   pub rows_step : {next : List V} {own : ℕ → ℕ} → ((j : ℕ) → j < columns → own j ≡ wanted n j)
-      → IsRowWritten number columns n own now next → RowsWritten number columns wanted old next (n + 1)
+      → IsRowWritten read columns n own now next → RowsWritten read columns wanted old next (n + 1)
   rows_step {next} is write =
       record {
         shape = write.shape ∙ so_far.shape;
         done = λ i j below inside.
-            below_more (λ k. entry_of number columns next k j ≡ wanted k j) n
+            below_more (λ k. read next k j ≡ wanted k j) n
             (λ k before. write.others k j (λ e. absurd (omega (arith, e, before))) inside ∙ so_far.done k j before inside)
             (write.entries j inside ∙ is j inside) i below;
         rest = λ i j past inside.
             write.others i j (λ e. absurd (omega (arith, e, past))) inside ∙ so_far.rest i j (omega (arith, past)) inside;
       }
 
-  pub rows_end : (rows : ℕ) → rows ≤ n → (i j : ℕ) → i < rows → j < columns → entry_of number columns now i j ≡ wanted i j
+  pub rows_end : (rows : ℕ) → rows ≤ n → (i j : ℕ) → i < rows → j < columns → read now i j ≡ wanted i j
   rows_end rows past i j below inside = so_far.done i j (omega (arith, below, past)) inside
 
 -- ---- parts of a matrix
@@ -154,6 +155,11 @@ rows_behind {rows} {columns} {row} {start} {len} {rest} has at parts =
     let all : rows ≡ row + (rows - row) = omega (arith, within) in
     let whole : rows * columns ≡ (row + (rows - row)) * columns = ap (λ (n : ℕ). n * columns) all in
     record { shape = omega (arith, whole, long, at, parts); row_within = omega (arith, within) }
+
+-- each entry fits
+pub entries-lt : {V : Type 0} (number : V → ℕ) (width : ℕ) → ((x : V) → number x < 2 ^ width) → (columns : ℕ) (values : List V) (i j : ℕ)
+    → entry_of number columns values i j < 2 ^ width
+entries-lt number width range columns values i j = numbers-lt number width range values (i * columns + j)
 
 module _ {V : Type 0} (number : V → ℕ) where
   -- the numbers of two lists one behind the other, in the first
@@ -204,8 +210,8 @@ module _ {V : Type 0} (number : V → ℕ) where
 
     -- a row of the rows in front is written
     pub front_written : (rows row : ℕ) (own wanted : ℕ → ℕ) (front front' back : List V) → length front ≡ rows * columns → row < rows
-        → ((j : ℕ) → j < columns → own j ≡ wanted j) → IsRowWritten number columns row own front front'
-        → IsRowWritten number columns row wanted (front ++ back) (front' ++ back)
+        → ((j : ℕ) → j < columns → own j ≡ wanted j) → IsRowWritten (entry_of number columns) columns row own front front'
+        → IsRowWritten (entry_of number columns) columns row wanted (front ++ back) (front' ++ back)
     front_written rows row own wanted front front' back long within is write =
         record {
           shape = length-append front' back ∙ ap (λ (n : ℕ). n + length back) write.shape ∙ sym (length-append front back);
@@ -224,8 +230,8 @@ module _ {V : Type 0} (number : V → ℕ) where
 
     -- the first of the rows behind is written
     pub back_written : (row : ℕ) (own wanted : ℕ → ℕ) (front back back' : List V) → length front ≡ row * columns
-        → ((j : ℕ) → j < columns → own j ≡ wanted j) → IsRowWritten number columns 0 own back back'
-        → IsRowWritten number columns row wanted (front ++ back) (front ++ back')
+        → ((j : ℕ) → j < columns → own j ≡ wanted j) → IsRowWritten (entry_of number columns) columns 0 own back back'
+        → IsRowWritten (entry_of number columns) columns row wanted (front ++ back) (front ++ back')
     back_written row own wanted front back back' long is write =
         record {
           shape = length-append front back' ∙ ap (λ (n : ℕ). length front + n) write.shape ∙ sym (length-append front back);
@@ -262,7 +268,7 @@ module _ {V : Type 0} (number : V → ℕ) where
       -- to a row by itself
       row_added : (own own' values : List V) → length own ≡ columns → length own' ≡ length own
           → AreScaledSums times s (map number values) (map number own) (map number own')
-          → IsRowWritten number columns 0
+          → IsRowWritten (entry_of number columns) columns 0
           (λ j. bit_xor (entry_of number columns own 0 j) (times s (slice_index (map number values) j))) own own'
       row_added own own' values long same sums =
           record {
@@ -285,14 +291,14 @@ module _ {V : Type 0} (number : V → ℕ) where
       pub part_added : (row : ℕ) (matrix before rest own own' behind values : List V) → matrix ≡ before ++ rest → rest ≡ own ++ behind
           → length before ≡ row * columns → length own ≡ columns → length own' ≡ length own
           → AreScaledSums times s (map number values) (map number own) (map number own')
-          → IsRowWritten number columns row
+          → IsRowWritten (entry_of number columns) columns row
           (λ j. bit_xor (entry_of number columns matrix row j) (times s (slice_index (map number values) j))) matrix
           (before ++ (own' ++ behind))
       part_added row matrix before rest own own' behind values parts rest_parts start long same sums =
           let added : ℕ → ℕ → ℕ = λ j x. bit_xor x (times s (slice_index (map number values) j)) in
           let whole : matrix ≡ before ++ (own ++ behind) = parts ∙ ap (λ (l : List V). before ++ l) rest_parts in
           let one : length own ≡ 1 * columns = omega (arith, long) in
-          subst (λ (l : List V). IsRowWritten number columns row (λ j. added j (entry_of number columns l row j)) l (before ++ (own' ++ behind)))
+          subst (λ (l : List V). IsRowWritten (entry_of number columns) columns row (λ j. added j (entry_of number columns l row j)) l (before ++ (own' ++ behind)))
           (sym whole)
           (back_written row (λ j. added j (entry_of number columns (own ++ behind) 0 j)) _ before (own ++ behind) (own' ++ behind) start
           (λ j inside. ap (added j) (sym (entry_next row j before (own ++ behind) start)))
@@ -308,11 +314,11 @@ module _ {V : Type 0} (number : V → ℕ) where
         -- of an earlier row, to the first one behind a place where the matrix was split
         pub earlier_added : (front values : List V) {matrix back back' : List V} → matrix ≡ front ++ back → length front ≡ to * columns → from < to
             → ((j : ℕ) → j < columns → slice_index (map number values) j ≡ entry_of number columns front from j)
-            → IsRowWritten number columns 0
+            → IsRowWritten (entry_of number columns) columns 0
             (λ j. bit_xor (entry_of number columns back 0 j) (times s (slice_index (map number values) j))) back back'
-            → IsRowWritten number columns to (added_row matrix) matrix (front ++ back')
+            → IsRowWritten (entry_of number columns) columns to (added_row matrix) matrix (front ++ back')
         earlier_added front values {matrix} {back} {back'} parts long earlier are write =
-            subst (λ (l : List V). IsRowWritten number columns to (added_row l) l (front ++ back')) (sym parts)
+            subst (λ (l : List V). IsRowWritten (entry_of number columns) columns to (added_row l) l (front ++ back')) (sym parts)
             (back_written to _ (added_row (front ++ back)) front back back' long
             (λ j inside.
             ap₂ (λ (x y : ℕ). bit_xor x (times s y)) (sym (entry_next to j front back long))
@@ -321,11 +327,11 @@ module _ {V : Type 0} (number : V → ℕ) where
         -- of the first row behind that place, to an earlier one
         pub later_added : (back values : List V) {matrix front front' : List V} → matrix ≡ front ++ back → length front ≡ from * columns → to < from
             → ((j : ℕ) → j < columns → slice_index (map number values) j ≡ entry_of number columns back 0 j)
-            → IsRowWritten number columns to
+            → IsRowWritten (entry_of number columns) columns to
             (λ j. bit_xor (entry_of number columns front to j) (times s (slice_index (map number values) j))) front front'
-            → IsRowWritten number columns to (added_row matrix) matrix (front' ++ back)
+            → IsRowWritten (entry_of number columns) columns to (added_row matrix) matrix (front' ++ back)
         later_added back values {matrix} {front} {front'} parts long later are write =
-            subst (λ (l : List V). IsRowWritten number columns to (added_row l) l (front' ++ back)) (sym parts)
+            subst (λ (l : List V). IsRowWritten (entry_of number columns) columns to (added_row l) l (front' ++ back)) (sym parts)
             (front_written from to _ (added_row (front ++ back)) front front' back long later
             (λ j inside.
             ap₂ (λ (x y : ℕ). bit_xor x (times s y)) (sym (entry_front from to j front back long later inside))
@@ -362,24 +368,22 @@ put_same from count other own was j same =
     ap (λ (n : ℕ). if nat_lt j from then n else if nat_lt j (from + count) then other (j - from) else n) same
 
 -- a loop that puts them into a row, from the first of them on
-pub put_start : {V : Type 0} (number : V → ℕ) (columns row from count : ℕ) (other : ℕ → ℕ) (old : List V)
-    → RowWritten number columns row (put_entry from count other (entry_of number columns old row)) old old from
-put_start number columns row from count other old =
-    let own = entry_of number columns old row in
-    row_from number columns row (put_entry from count other own) old from (λ j before. sym (put-before from count other own j before))
+pub put_start : (from count : ℕ) (other : ℕ → ℕ) {V : Type 0} {read : List V → ℕ → ℕ → ℕ} {columns row : ℕ} {old : List V}
+    → RowWritten read columns row (put_entry from count other (read old row)) old old from
+put_start from count other {read = read} {row = row} {old = old} = row_from (λ j before. sym (put-before from count other (read old row) j before))
 
-module _ (from count : ℕ) (other : ℕ → ℕ) {V : Type 0} {number : V → ℕ} {columns row : ℕ} {old now : List V} {n : ℕ}
-    (so_far : RowWritten number columns row (put_entry from count other (entry_of number columns old row)) old now n) where
+module _ (from count : ℕ) (other : ℕ → ℕ) {V : Type 0} {read : List V → ℕ → ℕ → ℕ} {columns row : ℕ} {old now : List V} {n : ℕ}
+    (so_far : RowWritten read columns row (put_entry from count other (read old row)) old now n) where
   pub put_step : {next : List V} {value : ℕ} → n < columns → from ≤ n → n < from + count → value ≡ other (n - from)
-      → IsEntryWritten number columns row n value now next
-      → RowWritten number columns row (put_entry from count other (entry_of number columns old row)) old next (n + 1)
+      → IsEntryWritten read columns row n value now next
+      → RowWritten read columns row (put_entry from count other (read old row)) old next (n + 1)
   put_step within past inside is write =
-      row_step so_far within (is ∙ sym (put-inside from count other (entry_of number columns old row) n past inside)) write
+      row_step so_far within (is ∙ sym (put-inside from count other (read old row) n past inside)) write
 
   pub put_end : from + count ≤ n
-      → IsRowWritten number columns row (put_entry from count other (entry_of number columns old row)) old now
+      → IsRowWritten read columns row (put_entry from count other (read old row)) old now
   put_end all =
-      row_stays so_far (λ j past inside. put-behind from count other (entry_of number columns old row) j (omega (arith, past, all)))
+      row_stays so_far (λ j past inside. put-behind from count other (read old row) j (omega (arith, past, all)))
 
 -- ---- rows of two matrices
 

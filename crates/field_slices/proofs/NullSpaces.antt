@@ -9,7 +9,7 @@ use Rattle.field_base.proofs.BasisSums.{sum_below-same}
 use Rattle.field_base.proofs.PowerLemmas.{times-one}
 use Rattle.field_base.proofs.RingLemmas.{times-zero, zero-times}
 use Rattle.field_slices.specs.Matrices.{HaveSameRowSpace, IsEntryWritten, IsNullBasis, IsNullVector, IsReducedEchelon, IsRowWritten, NullSpaceIsKept}
-use Rattle.field_slices.specs.Matrices.{beside_identity, entry_of, identity_entry, null_entry}
+use Rattle.field_slices.specs.Matrices.{beside_identity, identity_entry, null_entry}
 use Rattle.field_slices.proofs.InverseMatrices.{beside-none, rising-apart}
 use Rattle.field_slices.proofs.NextTerms.{sum-more}
 use Rattle.field_slices.proofs.LinearSystems.{sum_of_nothing}
@@ -50,9 +50,9 @@ module _ (pivot : ℕ → ℕ) (A : ℕ → ℕ → ℕ) (f : ℕ) where
       less : (k ≡ n → ⊥) → k < n
       less other = omega (arith, below, other)
 
-  pub null_begin : {V : Type 0} {number : V → ℕ} {columns row : ℕ} {old now : List V} (other : ℕ → ℕ → ℕ)
-      → IsRowWritten number columns row (beside_identity 0 other f) old now
-      → IsRowWritten number columns row (null_entry pivot A f 0) old now
+  pub null_begin : {V : Type 0} {read : List V → ℕ → ℕ → ℕ} {columns row : ℕ} {old now : List V} (other : ℕ → ℕ → ℕ)
+      → IsRowWritten read columns row (beside_identity 0 other f) old now
+      → IsRowWritten read columns row (null_entry pivot A f 0) old now
   unfolding null_entry
   null_begin other write = record {
     shape = write.shape;
@@ -60,14 +60,14 @@ module _ (pivot : ℕ → ℕ) (A : ℕ → ℕ → ℕ) (f : ℕ) where
     others = write.others;
   }
 
-  pub null_step : {V : Type 0} {number : V → ℕ} {columns row : ℕ} {old now next : List V} {n value : ℕ} → value ≡ A n f
-      → IsRowWritten number columns row (null_entry pivot A f n) old now → IsEntryWritten number columns row (pivot n) value now next
-      → IsRowWritten number columns row (null_entry pivot A f (n + 1)) old next
-  null_step {number = number} {columns = columns} {row = row} {next = next} {n = n} is so_far write = record {
+  pub null_step : {V : Type 0} {read : List V → ℕ → ℕ → ℕ} {columns row : ℕ} {old now next : List V} {n value : ℕ} → value ≡ A n f
+      → IsRowWritten read columns row (null_entry pivot A f n) old now → IsEntryWritten read columns row (pivot n) value now next
+      → IsRowWritten read columns row (null_entry pivot A f (n + 1)) old next
+  null_step {read = read} {row = row} {next = next} {n = n} is so_far write = record {
     shape = write.shape ∙ so_far.shape;
     entries = λ j inside.
         elim (cases_eq j (pivot n)) [
-          | inl same ↦ ap (entry_of number columns next row) same ∙ write.written ∙ is ∙ sym (more j ∙ null-taken n j same)
+          | inl same ↦ ap (read next row) same ∙ write.written ∙ is ∙ sym (more j ∙ null-taken n j same)
           | inr other ↦ write.others row j inside (inr other) ∙ so_far.entries j inside ∙ sym (more j ∙ null-kept n j other)
         ];
     others = λ i j other inside. write.others i j inside (inl other) ∙ so_far.others i j other inside;
@@ -111,14 +111,16 @@ module _ (times : ℕ → ℕ → ℕ) (columns r : ℕ) (p : ℕ → ℕ) (A : 
       pub spans : (x : ℕ → ℕ) → (c : ℕ → ℕ) × ((j : ℕ) → j < columns
           → vectors_sum x n j ≡ sum_below (λ q. times (c q) (read now q j)) count)
 
-    pub vectors_same : (old now next : List V) (passed count next_passed next_count n : ℕ) → next ≡ now → next_passed ≡ passed
-        → next_count ≡ count → VectorsWritten old now passed count n → VectorsWritten old next next_passed next_count n
-    vectors_same old now next passed count next_passed next_count n now_is passed_is count_is whole =
-        subst (λ (values : List V). VectorsWritten old values next_passed next_count n) (sym now_is)
-        (subst (λ (k : ℕ). VectorsWritten old now k next_count n) (sym passed_is)
-        (subst (λ (k : ℕ). VectorsWritten old now passed k n) (sym count_is) whole))
+pub vectors_same : {times : ℕ → ℕ → ℕ} {columns r : ℕ} {p : ℕ → ℕ} {A : ℕ → ℕ → ℕ} {V : Type 0} {read : List V → ℕ → ℕ → ℕ}
+    {old now next : List V} {passed count next_passed next_count n : ℕ} → VectorsWritten times columns r p A read old now passed count n
+    → next ≡ now → next_passed ≡ passed → next_count ≡ count → VectorsWritten times columns r p A read old next next_passed next_count n
+vectors_same {times} {columns} {r} {p} {A} {V} {read} {old} {now} {passed = passed} {next_passed = next_passed} {next_count = next_count} {n = n}
+    whole now_is passed_is count_is =
+    subst (λ (values : List V). VectorsWritten times columns r p A read old values next_passed next_count n) (sym now_is)
+    (subst (λ (k : ℕ). VectorsWritten times columns r p A read old now k next_count n) (sym passed_is)
+    (subst (λ (k : ℕ). VectorsWritten times columns r p A read old now passed k n) (sym count_is) whole))
 
-module _ (width : ℕ) (times : ℕ → ℕ → ℕ) (ring : IsRing width 1 times) (rows columns r : ℕ) (p : ℕ → ℕ) (A : ℕ → ℕ → ℕ)
+module _ {width : ℕ} {times : ℕ → ℕ → ℕ} (ring : IsRing width 1 times) {rows columns r : ℕ} {p : ℕ → ℕ} {A : ℕ → ℕ → ℕ}
     (reduced : IsReducedEchelon rows columns r p A) where
   pivots-apart : (m k : ℕ) → m < r → k < r → m ≢ k → p m ≢ p k
   pivots-apart m k m_below k_below other =
@@ -200,7 +202,7 @@ module _ (width : ℕ) (times : ℕ → ℕ → ℕ) (ring : IsRing width 1 time
           | inl below ↦ vector_row i below
           | inr past ↦ sum_below-same (λ j. times (A i j) (null_entry p A f r j)) (λ j. times 0 (null_entry p A f r j)) columns
               (λ j j_inside. ap (λ (z : ℕ). times z (null_entry p A f r j)) (reduced.zero_rows i j past i_inside j_inside))
-              ∙ sum_of_nothing width times ring (null_entry p A f r) columns
+              ∙ sum_of_nothing ring (null_entry p A f r) columns
         ]
 
   -- ---- what the vectors span
@@ -329,7 +331,7 @@ module _ (width : ℕ) (times : ℕ → ℕ → ℕ) (ring : IsRing width 1 time
           let fits = reduced.pivots_fit (r - 1) (omega (arith, some)) in
           omega (arith, apart, last, fits, some)
 
-  module _ {V : Type 0} (read : List V → ℕ → ℕ → ℕ) (old : List V) where
+  module _ {V : Type 0} {read : List V → ℕ → ℕ → ℕ} {old : List V} where
     pub vectors_start : VectorsWritten times columns r p A read old old 0 0 0
     unfolding sum_below
     vectors_start = record {
@@ -342,7 +344,7 @@ module _ (width : ℕ) (times : ℕ → ℕ → ℕ) (ring : IsRing width 1 time
       spans = λ x. (x, λ j inside. refl);
     }
 
-    module _ (now : List V) (passed count n : ℕ) (so_far : VectorsWritten times columns r p A read old now passed count n) where
+    module _ {now : List V} {passed count n : ℕ} (so_far : VectorsWritten times columns r p A read old now passed count n) where
       pub vectors_pass : passed < r → p passed ≡ n → VectorsWritten times columns r p A read old now (passed + 1) count (n + 1)
       vectors_pass below is = record {
         shape = so_far.shape;
@@ -405,11 +407,11 @@ module _ (width : ℕ) (times : ℕ → ℕ → ℕ) (ring : IsRing width 1 time
                 omega (arith, first, differs, apart, last, fits, all, more)
 
         -- a row more, where the others stay
-        pub vectors_add : (next : List V) → length next ≡ length now
+        pub vectors_add : {next : List V} → length next ≡ length now
             → ((j : ℕ) → j < columns → read next count j ≡ null_entry p A n r j)
             → ((i j : ℕ) → i ≢ count → j < columns → read next i j ≡ read now i j)
             → VectorsWritten times columns r p A read old next passed (count + 1) (n + 1)
-        vectors_add next long entries_are others_are = record {
+        vectors_add {next} long entries_are others_are = record {
           shape = long ∙ so_far.shape;
           all = let all = so_far.all in omega (arith, all);
           few = so_far.few;
@@ -466,47 +468,45 @@ module _ (width : ℕ) (times : ℕ → ℕ → ℕ) (ring : IsRing width 1 time
                       ∙ sym (identity-only count q ∙ only-other q 1 count (λ e. absurd (omega (arith, e, below)))));
                 }
 
-    -- then each row that there is room for is written
-    pub vectors_count : (now : List V) (passed count n : ℕ) → n ≡ columns → VectorsWritten times columns r p A read old now passed count n
-        → count ≡ columns - r
-    vectors_count now passed count n ends so_far =
-        elim (cases_lt passed r) [
-          | inl more ↦ clash more
-          | inr past ↦ let all = so_far.all in let few = so_far.few in omega (arith, all, few, past, ends)
-        ]
-      where
-        clash : passed < r → count ≡ columns - r
-        clash more =
-            let first = so_far.ahead passed (omega arith) more in
-            let fits = reduced.pivots_fit passed more in
-            absurd (omega (arith, first, fits, ends))
+      -- then each row that there is room for is written
+      pub vectors_count : n ≡ columns → count ≡ columns - r
+      vectors_count ends =
+          elim (cases_lt passed r) [
+            | inl more ↦ clash more
+            | inr past ↦ let all = so_far.all in let few = so_far.few in omega (arith, all, few, past, ends)
+          ]
+        where
+          clash : passed < r → count ≡ columns - r
+          clash more =
+              let first = so_far.ahead passed (omega arith) more in
+              let fits = reduced.pivots_fit passed more in
+              absurd (omega (arith, first, fits, ends))
 
-    pub vectors_end : (now : List V) (passed count n : ℕ) → n ≡ columns → VectorsWritten times columns r p A read old now passed count n
-        → IsNullBasis width times rows columns (columns - r) A (read now)
-    vectors_end now passed count n ends so_far =
-        let whole = subst (λ (m : ℕ). VectorsWritten times columns r p A read old now passed count m) ends so_far in
-        subst (λ (m : ℕ). IsNullBasis width times rows columns m A (read now)) (vectors_count now passed count n ends so_far) (basis whole)
-      where
-        basis : VectorsWritten times columns r p A read old now passed count columns
-            → IsNullBasis width times rows columns count A (read now)
-        basis whole = record {
-          null = λ q below i i_inside.
-              let row = whole.rows_are q below in
-              sum_below-same (λ j. times (A i j) (read now q j)) (λ j. times (A i j) (null_entry p A row.column r j)) columns
-              (λ j inside. ap (times (A i j)) (row.entries j inside)) ∙ vector-null row.column row.before row.free i i_inside;
-          spans = λ x x_fits null.
-              let sum = whole.spans x in (sum.0, λ j inside. sym (vectors-span x x_fits null j inside) ∙ sum.1 j inside);
-          alone = λ q below. let row = whole.rows_are q below in (row.column, row.before, row.alone);
-        }
+      pub vectors_end : n ≡ columns → IsNullBasis width times rows columns (columns - r) A (read now)
+      vectors_end ends =
+          let whole = subst (λ (m : ℕ). VectorsWritten times columns r p A read old now passed count m) ends so_far in
+          subst (λ (m : ℕ). IsNullBasis width times rows columns m A (read now)) (vectors_count ends) (basis whole)
+        where
+          basis : VectorsWritten times columns r p A read old now passed count columns
+              → IsNullBasis width times rows columns count A (read now)
+          basis whole = record {
+            null = λ q below i i_inside.
+                let row = whole.rows_are q below in
+                sum_below-same (λ j. times (A i j) (read now q j)) (λ j. times (A i j) (null_entry p A row.column r j)) columns
+                (λ j inside. ap (times (A i j)) (row.entries j inside)) ∙ vector-null row.column row.before row.free i i_inside;
+            spans = λ x x_fits null.
+                let sum = whole.spans x in (sum.0, λ j inside. sym (vectors-span x x_fits null j inside) ∙ sum.1 j inside);
+            alone = λ q below. let row = whole.rows_are q below in (row.column, row.before, row.alone);
+          }
 
 -- ---- matrices with the same row space
 
-module _ (width : ℕ) (times : ℕ → ℕ → ℕ) (ring : IsRing width 1 times) (rows columns : ℕ) where
+module _ {width : ℕ} {times : ℕ → ℕ → ℕ} (ring : IsRing width 1 times) (rows columns : ℕ) where
   -- what a matrix takes to 0 each combination of its rows does
   null-combination : (A : ℕ → ℕ → ℕ) (x : ℕ → ℕ) → IsNullVector times rows columns A x → (c : ℕ → ℕ) (n : ℕ) → n ≤ rows
       → sum_below (λ j. times (sum_below (λ k. times (c k) (A k j)) n) (x j)) columns ≡ 0
   unfolding sum_below
-  null-combination A x null c zero few = sum_of_nothing width times ring x columns
+  null-combination A x null c zero few = sum_of_nothing ring x columns
   null-combination A x null c (suc n) few =
       sum_with width times ring (λ j. sum_below (λ k. times (c k) (A k j)) n) (A n) x (c n) columns
       ∙ ap₂ bit_xor (null-combination A x null c n (omega (arith, few)))
@@ -523,6 +523,6 @@ module _ (width : ℕ) (times : ℕ → ℕ → ℕ) (ring : IsRing width 1 time
 
 pub null_is_kept : NullSpaceIsKept
 null_is_kept width times rows columns A B ring A_fits B_fits same x = (
-  null_passes width times ring rows columns A B B_fits same x,
-  null_passes width times ring rows columns B A A_fits (λ v. ((same v).1, (same v).0)) x,
+  null_passes ring rows columns A B B_fits same x,
+  null_passes ring rows columns B A A_fits (λ v. ((same v).1, (same v).0)) x,
 )

@@ -12,7 +12,7 @@ use Rattle.field_slices.specs.Multilinear.{folded, on_line}
 use Rattle.field_slices.proofs.CubeTables.{drop-map}
 use Rattle.field_slices.specs.Sumcheck.{Quadratic, quadratic_at, sum_of_products}
 
-module _ (width : ℕ) (times : ℕ → ℕ → ℕ) (ring : IsRing width 1 times) where
+module _ {width : ℕ} {times : ℕ → ℕ → ℕ} (ring : IsRing width 1 times) where
   -- the polynomial with these sums of products of the lower halves, the upper halves, and one of each
   pub round_of : ℕ → ℕ → ℕ → ℕ → ℕ → ℕ
   round_of x low high first second =

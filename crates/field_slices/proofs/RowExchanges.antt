@@ -4,7 +4,7 @@ use Rattle.std.specs.Prelude.{◌==◌, if◌then◌else◌, slice_index}
 use Rattle.std.specs.List.{SwappedAt}
 use Rattle.std.proofs.lemmas.Bool.{cases_eq, cases_lt, eq-eqb, ne_eqb, lt-ltb, le-ltb}
 use Rattle.field_slices.specs.Decompositions.{exchanged, exchanged_entry}
-use Rattle.field_slices.specs.Matrices.{IsEntryWritten, entry_of}
+use Rattle.field_slices.specs.Matrices.{IsEntryWritten}
 
 -- ---- two numbers
 
@@ -74,50 +74,50 @@ exchanged-more first second column A i j other =
     ]
 
 -- the entries before this column are exchanged
-pub record RowsExchanged {V : Type 0} (number : V → ℕ) (columns first second : ℕ) (old now : List V) (column : ℕ) : Type 0 where
+pub record RowsExchanged {V : Type 0} (read : List V → ℕ → ℕ → ℕ) (columns first second : ℕ) (old now : List V) (column : ℕ) : Type 0 where
   pub shape : length now ≡ length old
-  pub entries : (i j : ℕ) → j < columns → entry_of number columns now i j
-      ≡ exchanged_entry first second column (entry_of number columns old) i j
+  pub entries : (i j : ℕ) → j < columns → read now i j
+      ≡ exchanged_entry first second column (read old) i j
 
-pub exchange_start : {V : Type 0} (number : V → ℕ) (columns first second : ℕ) (old : List V) → RowsExchanged number columns first second old old 0
-exchange_start number columns first second old = record {
+pub exchange_start : {V : Type 0} {read : List V → ℕ → ℕ → ℕ} {columns first second : ℕ} {old : List V} → RowsExchanged read columns first second old old 0
+exchange_start {read = read} {first = first} {second = second} {old = old} = record {
   shape = refl;
-  entries = λ i j inside. sym (exchanged-kept first second 0 (entry_of number columns old) i j (omega arith));
+  entries = λ i j inside. sym (exchanged-kept first second 0 (read old) i j (omega arith));
 }
 
-module _ {V : Type 0} {number : V → ℕ} {columns first second : ℕ} {old now : List V} {column : ℕ}
-    (so_far : RowsExchanged number columns first second old now column) where
-  pub exchange_step : {middle next : List V} {x y : ℕ} → column < columns → x ≡ entry_of number columns now first column
-      → y ≡ entry_of number columns now second column → IsEntryWritten number columns first column y now middle
-      → IsEntryWritten number columns second column x middle next → RowsExchanged number columns first second old next (column + 1)
+module _ {V : Type 0} {read : List V → ℕ → ℕ → ℕ} {columns first second : ℕ} {old now : List V} {column : ℕ}
+    (so_far : RowsExchanged read columns first second old now column) where
+  pub exchange_step : {middle next : List V} {x y : ℕ} → column < columns → x ≡ read now first column
+      → y ≡ read now second column → IsEntryWritten read columns first column y now middle
+      → IsEntryWritten read columns second column x middle next → RowsExchanged read columns first second old next (column + 1)
   exchange_step {middle} {next} within is_first is_second write then_write = record {
     shape = then_write.shape ∙ write.shape ∙ so_far.shape;
     entries = λ i j inside.
         elim (cases_eq j column) [
-          | inl same ↦ ap (entry_of number columns next i) same ∙ own i
-              ∙ ap (exchanged_entry first second (column + 1) (entry_of number columns old) i) (sym same)
+          | inl same ↦ ap (read next i) same ∙ own i
+              ∙ ap (exchanged_entry first second (column + 1) (read old) i) (sym same)
           | inr other ↦ then_write.others i j inside (inr other) ∙ write.others i j inside (inr other) ∙ so_far.entries i j inside
-              ∙ exchanged-more first second column (entry_of number columns old) i j other
+              ∙ exchanged-more first second column (read old) i j other
         ];
   }
     where
-      had : (i : ℕ) → entry_of number columns now i column ≡ entry_of number columns old i column
-      had i = so_far.entries i column within ∙ exchanged-kept first second column (entry_of number columns old) i column (omega arith)
+      had : (i : ℕ) → read now i column ≡ read old i column
+      had i = so_far.entries i column within ∙ exchanged-kept first second column (read old) i column (omega arith)
 
       wanted : (i p : ℕ) → exchanged first second i ≡ p
-          → entry_of number columns old p column ≡ exchanged_entry first second (column + 1) (entry_of number columns old) i column
+          → read old p column ≡ exchanged_entry first second (column + 1) (read old) i column
       wanted i p is =
-          ap (λ (r : ℕ). entry_of number columns old r column) (sym is)
-          ∙ sym (exchanged-taken first second (column + 1) (entry_of number columns old) i column (omega arith))
+          ap (λ (r : ℕ). read old r column) (sym is)
+          ∙ sym (exchanged-taken first second (column + 1) (read old) i column (omega arith))
 
-      own : (i : ℕ) → entry_of number columns next i column
-          ≡ exchanged_entry first second (column + 1) (entry_of number columns old) i column
+      own : (i : ℕ) → read next i column
+          ≡ exchanged_entry first second (column + 1) (read old) i column
       own i =
           elim (cases_eq i second) [
-            | inl same ↦ ap (λ (r : ℕ). entry_of number columns next r column) same ∙ then_write.written ∙ is_first ∙ had first
+            | inl same ↦ ap (λ (r : ℕ). read next r column) same ∙ then_write.written ∙ is_first ∙ had first
                 ∙ wanted i first (exchanged-back first second i same)
             | inr apart ↦ then_write.others i column within (inl apart) ∙ elim (cases_eq i first) [
-              | inl same ↦ ap (λ (r : ℕ). entry_of number columns middle r column) same ∙ write.written ∙ is_second ∙ had second
+              | inl same ↦ ap (λ (r : ℕ). read middle r column) same ∙ write.written ∙ is_second ∙ had second
                   ∙ wanted i second (exchanged-first first second i same)
               | inr other ↦ write.others i column within (inl other) ∙ had i ∙ wanted i i (exchanged-other first second i other apart)
             ]

@@ -9,7 +9,7 @@ use Rattle.field_base.proofs.BasisSums.{sum_below-same}
 use Rattle.field_base.proofs.PowerLemmas.{one-times}
 use Rattle.field_base.proofs.RingLemmas.{times-zero, zero-times}
 use Rattle.field_slices.specs.Decompositions.{IsDecomposition, exchanged, exchanged_entry}
-use Rattle.field_slices.specs.Matrices.{IsEntryWritten, entry_of, identity_entry}
+use Rattle.field_slices.specs.Matrices.{IsEntryWritten, identity_entry}
 use Rattle.field_slices.proofs.MatrixRows.{mixed, mixed-before, mixed-past}
 use Rattle.field_slices.proofs.RowExchanges.{exchanged-before, exchanged-keeps, exchanged-kept, exchanged-taken}
 use Rattle.field_slices.proofs.RowSpaces.{identity-only, only, only-after, only-other, only-same, sum_of_sums}
@@ -24,7 +24,7 @@ identity-row i k =
       | inr other ↦ identity-only i k ∙ only-other k 1 i (λ e. other (sym e)) ∙ sym (only-other i 1 k other)
     ]
 
-module _ (width : ℕ) (times : ℕ → ℕ → ℕ) (ring : IsRing width 1 times) (column rows : ℕ) where
+module _ {width : ℕ} {times : ℕ → ℕ → ℕ} (ring : IsRing width 1 times) (column rows : ℕ) where
   -- term k of the product of a row and a column, and 0 from place `column` on
   front : (ℕ → ℕ) → (ℕ → ℕ) → ℕ → ℕ
   front c F k = if nat_lt k column then times (c k) (F k) else 0
@@ -72,20 +72,20 @@ module _ (width : ℕ) (times : ℕ → ℕ → ℕ) (ring : IsRing width 1 time
 -- ---- a decomposition, and two rows exchanged
 
 -- columns past as many as there are rows have no entry below the diagonal
-pub decomposition-whole : (times : ℕ → ℕ → ℕ) (rows columns n : ℕ) (A : ℕ → ℕ → ℕ) (place : ℕ → ℕ) (L U : ℕ → ℕ → ℕ) → n ≡ min columns rows
+pub decomposition-whole : {times : ℕ → ℕ → ℕ} {rows columns n : ℕ} {A : ℕ → ℕ → ℕ} {place : ℕ → ℕ} {L U : ℕ → ℕ → ℕ} → n ≡ min columns rows
     → IsDecomposition times rows columns n A place L U → IsDecomposition times rows columns columns A place L U
-decomposition-whole times rows columns n A place L U is so_far = record {
+decomposition-whole is so_far = record {
   lower = so_far.lower;
   rest = λ i j inside past within. so_far.rest i j inside (omega (arith, is, past)) within;
   upper = λ i j order inside within. so_far.upper i j order inside (omega (arith, is, order, inside, within));
   product = so_far.product;
 }
 
-module _ (width : ℕ) (times : ℕ → ℕ → ℕ) (ring : IsRing width 1 times) (rows columns : ℕ) where
+module _ {width : ℕ} {times : ℕ → ℕ → ℕ} (ring : IsRing width 1 times) {rows columns : ℕ} where
   -- at first nothing is exchanged, and L is the identity matrix
-  pub decomposition-start : (A L : ℕ → ℕ → ℕ) (place : ℕ → ℕ) → ((i j : ℕ) → A i j < 2 ^ width) → ((i : ℕ) → i < rows → place i ≡ i)
+  pub decomposition-start : {A L : ℕ → ℕ → ℕ} {place : ℕ → ℕ} → ((i j : ℕ) → A i j < 2 ^ width) → ((i : ℕ) → i < rows → place i ≡ i)
       → ((i j : ℕ) → i < rows → j < rows → L i j ≡ identity_entry i j) → IsDecomposition times rows columns 0 A place L A
-  decomposition-start A L place fits stays identity =
+  decomposition-start {A} {L} {place} fits stays identity =
       record {
         lower = λ i j order inside. identity i j (omega (arith, order, inside)) inside;
         rest = λ i j inside past below. identity i j inside below;
@@ -100,8 +100,8 @@ module _ (width : ℕ) (times : ℕ → ℕ → ℕ) (ring : IsRing width 1 time
   module _ {column : ℕ} {A : ℕ → ℕ → ℕ} {place : ℕ → ℕ} {L U : ℕ → ℕ → ℕ}
       (so_far : IsDecomposition times rows columns column A place L U) where
     -- two rows from row `column` on exchange what they have in U, and in the columns of L before `column`
-    module _ (row : ℕ) (order : column ≤ row) (row_inside : row < rows) (column_inside : column < columns) (place' : ℕ → ℕ)
-        (L' U' : ℕ → ℕ → ℕ) (placed : (i : ℕ) → place' i ≡ place (exchanged column row i))
+    module _ {row : ℕ} (order : column ≤ row) (row_inside : row < rows) (column_inside : column < columns) {place' : ℕ → ℕ}
+        {L' U' : ℕ → ℕ → ℕ} (placed : (i : ℕ) → place' i ≡ place (exchanged column row i))
         (lowered : (i j : ℕ) → j < rows → L' i j ≡ exchanged_entry column row column L i j)
         (uppered : (i j : ℕ) → j < columns → U' i j ≡ exchanged_entry column row columns U i j) where
       moved : ℕ → ℕ
@@ -131,22 +131,22 @@ module _ (width : ℕ) (times : ℕ → ℕ → ℕ) (ring : IsRing width 1 time
       lower-stays i j below past = lowered i j below ∙ exchanged-kept column row column L i j past
 
       -- the front terms of a row of the product are those of the row that it was
-      fronts : (i j : ℕ) → j < columns → sum_below (front width times ring column rows (L (moved i)) (λ k. U k j)) rows
-          ≡ sum_below (front width times ring column rows (L' i) (λ k. U' k j)) rows
+      fronts : (i j : ℕ) → j < columns → sum_below (front ring column rows (L (moved i)) (λ k. U k j)) rows
+          ≡ sum_below (front ring column rows (L' i) (λ k. U' k j)) rows
       fronts i j below =
-          sum_below-same (front width times ring column rows (L (moved i)) (λ k. U k j))
-          (front width times ring column rows (L' i) (λ k. U' k j)) rows (λ k within. term k within (cases_lt k column))
+          sum_below-same (front ring column rows (L (moved i)) (λ k. U k j))
+          (front ring column rows (L' i) (λ k. U' k j)) rows (λ k within. term k within (cases_lt k column))
         where
-          term : (k : ℕ) → k < rows → (k < column) ⊎ (column ≤ k) → front width times ring column rows (L (moved i)) (λ k. U k j) k
-              ≡ front width times ring column rows (L' i) (λ k. U' k j) k
+          term : (k : ℕ) → k < rows → (k < column) ⊎ (column ≤ k) → front ring column rows (L (moved i)) (λ k. U k j) k
+              ≡ front ring column rows (L' i) (λ k. U' k j) k
           term k within (inl before) =
-              front-before width times ring column rows (L (moved i)) (λ k. U k j) k before
+              front-before ring column rows (L (moved i)) (λ k. U k j) k before
               ∙ ap₂ times (sym (lower-moved i k within before))
               (ap (λ (r : ℕ). U r j) (sym (moved-before k before)) ∙ sym (upper-moved k j below))
-              ∙ sym (front-before width times ring column rows (L' i) (λ k. U' k j) k before)
+              ∙ sym (front-before ring column rows (L' i) (λ k. U' k j) k before)
           term k within (inr past) =
-              front-past width times ring column rows (L (moved i)) (λ k. U k j) k past
-              ∙ sym (front-past width times ring column rows (L' i) (λ k. U' k j) k past)
+              front-past ring column rows (L (moved i)) (λ k. U k j) k past
+              ∙ sym (front-past ring column rows (L' i) (λ k. U' k j) k past)
 
       exchanged-product : (i j : ℕ) → i < rows → j < columns → A (place' i) j ≡ sum_below (λ k. times (L' i k) (U' k j)) rows
       unfolding moved
@@ -162,14 +162,14 @@ module _ (width : ℕ) (times : ℕ → ℕ → ℕ) (ring : IsRing width 1 time
           rows_agree : (i < column) ⊎ (column ≤ i)
               → sum_below (λ k. times (L (moved i) k) (U k j)) rows ≡ sum_below (λ k. times (L' i k) (U' k j)) rows
           rows_agree (inl before) =
-              split-before width times ring column rows (L (moved i)) (λ k. U k j) (moved i) rest_before
+              split-before ring column rows (L (moved i)) (λ k. U k j) (moved i) rest_before
               (subst (λ (k : ℕ). k < column) (sym (moved-before i before)) before)
-              ∙ fronts i j below ∙ sym (split-before width times ring column rows (L' i) (λ k. U' k j) i rest_after before)
+              ∙ fronts i j below ∙ sym (split-before ring column rows (L' i) (λ k. U' k j) i rest_after before)
           rows_agree (inr past) =
-              split-past width times ring column rows (L (moved i)) (λ k. U k j) (moved i) rest_before (moved-past i past)
+              split-past ring column rows (L (moved i)) (λ k. U k j) (moved i) rest_before (moved-past i past)
               (moved-inside i inside)
               ∙ ap₂ bit_xor (fronts i j below) (ap (times 1) (sym (upper-moved i j below)))
-              ∙ sym (split-past width times ring column rows (L' i) (λ k. U' k j) i rest_after past inside)
+              ∙ sym (split-past ring column rows (L' i) (λ k. U' k j) i rest_after past inside)
 
       pub decomposition-exchanged : IsDecomposition times rows columns column A place' L' U'
       unfolding moved
@@ -196,7 +196,7 @@ module _ (width : ℕ) (times : ℕ → ℕ → ℕ) (ring : IsRing width 1 time
     -- ---- multiples of a row added to those below it
 
     -- row `column` of U times what L' has in that column is added to each row below it, and these are then 0 there
-    module _ (L' U' : ℕ → ℕ → ℕ) (column_inside : column < columns)
+    module _ {L' U' : ℕ → ℕ → ℕ} (column_inside : column < columns)
         (factors : (i : ℕ) → column < i → i < rows → times (L' i column) (U column column) ≡ U i column)
         (kept : (i j : ℕ) → j < rows → (i ≤ column) ⊎ (j ≢ column) → L' i j ≡ L i j)
         (cleared : (i j : ℕ) → column < i → i < rows → j < columns → U' i j ≡ bit_xor (U i j) (times (L' i column) (U column j)))
@@ -340,36 +340,36 @@ module _ (width : ℕ) (times : ℕ → ℕ → ℕ) (ring : IsRing width 1 time
 -- ---- the rows below a pivot, one after the other
 
 -- a number times an inverse, times what that inverts
-pub quotient_times : (width : ℕ) (times : ℕ → ℕ → ℕ) → IsRing width 1 times → (pivot inverse value : ℕ) → value < 2 ^ width
+pub quotient_times : {width : ℕ} {times : ℕ → ℕ → ℕ} → IsRing width 1 times → {pivot inverse value : ℕ} → value < 2 ^ width
     → times pivot inverse ≡ 1 → times (times inverse value) pivot ≡ value
-quotient_times width times ring pivot inverse value fits inverts =
+quotient_times {width} {times} ring {pivot} {inverse} {value} fits inverts =
     ring.comm (times inverse value) pivot ∙ sym (ring.assoc pivot inverse value) ∙ ap (λ (x : ℕ). times x value) inverts
     ∙ one-times width 1 times ring value fits
 
 -- the rows before row n have what row `column` of U is multiplied by in this column, and what stands elsewhere stays
-pub record FactorsWritten {V : Type 0} (number : V → ℕ) (times : ℕ → ℕ → ℕ) (rows column : ℕ) (U : ℕ → ℕ → ℕ) (old now : List V) (n : ℕ)
+pub record FactorsWritten {V : Type 0} (read : List V → ℕ → ℕ → ℕ) (times : ℕ → ℕ → ℕ) (rows column : ℕ) (U : ℕ → ℕ → ℕ) (old now : List V) (n : ℕ)
     : Type 0 where
   pub shape : length now ≡ length old
-  pub done : (i : ℕ) → column < i → i < n → times (entry_of number rows now i column) (U column column) ≡ U i column
-  pub stays : (i j : ℕ) → j < rows → (i ≤ column) ⊎ (j ≢ column) → entry_of number rows now i j ≡ entry_of number rows old i j
+  pub done : (i : ℕ) → column < i → i < n → times (read now i column) (U column column) ≡ U i column
+  pub stays : (i j : ℕ) → j < rows → (i ≤ column) ⊎ (j ≢ column) → read now i j ≡ read old i j
 
-pub factors_start : {V : Type 0} (number : V → ℕ) (times : ℕ → ℕ → ℕ) (rows column : ℕ) (U : ℕ → ℕ → ℕ) (old : List V)
-    → FactorsWritten number times rows column U old old (column + 1)
-factors_start number times rows column U old = record {
+pub factors_start : {V : Type 0} {read : List V → ℕ → ℕ → ℕ} {times : ℕ → ℕ → ℕ} {rows column : ℕ} {U : ℕ → ℕ → ℕ} {old : List V}
+    → FactorsWritten read times rows column U old old (column + 1)
+factors_start = record {
   shape = refl;
   done = λ i below before. absurd (omega (arith, below, before));
   stays = λ i j inside elsewhere. refl;
 }
 
-module _ {V : Type 0} {number : V → ℕ} {times : ℕ → ℕ → ℕ} {rows column : ℕ} {U : ℕ → ℕ → ℕ} {old now : List V} {n : ℕ}
-    (so_far : FactorsWritten number times rows column U old now n) where
+module _ {V : Type 0} {read : List V → ℕ → ℕ → ℕ} {times : ℕ → ℕ → ℕ} {rows column : ℕ} {U : ℕ → ℕ → ℕ} {old now : List V} {n : ℕ}
+    (so_far : FactorsWritten read times rows column U old now n) where
   pub factors_step : {next : List V} {value : ℕ} → column < n → n < rows → times value (U column column) ≡ U n column
-      → IsEntryWritten number rows n column value now next → FactorsWritten number times rows column U old next (n + 1)
+      → IsEntryWritten read rows n column value now next → FactorsWritten read times rows column U old next (n + 1)
   factors_step {next} past within is write = record {
     shape = write.shape ∙ so_far.shape;
     done = λ i below before.
         elim (cases_eq i n) [
-          | inl same ↦ ap (λ (r : ℕ). times (entry_of number rows next r column) (U column column)) same
+          | inl same ↦ ap (λ (r : ℕ). times (read next r column) (U column column)) same
               ∙ ap (λ (x : ℕ). times x (U column column)) write.written ∙ is ∙ ap (λ (r : ℕ). U r column) (sym same)
           | inr other ↦ ap (λ (x : ℕ). times x (U column column)) (write.others i column (omega (arith, past, within)) (inl other))
               ∙ so_far.done i below (omega (arith, before, other))

@@ -117,17 +117,17 @@ pub record HasMatrixEntry (rows columns row column len : ℕ) : Type 0 where
   pub row_within : row < rows
   pub column_within : column < columns
 
--- the entry in this row and column has a value, and the others are as they were
-pub record IsEntryWritten {V : Type 0} (number : V → ℕ) (columns row column value : ℕ) (old now : List V) : Type 0 where
+-- of the matrix that a list reads as, the entry in this row and column has a value, and the others are as they were
+pub record IsEntryWritten {V : Type 0} (read : List V → ℕ → ℕ → ℕ) (columns row column value : ℕ) (old now : List V) : Type 0 where
   pub shape : length now ≡ length old
-  pub written : entry_of number columns now row column ≡ value
-  pub others : (i j : ℕ) → j < columns → (i ≢ row) ⊎ (j ≢ column) → entry_of number columns now i j ≡ entry_of number columns old i j
+  pub written : read now row column ≡ value
+  pub others : (i j : ℕ) → j < columns → (i ≢ row) ⊎ (j ≢ column) → read now i j ≡ read old i j
 
--- the row has these entries, and the other rows are as they were
-pub record IsRowWritten {V : Type 0} (number : V → ℕ) (columns row : ℕ) (wanted : ℕ → ℕ) (old now : List V) : Type 0 where
+-- of the matrix that a list reads as, the row has these entries, and the other rows are as they were
+pub record IsRowWritten {V : Type 0} (read : List V → ℕ → ℕ → ℕ) (columns row : ℕ) (wanted : ℕ → ℕ) (old now : List V) : Type 0 where
   pub shape : length now ≡ length old
-  pub entries : (j : ℕ) → j < columns → entry_of number columns now row j ≡ wanted j
-  pub others : (i j : ℕ) → i ≢ row → j < columns → entry_of number columns now i j ≡ entry_of number columns old i j
+  pub entries : (j : ℕ) → j < columns → read now row j ≡ wanted j
+  pub others : (i j : ℕ) → i ≢ row → j < columns → read now i j ≡ read old i j
 
 -- each of the numbers that are now there is the sum of the one before and a scalar times another at its place
 abbrev pub AreScaledSums : (ℕ → ℕ → ℕ) → ℕ → List ℕ → List ℕ → List ℕ → Type 0

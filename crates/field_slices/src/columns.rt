@@ -60,7 +60,7 @@ fn copy_row<S: Scalars>(
     requires row { HasMatrixRow copy.rows copy.target_columns row (length target.old) }
     requires inside { copy.from + copy.count ≤ copy.columns }
     requires room { copy.to + copy.count ≤ copy.target_columns }
-    ensures { IsRowWritten (S.number field) copy.target_columns row
+    ensures { IsRowWritten (entry_of (S.number field) copy.target_columns) copy.target_columns row
         (put_entry copy.to copy.count (λ k. entry_of (S.number field) copy.columns source.now row (copy.from + k))
         (entry_of (S.number field) copy.target_columns target.old row)) target.old target.new }
 {

@@ -46,7 +46,7 @@ pub(crate) fn write_identity_row<S: Scalars>(
     place: usize,
 )
     requires { HasMatrixRow shape.rows shape.columns row (length matrix.old) }
-    ensures { IsRowWritten (S.number field) shape.columns row
+    ensures { IsRowWritten (entry_of (S.number field) shape.columns) shape.columns row
         (beside_identity from (λ i. entry_of (S.number field) shape.columns matrix.old row) place) matrix.old matrix.new }
 {
     for column in from..shape.columns {

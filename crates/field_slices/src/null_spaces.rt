@@ -75,7 +75,7 @@ fn write_null_row<S: Scalars>(
     requires rank { rank ≤ length pivots.now }
     requires inside { (k : ℕ) → k < rank → slice_index pivots.now k < shape.columns }
     requires column { column < shape.columns }
-    ensures { IsRowWritten (S.number field) shape.columns row
+    ensures { IsRowWritten (entry_of (S.number field) shape.columns) shape.columns row
         (null_entry (slice_index pivots.now) (entry_of (S.number field) shape.columns reduced.now) column rank) basis.old basis.new }
 {
     let source = Shape {

@@ -47,7 +47,7 @@ fn write_product_row<S: Scalars>(
     requires left { length left.now ≡ shape.rows * inner }
     requires right { length right.now ≡ inner * shape.columns }
     requires row { HasMatrixRow shape.rows shape.columns row (length target.old) }
-    ensures { IsRowWritten (S.number field) shape.columns row
+    ensures { IsRowWritten (entry_of (S.number field) shape.columns) shape.columns row
         (product_entry (S.product field) inner (entry_of (S.number field) inner left.now)
         (entry_of (S.number field) shape.columns right.now) row)
         target.old target.new }
@@ -78,7 +78,7 @@ fn write_product_row<S: Scalars>(
 // Makes the entries of a row 0, and leaves the other rows.
 fn write_zero_row<S: Scalars>(field: S, target: &mut [S::Value], shape: Shape, row: usize)
     requires { HasMatrixRow shape.rows shape.columns row (length target.old) }
-    ensures { IsRowWritten (S.number field) shape.columns row (λ j. 0) target.old target.new }
+    ensures { IsRowWritten (entry_of (S.number field) shape.columns) shape.columns row (λ j. 0) target.old target.new }
 {
     for column in 0..shape.columns {
         set_entry(field, target, shape, row, column, field.zero());
@@ -120,7 +120,7 @@ fn write_transposed_row<S: Scalars>(
 )
     requires source { length source.now ≡ shape.rows * shape.columns }
     requires row { HasMatrixRow shape.columns shape.rows row (length target.old) }
-    ensures { IsRowWritten (S.number field) shape.rows row (λ j. entry_of
+    ensures { IsRowWritten (entry_of (S.number field) shape.rows) shape.rows row (λ j. entry_of
         (S.number field) shape.columns source.now j row) target.old target.new }
 {
     let Shape { rows, columns } = shape;

@@ -143,8 +143,8 @@ pub(crate) fn bring_nonzero<S: Scalars>(
 )
     requires rank { HasMatrixRow shape.rows shape.columns rank (length matrix.old) }
     requires row { row < shape.rows }
-    ensures { IsRowWritten (S.number field) shape.columns rank (joined_entry rank row (entry_of (S.number field) shape.columns matrix.old))
-        matrix.old matrix.new }
+    ensures { IsRowWritten (entry_of (S.number field) shape.columns) shape.columns rank
+        (joined_entry rank row (entry_of (S.number field) shape.columns matrix.old)) matrix.old matrix.new }
 {
     if row != rank {
         add_scaled_row(field, matrix, shape, rank, row, field.one());
@@ -181,7 +181,7 @@ fn clear_entry<S: Scalars>(
 )
     requires row { HasMatrixEntry shape.rows shape.columns row column (length matrix.old) }
     requires other { other < shape.rows }
-    ensures { IsRowWritten (S.number field) shape.columns other
+    ensures { IsRowWritten (entry_of (S.number field) shape.columns) shape.columns other
         (cleared_entry (S.product field) row column (entry_of (S.number field) shape.columns matrix.old) other) matrix.old matrix.new }
 {
     if other != row {

@@ -45,7 +45,8 @@ pub(crate) fn set_entry<S: Scalars>(
     value: S::Value,
 )
     requires { HasMatrixEntry shape.rows shape.columns row column (length matrix.old) }
-    ensures { IsEntryWritten (S.number field) shape.columns row column (S.number field value) matrix.old matrix.new }
+    ensures { IsEntryWritten (entry_of (S.number field) shape.columns) shape.columns row column (S.number field value)
+        matrix.old matrix.new }
 {
     let own = place(matrix.len(), shape, row, column);
     matrix[own] = value;
@@ -89,7 +90,8 @@ pub(crate) fn add_to_row<S: Scalars>(
 )
     requires row { HasMatrixRow shape.rows shape.columns row (length matrix.old) }
     requires values { length values.now ≡ shape.columns }
-    ensures { IsRowWritten (S.number field) shape.columns row (λ j. bit_xor (entry_of (S.number field) shape.columns matrix.old row j)
+    ensures { IsRowWritten (entry_of (S.number field) shape.columns) shape.columns row
+        (λ j. bit_xor (entry_of (S.number field) shape.columns matrix.old row j)
         (S.product field (S.number field scalar) (slice_index (map (S.number field) values.now) j))) matrix.old matrix.new }
 {
     let start = row_start(matrix.len(), shape, row);
@@ -110,7 +112,8 @@ pub(crate) fn add_scaled_row<S: Scalars>(
     requires to { HasMatrixRow shape.rows shape.columns to (length matrix.old) }
     requires from { from < shape.rows }
     requires other { from ≢ to }
-    ensures { IsRowWritten (S.number field) shape.columns to (λ j. bit_xor (entry_of (S.number field) shape.columns matrix.old to j)
+    ensures { IsRowWritten (entry_of (S.number field) shape.columns) shape.columns to
+        (λ j. bit_xor (entry_of (S.number field) shape.columns matrix.old to j)
         (S.product field (S.number field scalar) (entry_of (S.number field) shape.columns matrix.old from j))) matrix.old matrix.new }
 {
     // The matrix is split in front of the later one of the two rows.
@@ -156,7 +159,7 @@ pub(crate) fn scale_row<S: Scalars>(
     scalar: S::Value,
 )
     requires { HasMatrixRow shape.rows shape.columns row (length matrix.old) }
-    ensures { IsRowWritten (S.number field) shape.columns row
+    ensures { IsRowWritten (entry_of (S.number field) shape.columns) shape.columns row
         (λ j. S.product field (S.number field scalar) (entry_of (S.number field) shape.columns matrix.old row j)) matrix.old matrix.new }
 {
     for column in 0..shape.columns {

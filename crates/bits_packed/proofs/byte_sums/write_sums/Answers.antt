@@ -6,9 +6,6 @@ use Rattle.bits_packed.proofs.byte_sums.write_sums.Goals as goal
 pub loop-row-init : goal.loop-row-init
 loop-row-init c = (refl, λ i w b below. absurd (omega (arith, below)))
 
-pub write_row_sums-requires-clause-room : goal.write_row_sums-requires-clause-room
-write_row_sums-requires-clause-room c = c.loop-row.invariant.0 ∙ c.requires.room
-
 pub loop-row-preserved : goal.loop-row-preserved
 loop-row-preserved c = (
   c.write_row_sums.ensures.shape ∙ c.loop-row.invariant.0,
@@ -16,9 +13,6 @@ loop-row-preserved c = (
       (λ i j. masked_sum c.args.mask (block_entry c.args.block.width c.args.matrix.now c.args.block.row c.args.block.column c.args.block.columns i j))
       c.loop-row.bits c.write_row_sums.new.bits c.loop-row.invariant.1 c.write_row_sums.ensures,
 )
-
-pub returns-clause-shape : goal.returns-clause-shape
-returns-clause-shape c = c.loop-row.invariant.0
 
 pub returns-clause-sums : goal.returns-clause-sums
 returns-clause-sums c =

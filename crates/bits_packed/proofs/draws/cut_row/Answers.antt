@@ -18,8 +18,7 @@ module _ (words row column own value : ℕ) (old : List ℕ) (last : column / 64
   write =
       let place : own + 0 ≡ own = omega arith in
       subst (λ (x : ℕ). IsRangeWritten own (words - column / 64) (λ p. value) old (slice_set old x value)) place
-      (range_end own 1 (λ p. value) old (slice_set old (own + 0) value)
-      (range_step own 0 (λ p. value) old old (range_start own (λ p. value) old) value (omega (arith, inside)) refl)
+      (range_end (range_step range_start value (omega (arith, inside)) refl)
       (words - column / 64) (omega (arith, last)))
 
   bits : (j : ℕ) → 64 * (column / 64) ≤ j → j < 64 * words → bit_at value (j % 64) ≡ kept_before column (bit_entry words old row) j

@@ -1,7 +1,6 @@
 use Rattle.std.proofs.Common.{◌≡◌, ◌<◌, ◌≤◌, ◌+◌, ◌*◌, ℕ, arith, subst}
 use Rattle.std.proofs.lemmas.Bool.{eqb-true, eqb-false}
 use Rattle.std.proofs.lemmas.Grind.{div_ceil_times}
-use Rattle.std.specs.Prelude.{slice_index}
 use Rattle.std.specs.Int.{div_ceil}
 use Rattle.field_base.specs.Tower.{tower_mul}
 use Rattle.field_slices.specs.Matrices.{AreInverseMatrices, IsMatrixProduct, identity_entry}
@@ -19,8 +18,8 @@ returns-clause-inverse c = λ found.
     let step = c.reduce_words-rank in
     subst (λ (n : ℕ). AreInverseMatrices (tower_mul 0) c.args.size (bit_entry (n + n) c.args.augmented.now)
     (λ i j. bit_entry (n + n) step.new.matrix i (64 * n + j))) c.div_ceil-half.ensures
-    (bit_inverse_found half c.args.size step.result (enough c.args.size half c.div_ceil-half.ensures) (slice_index step.new.pivots) c.args.augmented.now
-    c.write_identity.new.matrix step.new.matrix c.write_identity.ensures.entries step.ensures.reduced step.ensures.space
+    (bit_inverse_found half (enough c.args.size half c.div_ceil-half.ensures) c.args.augmented.now c.write_identity.new.matrix step.new.matrix
+    c.write_identity.ensures.entries step.ensures.reduced step.ensures.space
     (eqb-true step.result c.args.size found))
 
 pub returns-clause-singular : goal.returns-clause-singular
@@ -29,8 +28,8 @@ returns-clause-singular c = λ missing.
     let step = c.reduce_words-rank in
     subst (λ (n : ℕ). (B : ℕ → ℕ → ℕ) → IsMatrixProduct (tower_mul 0) c.args.size c.args.size c.args.size B (bit_entry (n + n) c.args.augmented.now) identity_entry → ⊥)
     c.div_ceil-half.ensures
-    (bit_inverse_missing half c.args.size step.result (enough c.args.size half c.div_ceil-half.ensures) (slice_index step.new.pivots) c.args.augmented.now
-    c.write_identity.new.matrix step.new.matrix c.write_identity.ensures.entries step.ensures.reduced step.ensures.space
+    (bit_inverse_missing half (enough c.args.size half c.div_ceil-half.ensures) c.args.augmented.now c.write_identity.new.matrix step.new.matrix
+    c.write_identity.ensures.entries step.ensures.reduced step.ensures.space
     (eqb-false step.result c.args.size missing))
 
 pub returns-clause-behind : goal.returns-clause-behind
@@ -38,5 +37,5 @@ returns-clause-behind c =
     let half = c.div_ceil-half.result in
     let step = c.reduce_words-rank in
     subst (λ (n : ℕ). (i j : ℕ) → i < c.args.size → c.args.size ≤ j → j < 64 * n → bit_entry (n + n) step.new.matrix i (64 * n + j) ≡ 0) c.div_ceil-half.ensures
-    (bit_inverse_behind half c.args.size step.result (enough c.args.size half c.div_ceil-half.ensures) (slice_index step.new.pivots) c.args.augmented.now
-    c.write_identity.new.matrix step.new.matrix c.write_identity.ensures.entries step.ensures.reduced step.ensures.space)
+    (bit_inverse_behind half (enough c.args.size half c.div_ceil-half.ensures) c.args.augmented.now c.write_identity.new.matrix step.new.matrix
+    c.write_identity.ensures.entries step.ensures.reduced step.ensures.space)

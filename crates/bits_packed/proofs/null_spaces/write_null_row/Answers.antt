@@ -1,21 +1,21 @@
 use Rattle.std.proofs.Common.{ℕ, ◌≡◌, subst, arith}
 use Rattle.std.specs.Prelude.{slice_index}
 use Rattle.field_slices.specs.Matrices.{null_entry}
+use Rattle.field_slices.proofs.NullSpaces.{null_begin}
 use Rattle.bits_packed.specs.BitMatrices.{IsBitRowWritten, bit_entry}
-use Rattle.bits_packed.proofs.BitNullRows.{bit_null_begin, bit_null_step}
+use Rattle.bits_packed.proofs.BitNullRows.{bit_null_step}
 use Rattle.bits_packed.proofs.null_spaces.write_null_row.Goals as goal
 
 pub loop-k-init : goal.loop-k-init
 loop-k-init c =
     let entries = bit_entry c.args.shape.words in
-    bit_null_begin (slice_index c.args.pivots.now) (entries c.args.reduced.now) c.args.column c.args.shape.words c.args.row c.args.basis.now
-    c.write_identity_row.new.matrix (λ (i : ℕ). entries c.args.basis.now c.args.row) c.write_identity_row.ensures
+    null_begin (slice_index c.args.pivots.now) (entries c.args.reduced.now) c.args.column (λ (i : ℕ). entries c.args.basis.now c.args.row)
+    c.write_identity_row.ensures
 
 pub loop-k-preserved : goal.loop-k-preserved
 loop-k-preserved c =
     let k = c.loop-k.k in
-    bit_null_step (slice_index c.args.pivots.now) (bit_entry c.args.shape.words c.args.reduced.now) c.args.column c.args.shape.words c.args.row
-    k c.entry-value.result c.args.basis.now c.loop-k.basis c.add_entry.new.matrix c.entry-value.ensures
+    bit_null_step (slice_index c.args.pivots.now) (bit_entry c.args.shape.words c.args.reduced.now) c.args.column c.args.shape.words c.entry-value.ensures
     (c.requires.inside k (omega arith)) (λ m before. c.requires.rise m k before (omega arith)) (c.requires.free k (omega arith))
     c.loop-k.invariant c.add_entry.ensures
 

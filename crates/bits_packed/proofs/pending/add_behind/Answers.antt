@@ -1,4 +1,4 @@
-use Rattle.std.proofs.Common.{◌≡◌, ℕ, ◌+◌, ◌-◌, ◌*◌, ◌%◌, ◌∙◌, arith, subst}
+use Rattle.std.proofs.Common.{◌≡◌, ℕ, ◌+◌, ◌-◌, ◌*◌, ◌%◌, arith, subst}
 use Rattle.std.specs.Prelude.{slice_index}
 use Rattle.bits_packed.specs.BitMatrices.{AreWordsAdded}
 use Rattle.bits_packed.proofs.WordColumns.{sum_behind, words_added_then}
@@ -18,9 +18,6 @@ loop-index-init c =
           c.add_to_strip.new.matrix) none c.add_to_strip.ensures.sums,
     )
 
-pub add_to_strip-requires-in-loop-index-clause-shape : goal.add_to_strip-requires-in-loop-index-clause-shape
-add_to_strip-requires-in-loop-index-clause-shape c = c.loop-index.invariant.1.shape ∙ c.requires.shape
-
 pub add_to_strip-requires-in-loop-index-clause-strip : goal.add_to_strip-requires-in-loop-index-clause-strip
 add_to_strip-requires-in-loop-index-clause-strip c = record { within = omega (arith, c.requires.word); narrow = omega arith }
 
@@ -39,9 +36,6 @@ loop-index-preserved c =
           c.loop-index.matrix c.add_to_strip-in-loop-index.new.matrix (omega arith) (omega arith) (omega arith) (omega (arith, c.requires.word))
           c.loop-index.invariant.1 c.add_to_strip-in-loop-index.ensures.sums),
     )
-
-pub returns-clause-shape : goal.returns-clause-shape
-returns-clause-shape c = c.loop-index.invariant.1.shape
 
 pub returns-clause-sums : goal.returns-clause-sums
 returns-clause-sums c =

@@ -5,9 +5,7 @@ use Rattle.bits_packed.proofs.WordRanges.{strip_start, strip_step}
 use Rattle.bits_packed.proofs.pending.add_own.Goals as goal
 
 pub loop-row-init : goal.loop-row-init
-loop-row-init c =
-    strip_start c.args.strip.words c.args.strip.start c.args.strip.width
-    (λ i w. sum_of_digits c.args.tables.now (word_of c.args.strip.words c.args.matrix.now i c.args.word) 16 w) c.args.matrix.now
+loop-row-init c = strip_start
 
 pub place-own-requires : goal.place-own-requires
 place-own-requires c =
@@ -17,16 +15,11 @@ place-own-requires c =
       column_within = omega (arith, c.requires.word, c.requires.strip.within);
     }
 
-pub add_entries-requires-clause-shape : goal.add_entries-requires-clause-shape
-add_entries-requires-clause-shape c = c.loop-row.invariant.added.shape ∙ c.requires.shape
-
 pub loop-row-preserved : goal.loop-row-preserved
 loop-row-preserved c =
     let words = c.args.strip.words in
     let digits = slice_index c.loop-row.matrix c.place-own.result in
-    strip_step words c.args.strip.start c.args.strip.width c.requires.strip c.loop-row.row
-    (λ i w. sum_of_digits c.args.tables.now (word_of words c.args.matrix.now i c.args.word) 16 w)
-    (sum_of_digits c.args.tables.now digits 16) c.args.matrix.now c.loop-row.matrix c.add_entries.new.target
+    strip_step c.requires.strip (sum_of_digits c.args.tables.now digits 16)
     c.loop-row.invariant c.add_entries.ensures
     (λ w inside. ap (λ (x : ℕ). sum_of_digits c.args.tables.now x 16 w)
     (ap (slice_index c.loop-row.matrix) c.place-own.ensures.is

@@ -1,11 +1,8 @@
-use Rattle.std.proofs.Common.{◌*◌, ◌∙◌}
+use Rattle.std.proofs.Common.{◌*◌}
 use Rattle.std.specs.Prelude.{slice_index}
 use Rattle.bits_packed.specs.BitMatrices.{bit_entry}
 use Rattle.bits_packed.proofs.WordColumns.{no_sums, sums_added}
 use Rattle.bits_packed.proofs.pending.add_sums.Goals as goal
-
-pub returns-then-mask-ne0-clause-shape : goal.returns-then-mask-ne0-clause-shape
-returns-then-mask-ne0-clause-shape c = c.set_pivots.ensures.shape ∙ c.clear_bits.ensures.shape ∙ c.add_behind.ensures.shape
 
 pub returns-then-mask-ne0-clause-entries : goal.returns-then-mask-ne0-clause-entries
 returns-then-mask-ne0-clause-entries c =

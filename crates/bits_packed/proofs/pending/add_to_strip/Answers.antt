@@ -4,9 +4,6 @@ use Rattle.bits_packed.specs.BitMatrices.{AreWordsAdded}
 use Rattle.bits_packed.proofs.WordColumns.{strip_sums, sum_behind, words_added_none}
 use Rattle.bits_packed.proofs.pending.add_to_strip.Goals as goal
 
-pub returns-then-width-ne0-clause-tables : goal.returns-then-width-ne0-clause-tables
-returns-then-width-ne0-clause-tables c = c.write_tables.ensures.tables
-
 pub returns-then-width-ne0-clause-sums : goal.returns-then-width-ne0-clause-sums
 returns-then-width-ne0-clause-sums c =
     strip_sums c.args.strip.words c.args.word c.args.rows c.args.strip.start c.args.strip.width (slice_index c.args.places.now)

@@ -6,9 +6,7 @@ use Rattle.bits_packed.proofs.WordRanges.{strip_start, strip_step}
 use Rattle.bits_packed.proofs.pending.clear_bits.Goals as goal
 
 pub loop-row-init : goal.loop-row-init
-loop-row-init c =
-    strip_start c.args.shape.words c.args.word 1 (λ i w. bit_and (word_of c.args.shape.words c.args.matrix.now i c.args.word) c.args.mask)
-    c.args.matrix.now
+loop-row-init c = strip_start
 
 pub place-at-requires : goal.place-at-requires
 place-at-requires c =
@@ -25,8 +23,8 @@ loop-row-preserved c =
     let old = c.loop-row.matrix in
     let at = c.place-at.result in
     let sums : ℕ → ℕ → ℕ = λ i w. bit_and (word_of words c.args.matrix.now i c.args.word) c.args.mask in
-    strip_step words c.args.word 1 (record { within = omega (arith, c.requires.word); narrow = omega arith }) row sums
-    (λ w. bit_and (slice_index old at) c.args.mask) c.args.matrix.now old _ c.loop-row.invariant
+    strip_step (record { within = omega (arith, c.requires.word); narrow = omega arith })
+    (λ w. bit_and (slice_index old at) c.args.mask) c.loop-row.invariant
     (word_added (row * words + c.args.word) at (bit_and (slice_index old at) c.args.mask) old _ c.place-at.ensures.is
     (omega (arith, c.place-at.ensures.inside, c.requires.word)) refl)
     (λ w inside. ap (λ (x : ℕ). bit_and x c.args.mask)

@@ -1,4 +1,4 @@
-use Rattle.std.proofs.Common.{◌≡◌, ℕ, ◌*◌, ◌∙◌, arith, subst}
+use Rattle.std.proofs.Common.{◌≡◌, ℕ, ◌*◌, arith, subst}
 use Rattle.std.specs.Prelude.{slice_index}
 use Rattle.bits_packed.specs.BitMatrices.{ArePivotsSet}
 use Rattle.bits_packed.proofs.WordColumns.{pivots_more, pivots_start}
@@ -7,9 +7,6 @@ use Rattle.bits_packed.proofs.pending.set_pivots.Goals as goal
 pub loop-bit-init : goal.loop-bit-init
 loop-bit-init c =
     pivots_start c.args.shape.rows c.args.shape.words (64 * c.args.word) (slice_index c.args.places.now) c.args.matrix.now
-
-pub set_pivot-requires-clause-shape : goal.set_pivot-requires-clause-shape
-set_pivot-requires-clause-shape c = c.loop-bit.invariant.shape ∙ c.requires.shape
 
 pub loop-bit-preserved : goal.loop-bit-preserved
 loop-bit-preserved c =

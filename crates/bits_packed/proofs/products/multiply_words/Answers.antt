@@ -1,4 +1,4 @@
-use Rattle.std.proofs.Common.{◌≡◌, ℕ, ◌+◌, ◌*◌, ◌≤◌, ◌∙◌, arith, length, refl, subst}
+use Rattle.std.proofs.Common.{◌≡◌, ℕ, ◌+◌, ◌*◌, ◌≤◌, ◌∙◌, arith, refl, subst}
 use Rattle.std.proofs.lemmas.Grind.{div_ceil_times}
 use Rattle.bits_packed.specs.BitMatrices.{partial_word, words_for}
 use Rattle.bits_packed.proofs.FourRowTables.{product_bits}
@@ -9,23 +9,12 @@ pub loop-index-init : goal.loop-index-init
 loop-index-init c = (
   c.clear.ensures.shape,
   refl,
-  words_start c.args.words c.args.rows (length c.args.target.now)
-      (λ i v. partial_word c.args.inner (words_for c.args.inner) c.args.words c.args.left.now c.args.right.now (64 * words_for c.args.inner) i v)
-      c.args.target.now c.clear.new.words c.requires.shape c.clear.ensures,
+  words_start c.requires.shape c.clear.ensures,
 )
 
 pub strip_width-width-requires : goal.strip_width-width-requires
 strip_width-width-requires c =
     let few = (div_ceil_times c.args.words 8 (omega arith)).1 in omega (arith, few, c.div_ceil-strips.ensures)
-
-pub multiply_strip-requires-clause-shape : goal.multiply_strip-requires-clause-shape
-multiply_strip-requires-clause-shape c = c.loop-index.invariant.0 ∙ c.requires.shape
-
-pub multiply_strip-requires-clause-tables : goal.multiply_strip-requires-clause-tables
-multiply_strip-requires-clause-tables c = c.loop-index.invariant.1
-
-pub multiply_strip-requires-clause-strip : goal.multiply_strip-requires-clause-strip
-multiply_strip-requires-clause-strip c = c.strip_width-width.ensures.strip
 
 pub loop-index-preserved : goal.loop-index-preserved
 loop-index-preserved c =
@@ -34,13 +23,9 @@ loop-index-preserved c =
       c.multiply_strip.ensures.sums.shape ∙ c.loop-index.invariant.0,
       c.multiply_strip.ensures.tables,
       subst (λ (n : ℕ). WordsSoFar c.args.words n c.args.rows total c.multiply_strip.new.target) next
-          (words_step c.args.words (8 * c.loop-index.index) c.strip_width-width.result c.args.rows total
-          c.loop-index.target c.multiply_strip.new.target c.strip_width-width.ensures.strip c.strip_width-width.ensures.last
+          (words_step c.strip_width-width.ensures.strip c.strip_width-width.ensures.last
           c.loop-index.invariant.2 c.multiply_strip.ensures.sums),
     )
-
-pub returns-clause-shape : goal.returns-clause-shape
-returns-clause-shape c = c.loop-index.invariant.0
 
 pub returns-clause-product : goal.returns-clause-product
 returns-clause-product c =

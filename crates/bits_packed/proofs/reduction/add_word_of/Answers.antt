@@ -13,9 +13,7 @@ place-own-requires c =
 pub loop-other-init : goal.loop-other-init
 loop-other-init c =
     let words = c.args.shape.words in
-    strip_start words (c.args.column / 64) 1
-    (λ i w. bit_entry words c.args.matrix.now i c.args.column * word_of words c.args.matrix.now c.args.row (c.args.column / 64))
-    c.args.matrix.now
+    strip_start
 
 pub place-at-requires : goal.place-at-requires
 place-at-requires c =
@@ -35,8 +33,7 @@ loop-other-preserved c =
     let at = c.place-at.result in
     let value = bit_at (slice_index old at) (c.args.column % 64) * slice_index first c.place-own.result in
     let sums : ℕ → ℕ → ℕ = λ i w. bit_entry words first i c.args.column * word_of words first c.args.row word in
-    strip_step words word 1 (record { within = omega (arith, c.requires.row.column_within); narrow = omega arith }) other sums
-    (λ w. value) first old _ c.loop-other.invariant
+    strip_step (record { within = omega (arith, c.requires.row.column_within); narrow = omega arith }) (λ w. value) c.loop-other.invariant
     (word_added (other * words + word) at value old _ c.place-at.ensures.is
     (omega (arith, c.place-at.ensures.inside, c.requires.row.column_within)) refl)
     (λ w inside. ap₂ (λ (x y : ℕ). bit_at x (c.args.column % 64) * y)

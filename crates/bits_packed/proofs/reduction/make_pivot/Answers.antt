@@ -1,7 +1,7 @@
 use Rattle.std.proofs.Common.{◌*◌, ◌/◌, ◌%◌, ◌∙◌, arith, refl, set, sym}
 use Rattle.std.specs.Prelude.{slice_index}
 use Rattle.bits_packed.specs.BitMatrices.{bit_entry}
-use Rattle.bits_packed.proofs.BitPivots.{pivot-pending, places-more}
+use Rattle.bits_packed.proofs.BitPivots.{pivot-pending}
 use Rattle.bits_packed.proofs.PendingSums.{present-before}
 use Rattle.bits_packed.proofs.reduction.make_pivot.Goals as goal
 
@@ -40,18 +40,14 @@ add_word_of-requires c =
 pub returns : goal.returns
 returns c =
     let next = set c.args.places.now (c.args.column % 64) c.args.rank in
-    let made = pivot-pending c.args.shape.words c.args.shape.rows c.args.rank c.args.row c.args.column c.args.places.now next c.args.matrix.now
-    c.bring_nonzero.new.matrix c.add_entry.new.matrix c.add_word_of.new.matrix c.requires.rank.row_within c.requires.row c.requires.behind
-    c.requires.rank.column_within c.requires.places c.requires.nonzero c.requires.first c.requires.rank_zeros c.requires.row_zeros
-    c.bring_nonzero.ensures c.add_entry.ensures c.add_word_of.ensures (omega (arith, c.told-places)) refl in
+    let made = pivot-pending c.args.shape.words c.args.places.now next c.args.matrix.now c.requires.rank.row_within c.requires.row
+    c.requires.behind c.requires.rank.column_within c.requires.places c.requires.nonzero c.requires.first c.requires.rank_zeros
+    c.requires.row_zeros c.bring_nonzero.ensures c.add_entry.ensures c.add_word_of.ensures (omega (arith, c.told-places)) refl in
     record {
       shape = c.add_word_of.ensures.shape ∙ c.add_entry.ensures.shape ∙ c.bring_nonzero.ensures.shape;
-      places = places-more c.args.shape.words c.args.shape.rows c.args.rank c.args.row c.args.column c.args.places.now next c.args.matrix.now
-          c.bring_nonzero.new.matrix c.add_entry.new.matrix c.add_word_of.new.matrix c.requires.rank.row_within c.requires.row c.requires.behind
-          c.requires.rank.column_within c.requires.places c.requires.nonzero c.requires.first c.requires.rank_zeros c.requires.row_zeros
-          c.bring_nonzero.ensures c.add_entry.ensures c.add_word_of.ensures (omega (arith, c.told-places)) refl;
-      leading = made.leading;
-      alone = made.alone;
-      stays = made.stays;
-      space = made.space;
+      places = made.1;
+      leading = made.0.leading;
+      alone = made.0.alone;
+      stays = made.0.stays;
+      space = made.0.space;
     }

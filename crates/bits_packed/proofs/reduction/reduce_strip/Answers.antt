@@ -30,15 +30,6 @@ loop-column-init c =
       λ i past. refl,
     )
 
-pub reduce_column-found-requires-clause-shape : goal.reduce_column-found-requires-clause-shape
-reduce_column-found-requires-clause-shape c = c.loop-column.invariant.0 ∙ c.requires.shape
-
-pub reduce_column-found-requires-clause-room : goal.reduce_column-found-requires-clause-room
-reduce_column-found-requires-clause-room c = c.loop-column.invariant.1 ∙ c.requires.room
-
-pub reduce_column-found-requires-clause-column : goal.reduce_column-found-requires-clause-column
-reduce_column-found-requires-clause-column c = omega (arith, c.requires.within)
-
 pub reduce_column-found-requires-clause-places : goal.reduce_column-found-requires-clause-places
 reduce_column-found-requires-clause-places c =
     let bit : c.loop-column.column - c.args.from ≡ c.loop-column.column % 64 = omega (arith, c.requires.word, c.requires.few) in
@@ -76,15 +67,6 @@ loop-column-preserved c =
       omega (arith, so_far.5, step.grows),
       λ i past. step.rest i past ∙ so_far.6 i (omega (arith, step.grows, past)),
     )
-
-pub add_sums-requires-clause-shape : goal.add_sums-requires-clause-shape
-add_sums-requires-clause-shape c = c.loop-column.invariant.0 ∙ c.requires.shape
-
-pub add_sums-requires-clause-word : goal.add_sums-requires-clause-word
-add_sums-requires-clause-word c = omega (arith, c.requires.within, c.requires.more)
-
-pub returns-clause-grows : goal.returns-clause-grows
-returns-clause-grows c = c.loop-column.invariant.5
 
 pub returns-clause-reduced : goal.returns-clause-reduced
 returns-clause-reduced c =

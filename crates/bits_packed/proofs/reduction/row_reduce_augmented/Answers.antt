@@ -1,27 +1,19 @@
-use Rattle.std.proofs.Common.{◌≡◌, ℕ, ◌*◌, List, arith, subst}
+use Rattle.std.proofs.Common.{◌*◌, arith}
 use Rattle.std.proofs.lemmas.Grind.{div_ceil_times}
 use Rattle.field_base.specs.Tower.{tower_mul}
-use Rattle.field_slices.specs.Matrices.{AreRowsReduced}
 use Rattle.bits_packed.specs.BitMatrices.{bit_entry, words_for}
-use Rattle.bits_packed.proofs.BitRows.{space_of_columns}
+use Rattle.bits_packed.proofs.BitRows.{same_words, space_of_columns}
 use Rattle.bits_packed.proofs.reduction.row_reduce_augmented.Goals as goal
 
--- the words of a row are counted as the code does
-same_words : (columns : ℕ) {words : ℕ} → words ≡ words_for columns → {rows count rank : ℕ} {old now was pivots : List ℕ}
-    → AreRowsReduced (bit_entry words) (tower_mul 0) rows (64 * words) count rank old now was pivots
-    → AreRowsReduced (bit_entry (words_for columns)) (tower_mul 0) rows (64 * words_for columns) count rank old now was pivots
-same_words columns are {rows} {count} {rank} {old} {now} {was} {pivots} reduced =
-    subst (λ (n : ℕ). AreRowsReduced (bit_entry n) (tower_mul 0) rows (64 * n) count rank old now was pivots) are reduced
-
 pub returns-clause-whole : goal.returns-clause-whole
-returns-clause-whole c = (same_words c.args.columns c.div_ceil-words.ensures c.reduce_words.ensures).space
+returns-clause-whole c = (same_words c.div_ceil-words.ensures c.reduce_words.ensures).space
 
 pub returns-clause-reduced : goal.returns-clause-reduced
 returns-clause-reduced c =
     let columns = c.args.columns in
     let words = words_for columns in
     let enough = (div_ceil_times columns 64 (omega arith)).0 in
-    let whole = same_words c.args.columns c.div_ceil-words.ensures c.reduce_words.ensures in
+    let whole = same_words c.div_ceil-words.ensures c.reduce_words.ensures in
     record {
       shape = whole.shape;
       room = whole.room;

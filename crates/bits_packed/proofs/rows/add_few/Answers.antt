@@ -6,7 +6,4 @@ use Rattle.bits_packed.proofs.rows.add_few.Goals as goal
 pub returns : goal.returns
 returns c =
     let old = c.args.words.now in
-    range_same c.args.to c.args.count
-    (λ p. bit_xor (slice_index old (c.args.to + p)) (slice_index c.words_from-sums.result p))
-    (λ p. bit_xor (slice_index old (c.args.to + p)) (slice_index old (c.args.from + p))) old c.add_words.new.target
-    (λ p inside. ap (bit_xor (slice_index old (c.args.to + p))) (c.words_from-sums.ensures p inside)) c.add_words.ensures
+    range_same (λ p inside. ap (bit_xor (slice_index old (c.args.to + p))) (c.words_from-sums.ensures p inside)) c.add_words.ensures

@@ -5,9 +5,7 @@ use Rattle.bits_packed.proofs.WordRanges.{added_more, range_start}
 use Rattle.bits_packed.proofs.rows.add_range.Goals as goal
 
 pub loop-strip-init : goal.loop-strip-init
-loop-strip-init c =
-    range_start c.args.to (λ p. bit_xor (slice_index c.args.words.now (c.args.to + p)) (slice_index c.args.words.now (c.args.from + p)))
-    c.args.words.now
+loop-strip-init c = range_start
 
 pub loop-strip-preserved : goal.loop-strip-preserved
 loop-strip-preserved c =

@@ -12,7 +12,6 @@ loop-row-preserved c =
     let words = words_for unknowns in
     let row = c.loop-row.row in
     let pivot = slice_index c.args.pivots.now in
-    let right : ℕ → ℕ = λ k. bit_entry c.args.shape.words c.args.reduced.now k unknowns in
     let solution = c.loop-row.solution in
     let next = c.add_entry.new.matrix in
     let below = c.loop-row-test.true in
@@ -24,7 +23,7 @@ loop-row-preserved c =
     subst (λ (n : ℕ). IsBitWritten n 0 (pivot row) (bit_xor (bit_entry n solution 0 (pivot row)) c.entry-value.result) solution next)
     c.requires.unknowns c.add_entry.ensures in (
       write.shape ∙ c.loop-row.invariant.0,
-      solved_step (64 * words) pivot right (bit_entry words solution 0) (bit_entry words next 0) row room
+      solved_step room
           (write.written
           ∙ ap (λ (x : ℕ). bit_xor x c.entry-value.result)
           (c.loop-row.invariant.1.elsewhere (pivot row) room (λ k before e. let rise = rises k before in absurd (omega (arith, rise, e))))

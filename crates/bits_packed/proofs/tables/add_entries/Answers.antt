@@ -12,7 +12,6 @@ returns c =
     let tables = c.args.tables.now in
     subst (λ (f : ℕ). IsRangeWritten f c.args.strip.width (λ p. bit_xor (slice_index old (f + p)) (sum_of_digits tables c.args.word 16 p)) old
     c.add_strip.new.target) c.first_word-first.ensures.is
-    (range_same first c.args.strip.width (λ p. bit_xor (slice_index old (first + p)) (slice_index sums p))
-    (λ p. bit_xor (slice_index old (first + p)) (sum_of_digits tables c.args.word 16 p)) old c.add_strip.new.target
+    (range_same
     (λ p inside. ap (bit_xor (slice_index old (first + p))) (c.sum_of_entries-sums.ensures p (omega (arith, inside, c.requires.strip.narrow))))
     c.add_strip.ensures)

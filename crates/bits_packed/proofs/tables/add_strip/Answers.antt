@@ -1,8 +1,7 @@
 use Rattle.std.proofs.Common.{sym}
-use Rattle.bits_packed.proofs.WordRanges.{added_to, range_end}
+use Rattle.bits_packed.proofs.WordRanges.{range_end}
 use Rattle.bits_packed.proofs.tables.add_strip.Goals as goal
 
 pub returns-then-count-eq8 : goal.returns-then-count-eq8
 returns-then-count-eq8 c =
-    range_end c.args.first 8 (added_to c.args.target.now c.args.sums.now c.args.first)
-    c.args.target.now c.add_words.new.target c.add_words.ensures c.args.count (sym c.if-count-eq8.true)
+    range_end c.add_words.ensures c.args.count (sym c.if-count-eq8.true)

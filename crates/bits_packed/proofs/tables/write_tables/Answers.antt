@@ -17,9 +17,6 @@ loop-group-preserved c = (
       c.loop-group.tables c.write_table.new.tables c.requires.strip.narrow c.loop-group.invariant.1 c.write_table.ensures.entries c.write_table.ensures.others,
 )
 
-pub returns-clause-tables : goal.returns-clause-tables
-returns-clause-tables c = c.loop-group.invariant.0
-
 pub returns-clause-entries : goal.returns-clause-entries
 returns-clause-entries c =
     let all : c.loop-group.group ≡ 16 = omega arith in

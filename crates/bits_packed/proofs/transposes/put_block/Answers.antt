@@ -1,4 +1,4 @@
-use Rattle.std.proofs.Common.{◌≡◌, ℕ, ◌+◌, ◌-◌, ◌∙◌, ap, arith, refl, subst}
+use Rattle.std.proofs.Common.{◌≡◌, ℕ, ◌+◌, ◌-◌, ap, arith, refl, subst}
 use Rattle.std.specs.Prelude.{slice_index}
 use Rattle.std.specs.Int.{bit_at}
 use Rattle.bits_packed.specs.BitMatrices.{IsBlockWritten}
@@ -9,9 +9,6 @@ pub loop-offset-init : goal.loop-offset-init
 loop-offset-init c =
     block_start c.args.shape.rows c.args.shape.words c.args.first c.args.word
     (λ i b. bit_at (slice_index c.args.words.now (i - c.args.first)) b) c.args.target.now
-
-pub put_word-requires-clause-shape : goal.put_word-requires-clause-shape
-put_word-requires-clause-shape c = c.loop-offset.invariant.shape ∙ c.requires.shape
 
 pub loop-offset-preserved : goal.loop-offset-preserved
 loop-offset-preserved c =

@@ -6,12 +6,6 @@ use Rattle.bits_packed.proofs.transposes.transpose_words.Goals as goal
 pub loop-word-init : goal.loop-word-init
 loop-word-init c = (refl, λ i j inside below. absurd (omega (arith, below)))
 
-pub write_column-requires-clause-shape : goal.write_column-requires-clause-shape
-write_column-requires-clause-shape c = c.loop-word.invariant.0 ∙ c.requires.shape
-
-pub write_column-requires-clause-row : goal.write_column-requires-clause-row
-write_column-requires-clause-row c = omega (arith, c.requires.rows)
-
 pub loop-word-preserved : goal.loop-word-preserved
 loop-word-preserved c =
     let word = c.loop-word.word in
@@ -28,9 +22,6 @@ loop-word-preserved c =
             (write.written i (j - 64 * word) (omega arith) (omega (arith, inside, c.requires.columns)) inside (omega (arith, below, later)))
       ],
     )
-
-pub returns-clause-shape : goal.returns-clause-shape
-returns-clause-shape c = c.loop-word.invariant.0
 
 pub returns-clause-entries : goal.returns-clause-entries
 returns-clause-entries c = λ i j inside fits. c.loop-word.invariant.1 i j inside (omega (arith, fits))

@@ -18,9 +18,6 @@ loop-row-preserved c =
           so_far.1,
     )
 
-pub transpose-requires : goal.transpose-requires
-transpose-requires c = c.loop-row.invariant.0
-
 pub loop-column-init : goal.loop-column-init
 loop-column-init c = (refl, λ k below. absurd (omega (arith, below)))
 

@@ -1,4 +1,4 @@
-use Rattle.std.proofs.Common.{◌≡◌, ℕ, ◌+◌, ◌-◌, ◌*◌, ◌∙◌, arith, subst}
+use Rattle.std.proofs.Common.{◌≡◌, ℕ, ◌+◌, ◌-◌, ◌*◌, arith, subst}
 use Rattle.std.specs.Prelude.{slice_index}
 use Rattle.std.specs.Int.{bit_at}
 use Rattle.bits_packed.specs.BitMatrices.{IsBlockWritten, bit_entry, entry_within}
@@ -11,12 +11,6 @@ loop-block-init c =
     let wanted : ℕ → ℕ → ℕ = λ i b. entry_within c.args.from.rows (bit_entry c.args.from.words c.args.source.now) (64 * c.args.word + b) i in
     subst (λ (n : ℕ). IsBlockWritten c.args.to.rows c.args.to.words 0 n c.args.word wanted c.args.target.now c.args.target.now) none
     (block_start c.args.to.rows c.args.to.words 0 c.args.word wanted c.args.target.now)
-
-pub put_block-requires-clause-shape : goal.put_block-requires-clause-shape
-put_block-requires-clause-shape c = c.loop-block.invariant.shape ∙ c.requires.shape
-
-pub put_block-requires-clause-first : goal.put_block-requires-clause-first
-put_block-requires-clause-first c = omega (arith, c.requires.few)
 
 pub loop-block-preserved : goal.loop-block-preserved
 loop-block-preserved c =

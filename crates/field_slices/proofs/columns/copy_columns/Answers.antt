@@ -1,15 +1,10 @@
 use Rattle.std.proofs.Common.{◌+◌, arith}
-use Rattle.field_slices.specs.Matrices.{entry_of, put_entry}
+use Rattle.field_slices.specs.Matrices.{entry_of}
 use Rattle.field_slices.proofs.MatrixRows.{put_same, rows_start, rows_step, rows_end}
 use Rattle.field_slices.proofs.columns.copy_columns.Goals as goal
 
 pub loop-row-init : goal.loop-row-init
-loop-row-init g c =
-    let number = g.S.Scalars.number c.args.field in
-    let copy = c.args.copy in
-    rows_start number copy.target_columns
-    (λ i. put_entry copy.to copy.count (λ k. entry_of number copy.columns c.args.source.now i (copy.from + k))
-    (entry_of number copy.target_columns c.args.target.now i)) c.args.target.now
+loop-row-init g c = rows_start
 
 pub loop-row-preserved : goal.loop-row-preserved
 loop-row-preserved g c =

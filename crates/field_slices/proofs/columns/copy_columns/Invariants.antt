@@ -8,7 +8,7 @@ abbrev pub invariant-loop-row : goal.invariant-loop-row
 invariant-loop-row g l =
     let number = g.S.Scalars.number l.field in
     let copy = l.copy in
-    RowsWritten number copy.target_columns
+    RowsWritten (entry_of number copy.target_columns) copy.target_columns
     (λ i. put_entry copy.to copy.count (λ k. entry_of number copy.columns l.source i (copy.from + k))
     (entry_of number copy.target_columns l.fn.target i))
     l.fn.target l.target l.row

@@ -7,8 +7,7 @@ pub loop-column-init : goal.loop-column-init
 loop-column-init g c =
     let number = g.S.Scalars.number c.args.field in
     let copy = c.args.copy in
-    put_start number copy.target_columns c.args.row copy.to copy.count
-    (λ k. entry_of number copy.columns c.args.source.now c.args.row (copy.from + k)) c.args.target.now
+    put_start copy.to copy.count (λ k. entry_of number copy.columns c.args.source.now c.args.row (copy.from + k))
 
 pub loop-column-preserved : goal.loop-column-preserved
 loop-column-preserved g c =

@@ -8,7 +8,7 @@ pub returns-then-is_empty : goal.returns-then-is_empty
 returns-then-is_empty g t c =
     let field = g.F.Represented in
     let law = g.met.F.Field in
-    value-none field.width field.product law.field_law.ring law.wide_law field.repr field.range_law c.args.values.now c.args.point.now
+    value-none law.field_law.ring law.wide_law field.repr field.range_law c.args.values.now c.args.point.now
     c.index-values-0.result (none-if_empty _ _ c.is_empty.ensures c.if-is_empty.true) c.requires c.index-values-0.is
 
 pub returns : goal.returns
@@ -24,5 +24,5 @@ returns g t c =
     (ring.mul_law c.index-point-0.result c.add.result c.mul.result c.mul.ensures
     ∙ ap (field.product (field.repr c.index-point-0.result)) (ring.add_law low high c.add.result c.add.ensures))
     ∙ ap₂ (on_line field.product (field.repr c.index-point-0.result)) c.evaluate_multilinear-low.ensures c.evaluate_multilinear-high.ensures
-    ∙ value-more field.width field.product law.field_law.ring law.wide_law field.repr field.range_law c.args.values.now _ _ c.args.point.now _
+    ∙ value-more law.field_law.ring law.wide_law field.repr field.range_law c.args.values.now _ _ c.args.point.now _
     c.index-point-0.result c.requires some c.index-point-0.is refl c.split_at.ensures.front c.split_at.ensures.back

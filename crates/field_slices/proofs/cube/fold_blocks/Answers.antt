@@ -1,12 +1,9 @@
-use Rattle.std.proofs.Common.{◌≡◌, ℕ, ◌+◌, ◌-◌, List, refl, ◌∙◌, ap, arith}
+use Rattle.std.proofs.Common.{◌≡◌, ℕ, ◌+◌, ◌-◌, List, ◌∙◌, ap, arith}
 use Rattle.std.specs.Prelude.{bit_xor}
 use borrow.Rule.Slice.PartMut.{mid_of}
 use Rattle.field_slices.specs.Multilinear.{on_line}
 use Rattle.field_slices.proofs.FoldedBlocks.{all-folded, block-line, block_more}
 use Rattle.field_slices.proofs.cube.fold_blocks.Goals as goal
-
-pub loop-start-init : goal.loop-start-init
-loop-start-init g c = (omega arith, (refl, refl))
 
 pub loop-start-preserved : goal.loop-start-preserved
 loop-start-preserved g c =

@@ -1,8 +1,8 @@
-use Rattle.std.proofs.Common.{◌+◌, sym, ◌∙◌, ap₂, arith}
+use Rattle.std.proofs.Common.{sym, ◌∙◌, ap₂, arith}
 use Rattle.std.specs.Prelude.{bit_xor}
 use Rattle.field_slices.specs.Matrices.{entry_of}
 use Rattle.field_slices.proofs.MatrixRows.{rows_from, rows_step, rows_end}
-use Rattle.field_slices.proofs.TriangularSteps.{cleared_below, cleared_below-above, cleared_below-row}
+use Rattle.field_slices.proofs.TriangularSteps.{cleared_below-above, cleared_below-row}
 use Rattle.field_slices.proofs.decompositions.clear_below.Goals as goal
 
 pub loop-row-init : goal.loop-row-init
@@ -12,8 +12,7 @@ loop-row-init g c =
     let L = entry_of number c.args.shape.rows c.args.lower.now in
     let U = entry_of number c.args.shape.columns c.args.matrix.now in (
       omega arith,
-      rows_from number c.args.shape.columns (cleared_below times c.args.column L U) c.args.matrix.now (c.args.column + 1)
-          (λ i j before inside. sym (cleared_below-above times c.args.column L U i j (omega (arith, before)))),
+      rows_from (λ i j before inside. sym (cleared_below-above times c.args.column L U i j (omega (arith, before)))),
     )
 
 pub loop-row-preserved : goal.loop-row-preserved

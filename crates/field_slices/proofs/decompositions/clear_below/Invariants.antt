@@ -10,5 +10,5 @@ invariant-loop-row g l =
     let number = g.S.Scalars.number l.field in
     let times = g.S.Scalars.product l.field in
     (l.column + 1 ≤ l.row)
-    × RowsWritten number l.shape.columns (cleared_below times l.column (entry_of number l.shape.rows l.lower)
+    × RowsWritten (entry_of number l.shape.columns) l.shape.columns (cleared_below times l.column (entry_of number l.shape.rows l.lower)
     (entry_of number l.shape.columns l.fn.matrix)) l.fn.matrix l.matrix l.row

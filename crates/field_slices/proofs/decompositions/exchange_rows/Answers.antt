@@ -5,9 +5,7 @@ use Rattle.field_slices.proofs.RowExchanges.{exchange_start, exchange_step}
 use Rattle.field_slices.proofs.decompositions.exchange_rows.Goals as goal
 
 pub loop-column-init : goal.loop-column-init
-loop-column-init g c =
-    let number = g.S.Scalars.number c.args.field in
-    exchange_start number c.args.shape.columns c.args.first c.args.second c.args.matrix.now
+loop-column-init g c = exchange_start
 
 pub loop-column-preserved : goal.loop-column-preserved
 loop-column-preserved g c =

@@ -1,3 +1,4 @@
+use Rattle.field_slices.specs.Matrices.{entry_of}
 use Rattle.field_slices.proofs.RowExchanges.{RowsExchanged}
 use Rattle.field_slices.proofs.decompositions.exchange_rows.Given as goal
 
@@ -5,4 +6,4 @@ use Rattle.field_slices.proofs.decompositions.exchange_rows.Given as goal
 abbrev pub invariant-loop-column : goal.invariant-loop-column
 invariant-loop-column g l =
     let number = g.S.Scalars.number l.field in
-    RowsExchanged number l.shape.columns l.first l.second l.fn.matrix l.matrix l.column
+    RowsExchanged (entry_of number l.shape.columns) l.shape.columns l.first l.second l.fn.matrix l.matrix l.column

@@ -7,5 +7,5 @@ abbrev pub invariant-loop-row : goal.invariant-loop-row
 invariant-loop-row g l =
     let number = g.S.Scalars.number l.field in
     let times = g.S.Scalars.product l.field in
-    FactorsWritten number times l.shape.rows l.column (entry_of number l.shape.columns l.matrix) l.fn.lower l.lower
+    FactorsWritten (entry_of number l.shape.rows) times l.shape.rows l.column (entry_of number l.shape.columns l.matrix) l.fn.lower l.lower
     l.row

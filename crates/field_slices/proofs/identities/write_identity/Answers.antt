@@ -1,14 +1,11 @@
 use Rattle.std.proofs.Common.{ℕ, arith}
-use Rattle.field_slices.specs.Matrices.{beside_identity, entry_of}
+use Rattle.field_slices.specs.Matrices.{entry_of}
 use Rattle.field_slices.proofs.MatrixRows.{rows_start, rows_step, rows_end}
 use Rattle.field_slices.proofs.InverseMatrices.{beside-same}
 use Rattle.field_slices.proofs.identities.write_identity.Goals as goal
 
 pub loop-row-init : goal.loop-row-init
-loop-row-init g c =
-    let number = g.S.Scalars.number c.args.field in
-    let columns = c.args.shape.columns in
-    rows_start number columns (beside_identity c.args.from (entry_of number columns c.args.matrix.now)) c.args.matrix.now
+loop-row-init g c = rows_start
 
 pub loop-row-preserved : goal.loop-row-preserved
 loop-row-preserved g c =

@@ -7,4 +7,4 @@ abbrev pub invariant-loop-row : goal.invariant-loop-row
 invariant-loop-row g l =
     let number = g.S.Scalars.number l.field in
     let columns = l.shape.columns in
-    RowsWritten number columns (beside_identity l.from (entry_of number columns l.fn.matrix)) l.fn.matrix l.matrix l.row
+    RowsWritten (entry_of number columns) columns (beside_identity l.from (entry_of number columns l.fn.matrix)) l.fn.matrix l.matrix l.row

@@ -7,5 +7,5 @@ use Rattle.field_slices.proofs.identities.write_identity_row.Given as goal
 abbrev pub invariant-loop-column : goal.invariant-loop-column
 invariant-loop-column g l =
     let number = g.S.Scalars.number l.field in
-    RowWritten number l.shape.columns l.row (beside_identity l.from (λ (i : ℕ). entry_of number l.shape.columns l.fn.matrix l.row) l.place)
+    RowWritten (entry_of number l.shape.columns) l.shape.columns l.row (beside_identity l.from (λ (i : ℕ). entry_of number l.shape.columns l.fn.matrix l.row) l.place)
     l.fn.matrix l.matrix l.column

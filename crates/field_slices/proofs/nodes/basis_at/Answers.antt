@@ -7,7 +7,7 @@ pub inverse-requires : goal.inverse-requires
 inverse-requires g c e =
     let field = g.F.Represented in
     let law = g.met.F.Field in
-    differences-nonzero field.width field.product law.field_law law.wide_law c.args.count c.requires.count c.args.own c.requires.own
+    differences-nonzero law.field_law law.wide_law c.args.count c.requires.count c.args.own c.requires.own
     (sym (c.differences_at-below.ensures
     ∙ ap (λ (x : ℕ). other_factors field.product (λ i. i) c.args.own x c.args.count) c.interpolation_node.ensures) ∙ e)
 
@@ -18,7 +18,7 @@ returns g c =
     let below =
     c.differences_at-below.ensures
     ∙ ap (λ (x : ℕ). other_factors field.product (λ i. i) c.args.own x c.args.count) c.interpolation_node.ensures in
-    basis-quotient field.width field.product law.field_law law.wide_law c.args.count c.requires.count c.args.own (field.repr c.args.x)
+    basis-quotient law.field_law law.wide_law c.args.count c.requires.count c.args.own (field.repr c.args.x)
     (field.repr c.differences_at-above.result) (field.repr c.inverse.result) (field.repr c.mul.result) c.requires.own
     (field.range_law c.inverse.result) c.differences_at-above.ensures
     (ap (λ (x : ℕ). field.product x (field.repr c.inverse.result)) (sym below) ∙ c.inverse.ensures)

@@ -9,7 +9,7 @@ loop-i-init g c =
     let field = g.F.Represented in
     let law = g.met.F.Field in
     ap field.repr c.ONE-product.ensures ∙ g.met.F.PrimeCharacteristicRing.one_law ∙ law.unit_law
-    ∙ differences-none field.width field.product law.field_law law.wide_law c.args.own (field.repr c.args.x)
+    ∙ differences-none law.field_law law.wide_law c.args.own (field.repr c.args.x)
 
 pub loop-i-preserved : goal.loop-i-preserved
 loop-i-preserved g c =
@@ -19,7 +19,7 @@ loop-i-preserved g c =
     elim c.if-i-own.branch [
       | then-i-own w ↦
           ap field.repr w.product-is
-          ∙ differences-more field.width field.product law.field_law law.wide_law c.args.own (field.repr c.args.x) c.loop-i.i
+          ∙ differences-more law.field_law law.wide_law c.args.own (field.repr c.args.x) c.loop-i.i
           (field.repr c.loop-i.product) (field.repr w.mul-product.result) w.if-i-own.true c.loop-i.invariant
           (ring.mul_law c.loop-i.product w.add.result w.mul-product.result w.mul-product.ensures
           ∙ ap (field.product (field.repr c.loop-i.product))
@@ -27,6 +27,6 @@ loop-i-preserved g c =
           ∙ ap (bit_xor (field.repr c.args.x)) w.interpolation_node.ensures))
       | else-i-own w ↦
           ap field.repr w.product-is
-          ∙ differences-skip field.width field.product law.field_law law.wide_law c.args.own (field.repr c.args.x) c.loop-i.i
+          ∙ differences-skip law.field_law law.wide_law c.args.own (field.repr c.args.x) c.loop-i.i
           (field.repr c.loop-i.product) w.if-i-own.false c.loop-i.invariant
     ]

@@ -22,6 +22,6 @@ returns g c =
     let number = g.S.Scalars.number c.args.field in
     let columns = c.args.shape.columns in
     let all : c.loop-k.k ≡ c.args.rank = omega arith in
-    subst (λ (n : ℕ). IsRowWritten number columns c.args.row
+    subst (λ (n : ℕ). IsRowWritten (entry_of number columns) columns c.args.row
     (null_entry (slice_index c.args.pivots.now) (entry_of number columns c.args.reduced.now) c.args.column n) c.args.basis.now
     c.loop-k.basis) all c.loop-k.invariant

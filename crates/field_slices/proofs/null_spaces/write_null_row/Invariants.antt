@@ -7,5 +7,5 @@ abbrev pub invariant-loop-k : goal.invariant-loop-k
 invariant-loop-k g l =
     let number = g.S.Scalars.number l.field in
     let columns = l.shape.columns in
-    IsRowWritten number columns l.row (null_entry (slice_index l.pivots)
+    IsRowWritten (entry_of number columns) columns l.row (null_entry (slice_index l.pivots)
     (entry_of number columns l.reduced) l.fn.column l.k) l.fn.basis l.basis

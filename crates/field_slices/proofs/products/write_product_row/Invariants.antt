@@ -7,6 +7,6 @@ invariant-loop-k g l =
     let number = g.S.Scalars.number l.field in
     let times = g.S.Scalars.product l.field in
     let columns = l.shape.columns in
-    IsRowWritten number columns l.row
+    IsRowWritten (entry_of number columns) columns l.row
     (product_entry times l.k (entry_of number l.inner l.left) (entry_of number columns l.right) l.row)
     l.fn.target l.target

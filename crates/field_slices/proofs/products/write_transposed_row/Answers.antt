@@ -1,13 +1,9 @@
 use Rattle.std.proofs.Common.{arith}
-use Rattle.field_slices.specs.Matrices.{entry_of}
 use Rattle.field_slices.proofs.MatrixRows.{row_start, row_step, row_end}
 use Rattle.field_slices.proofs.products.write_transposed_row.Goals as goal
 
 pub loop-column-init : goal.loop-column-init
-loop-column-init g c =
-    let number = g.S.Scalars.number c.args.field in
-    let shape = c.args.shape in
-    row_start number shape.rows c.args.row (λ j. entry_of number shape.columns c.args.source.now j c.args.row) c.args.target.now
+loop-column-init g c = row_start
 
 pub loop-column-preserved : goal.loop-column-preserved
 loop-column-preserved g c = row_step c.loop-column.invariant (omega arith) c.entry-value.ensures c.set_entry.ensures

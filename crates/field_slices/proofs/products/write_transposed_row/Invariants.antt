@@ -6,4 +6,4 @@ use Rattle.field_slices.proofs.products.write_transposed_row.Given as goal
 abbrev pub invariant-loop-column : goal.invariant-loop-column
 invariant-loop-column g l =
     let number = g.S.Scalars.number l.field in
-    RowWritten number l.shape.rows l.row (λ j. entry_of number l.shape.columns l.source j l.row) l.fn.target l.target l.column
+    RowWritten (entry_of number l.shape.rows) l.shape.rows l.row (λ j. entry_of number l.shape.columns l.source j l.row) l.fn.target l.target l.column

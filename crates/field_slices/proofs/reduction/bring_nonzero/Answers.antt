@@ -10,7 +10,6 @@ pub returns-then-row-rank : goal.returns-then-row-rank
 returns-then-row-rank g c =
     let number = g.S.Scalars.number c.args.field in
     let times = g.S.Scalars.product c.args.field in
-    let width = g.S.Scalars.width c.args.field in
     let ring = (g.met.S.Scalars.field_law c.args.field).ring in
     let law = g.met.S.Scalars in
     let columns = c.args.shape.columns in
@@ -22,8 +21,8 @@ returns-then-row-rank g c =
           added.entries j inside
           ∙ ap (bit_xor (old c.args.rank j))
           (ap (λ (s : ℕ). times s (old c.args.row j)) c.one.ensures
-          ∙ one-times width 1 times ring (old c.args.row j)
-          (numbers-lt number width (law.range_law c.args.field) c.args.matrix.now (c.args.row * columns + j)))
+          ∙ one-times _ 1 _ ring (old c.args.row j)
+          (numbers-lt _ _ (law.range_law c.args.field) c.args.matrix.now (c.args.row * columns + j)))
           ∙ sym (joined-other c.args.rank c.args.row old j c.if-row-rank.true);
       others = added.others;
     }

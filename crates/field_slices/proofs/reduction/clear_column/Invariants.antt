@@ -11,5 +11,5 @@ invariant-loop-other g l =
     let times = g.S.Scalars.product l.field in
     let columns = l.shape.columns in
     (l.from ≤ l.other)
-    × RowsWritten number columns (cleared_from times l.from l.row l.column (entry_of number columns l.fn.matrix))
+    × RowsWritten (entry_of number columns) columns (cleared_from times l.from l.row l.column (entry_of number columns l.fn.matrix))
     l.fn.matrix l.matrix l.other

@@ -8,11 +8,8 @@ use Rattle.field_slices.proofs.reduction.reduce_column.Goals as goal
 
 pub returns-in-None-clause-reduced : goal.returns-in-None-clause-reduced
 returns-in-None-clause-reduced g c =
-    let number = g.S.Scalars.number c.args.field in
-    let times = g.S.Scalars.product c.args.field in
-    let width = g.S.Scalars.width c.args.field in
     let ring = (g.met.S.Scalars.field_law c.args.field).ring in
-    let entries = entry_of number c.args.shape.columns c.args.matrix.now in
+    let entries = entry_of (g.S.Scalars.number c.args.field) c.args.shape.columns c.args.matrix.now in
     record {
       shape = refl;
       room = refl;
@@ -20,13 +17,12 @@ returns-in-None-clause-reduced g c =
           (c.in-None.ensures.none refl)
           c.requires.reduced;
       rest = λ i past. refl;
-      space = space_same width times ring c.args.shape.rows c.args.shape.columns entries;
+      space = space_same _ _ ring c.args.shape.rows c.args.shape.columns entries;
     }
 
 pub returns-in-Some-clause-reduced : goal.returns-in-Some-clause-reduced
 returns-in-Some-clause-reduced g c =
-    let number = g.S.Scalars.number c.args.field in
-    let entries = entry_of number c.args.shape.columns in
+    let entries = entry_of (g.S.Scalars.number c.args.field) c.args.shape.columns in
     let made = c.make_pivot.ensures in
     record {
       shape = made.shape;

@@ -1,15 +1,9 @@
 use Rattle.std.proofs.Common.{◌∙◌, ap, arith}
-use Rattle.field_slices.specs.Matrices.{entry_of}
 use Rattle.field_slices.proofs.MatrixRows.{row_start, row_step, row_end}
 use Rattle.field_slices.proofs.rows.scale_row.Goals as goal
 
 pub loop-column-init : goal.loop-column-init
-loop-column-init g c =
-    let number = g.S.Scalars.number c.args.field in
-    let times = g.S.Scalars.product c.args.field in
-    let columns = c.args.shape.columns in
-    row_start number columns c.args.row
-    (λ j. times (number c.args.scalar) (entry_of number columns c.args.matrix.now c.args.row j)) c.args.matrix.now
+loop-column-init g c = row_start
 
 pub loop-column-preserved : goal.loop-column-preserved
 loop-column-preserved g c =

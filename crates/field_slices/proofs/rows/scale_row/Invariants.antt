@@ -8,5 +8,5 @@ invariant-loop-column g l =
     let number = g.S.Scalars.number l.field in
     let times = g.S.Scalars.product l.field in
     let columns = l.shape.columns in
-    RowWritten number columns l.row
+    RowWritten (entry_of number columns) columns l.row
     (λ j. times (number l.scalar) (entry_of number columns l.fn.matrix l.row j)) l.fn.matrix l.matrix l.column

@@ -1,4 +1,4 @@
-use Rattle.std.proofs.Common.{◌≡◌, ◌-◌, length, map, set, ◌∙◌, ap, arith}
+use Rattle.std.proofs.Common.{◌≡◌, ◌-◌, length, ◌∙◌, ap, arith}
 use Rattle.std.specs.Prelude.{slice_index}
 use Rattle.std.proofs.lemmas.List.{length-set}
 use Rattle.field_slices.specs.Matrices.{entry_of}
@@ -7,13 +7,10 @@ use Rattle.field_slices.proofs.LinearSystems.{solved_start, solved_step}
 use Rattle.field_slices.proofs.systems.write_solution.Goals as goal
 
 pub loop-row-init : goal.loop-row-init
-loop-row-init g c =
-    let number = g.S.Scalars.number c.args.field in (
-      c.write_zeros.ensures.count,
-      solved_start (length c.args.solution.now) (slice_index c.args.pivots.now)
-          (λ k. entry_of number c.args.shape.columns c.args.reduced.now k (length c.args.solution.now))
-          (slice_index (map number c.write_zeros.new.values)) c.write_zeros.ensures.zeros,
-    )
+loop-row-init g c = (
+  c.write_zeros.ensures.count,
+  solved_start c.write_zeros.ensures.zeros,
+)
 
 pub loop-row-preserved : goal.loop-row-preserved
 loop-row-preserved g c =
@@ -28,8 +25,7 @@ loop-row-preserved g c =
     let same = c.loop-row.invariant.0 in
     let behind : c.args.shape.columns - 1 ≡ count = omega (arith, c.requires.unknowns) in (
       length-set solution (pivot row) value ∙ same,
-      solved_step count pivot (λ k. entry_of number c.args.shape.columns c.args.reduced.now k count) (slice_index (map number solution))
-          (slice_index (map number (set solution (pivot row) value))) row fits
+      solved_step fits
           (number-set_same number solution (pivot row) value (omega (arith, fits, same)) ∙ c.entry.ensures
           ∙ ap (entry_of number c.args.shape.columns c.args.reduced.now row) behind)
           (λ j inside other. number-set_other number solution (pivot row) j value other)

@@ -10,7 +10,7 @@ returns g c x =
     let crossed =
     law.add_law c.dot_product_of_slices.result c.dot_product_of_slices-2.result c.add-crossed.result c.add-crossed.ensures
     ∙ ap₂ bit_xor c.dot_product_of_slices.ensures c.dot_product_of_slices-2.ensures in
-    round-message field.width field.product g.met.F.Field.field_law.ring field.repr c.args.left.now c.args.right.now
+    round-message g.met.F.Field.field_law.ring field.repr c.args.left.now c.args.right.now
     c.split_at.result.0.now c.split_at.result.1.now c.split_at-2.result.0.now c.split_at-2.result.1.now _ x
     c.requires.same c.requires.even c.split_at.ensures.front c.split_at.ensures.back c.split_at-2.ensures.front c.split_at-2.ensures.back
     c.dot_product_of_slices-at_zero.ensures crossed
