@@ -1,7 +1,5 @@
 -- Packings of N lanes, their numbers, and what an operator gives of them.
-use Rattle.std.specs.Prelude.{◌≡◌, ◌<◌, ℕ, List, length, map, replicate, slice_index_or}
-use mathlib.Core.HLevel.{is_prop→PathP}
-use Rattle.std.proofs.Math.Nat.{ℕ_set}
+use Rattle.std.specs.Prelude.{◌≡◌, ◌<◌, ℕ, List, map, replicate, slice_index_or}
 use Rattle.field_base.specs.Chunks.{joined}
 use Rattle.field_base.specs.Field.{IsInverseOrZero}
 use Rattle.field_base.specs.Powers.{product_of, sum_of}

@@ -1,5 +1,5 @@
 -- What is true of the definitions of Coefficients.antt.
-use Rattle.std.proofs.Common.{◌≡◌, ℕ, List, [], ◌∷◌, length, map, get_or, refl, sym, ◌∙◌, ap, arith}
+use Rattle.std.proofs.Common.{◌≡◌, ℕ, List, [], ◌∷◌, length, map, get_or, drop, refl, sym, ◌∙◌, ap, ap₂, arith}
 use Rattle.std.proofs.Math.Nat.{ℕ_set}
 use Rattle.std.proofs.lemmas.List.{length-map}
 use mathlib.Core.HLevel.{is_prop→PathP}
@@ -18,6 +18,25 @@ three_items (x ∷ []) a b c three = absurd (omega (arith, three))
 three_items (x ∷ y ∷ []) a b c three = absurd (omega (arith, three))
 three_items (x ∷ y ∷ z ∷ []) a b c three = refl
 three_items (x ∷ y ∷ z ∷ w ∷ rest) a b c three = absurd (omega (arith, three))
+
+module _ {C : Type 0} (number : C → ℕ) (same_law : (x y : C) → number x ≡ number y → x ≡ y) where
+  -- lists of the same numbers are one
+  same_lists : (xs ys : List C) → map number xs ≡ map number ys → xs ≡ ys
+  same_lists [] [] same = refl
+  same_lists [] (y ∷ ys) same = absurd (omega (arith, ap length same))
+  same_lists (x ∷ xs) [] same = absurd (omega (arith, ap length same))
+  same_lists (x ∷ xs) (y ∷ ys) same =
+      ap₂ (λ (z : C) (zs : List C). z ∷ zs) (same_law x y (ap (λ (ns : List ℕ). get_or ns 0 0) same))
+      (same_lists xs ys (ap (drop 1) same))
+
+  -- lists of three items are one where their numbers agree at each place
+  same_three : (xs ys : List C) → length xs ≡ 3 → length ys ≡ 3 → get_or (map number xs) 0 0 ≡ get_or (map number ys) 0 0
+      → get_or (map number xs) 1 0 ≡ get_or (map number ys) 1 0 → get_or (map number xs) 2 0 ≡ get_or (map number ys) 2 0 → xs ≡ ys
+  same_three xs ys three three' e0 e1 e2 =
+      same_lists xs ys
+      (sym (three_items (map number xs) 0 0 0 (length-map xs number ∙ three))
+      ∙ (λ i. e0 i ∷ e1 i ∷ e2 i ∷ [])
+      ∙ three_items (map number ys) 0 0 0 (length-map ys number ∙ three'))
 
 -- the coefficients are the chunks of that number
 pub chunks_stored : (x : Coefficients) → map repr_of x.coefficients ≡ chunks 64 3 (stored_number x)

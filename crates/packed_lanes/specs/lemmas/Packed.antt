@@ -12,9 +12,7 @@ use Rattle.packed_lanes.specs.lemmas.LaneList.{equal_lanes, every_below, every_b
 use Rattle.packed_lanes.specs.lemmas.LaneRing.{lanes_ring}
 use Rattle.packed_lanes.specs.Lanes.{lane_by_lane, lane_product}
 use Rattle.packed_lanes.specs.Packed.{EachLaneIs, packed_number}
-use Rattle.packed_lanes.specs.lemmas.Packed.{same_packed}
 use Rattle.packed_lanes.specs.declared.packed.Packed.{Packed}
-use Rattle.std.specs.Prelude.{◌≡◌, ℕ, length}
 use mathlib.Core.HLevel.{is_prop→PathP}
 use Rattle.std.proofs.Math.Nat.{ℕ_set}
 
@@ -25,6 +23,14 @@ pub packed_bit_product : (width unit : ℕ) (times : ℕ → ℕ → ℕ) → Is
 packed_bit_product width unit times ring fits n a b a_fits b_fits =
     bit_product (n * width) (joined width (replicate n unit)) (lane_product width times n) (lanes_ring width unit times ring fits n)
     (every_below width n unit fits) a a_fits b b_fits
+
+-- packings of the same lanes are one
+pub same_packed : {F : Type 0} {N : ℕ} → (x y : Packed F N) → x.lanes ≡ y.lanes → x ≡ y
+same_packed {N = N} x y same =
+    λ i. record {
+      lanes = same i;
+      long = is_prop→PathP (λ j. length (same j) ≡ N) (λ j. ℕ_set _ _) x.long y.long i;
+    }
 
 -- two packings have as many lanes
 both_long : {F : Type 0} {N : ℕ} → (x y : Packed F N) → length x.lanes ≡ length y.lanes
@@ -94,11 +100,3 @@ module _ {F : Type 0} {N : ℕ} (width : ℕ) (repr : F → ℕ) (fits : (x : F)
     packed_product_bit unit_fits x b b_fits r is =
         packed_product_every x (b * unit) (bit_fits width unit unit_fits b b_fits) r is
         ∙ ap (lane_product width times N (packed_number width repr x)) (every_bit width unit N b b_fits)
-
--- packings of the same lanes are one
-pub same_packed : {F : Type 0} {N : ℕ} → (x y : Packed F N) → x.lanes ≡ y.lanes → x ≡ y
-same_packed {N = N} x y same =
-    λ i. record {
-      lanes = same i;
-      long = is_prop→PathP (λ j. length (same j) ≡ N) (λ j. ℕ_set _ _) x.long y.long i;
-    }
