@@ -105,7 +105,7 @@ RFC_8452 = [
 def of_codes():
     """The shards of TestOneEncode of klauspost/reedsolomon (reedsolomon_test.go), five of data and five of parity: written, verified with a byte
     changed and as they are, and the data alone restored where a shard of each kind is lost. And the code words of 01234567 in a QR code of version
-    1-M (ISO/IEC 18004, annex I), which are read with five wrong and with ten that are lost."""
+    1-M (ISO/IEC 18004, annex I), which are read with five wrong and with ten that are lost. Then words of other codes."""
     shards = [0, 1, 4, 5, 2, 3, 6, 7, 8, 9, 12, 13, 10, 11, 14, 15, 90, 91, 94, 95]
     yield "rs_encode", 5, 5, (shards[:10] + [0] * 10, shards)
     yield "rs_verify", 5, 5, shards, [1]
@@ -118,6 +118,41 @@ def of_codes():
     read = [it ^ 0xFF if at % 5 == 0 and at < 25 else it for at, it in enumerate(symbol)]
     yield "code_correct", 0x11D, 26, 16, 0, 1, (read, symbol), [], [5]
     yield "code_correct", 0x11D, 26, 16, 0, 1, (symbol[:16] + [0] * 10, symbol), [0] * 16 + [1] * 10, [10]
+    for modulus, first, step, data, checks in LIBFEC_WORDS:
+        checks = hexadecimal(checks)
+        size = len(data) + len(checks)
+        yield "code_encode", modulus, size, len(data), first, step, (data + [0] * len(checks), data + checks)
+    for degree, tail, size, first, word in FIELD_WORDS:
+        checks = len(word) - size
+        yield "field_code_encode", degree | tail << 64, len(word), size, first, 2, (word[:size] + [0] * checks, word), checks + 1
+    # The format information of a QR code with the level M and the mask 101, before it is masked (ISO/IEC 18004, annex C).
+    word = [0, 0, 1, 0, 1, 0, 0, 1, 1, 0, 1, 1, 1, 0, 0]
+    yield "bch_encode", 0x11D, 15, 3, 17, (word[:5] + [0] * 10, word)
+
+
+# Words as libfec 1.0 writes them, by `encode_rs_8` and by `encode_rs_char` of `init_rs_char(8, 0x11d, 0, 1, 16, 51)`: the modulus, the first root,
+# its step, the data and the symbols behind them.
+LIBFEC_WORDS = [
+    (
+        0x187, 112, 11, [(7 * it + 3) % 256 for it in range(223)],
+        "3f56af8183b8ad235310d48f4ce7c60e458d1948b674923ab100c186f0bc1519",
+    ),
+    (0x11D, 0, 1, [(5 * it + 1) % 256 for it in range(188)], "98fbc77bba892a9ac09ac99aae1adb6e"),
+]
+# Words over other fields, whose root is the element 2: the degree and the tail, how many symbols are data, the first root, and the word. Two as
+# libfec 1.0 writes them, by `encode_rs_int` of `init_rs_int(16, 0x1100b, 0, 1, 8, 65515)` and of `init_rs_int(12, 0x1053, 1, 1, 6, 4081)`. And the
+# mode message of a compact Aztec symbol of 4 layers and 64 words of data (ISO/IEC 24778): both less one, in 2 bits and in 6.
+FIELD_WORDS = [
+    (
+        16, 0x100B, 12, 0,
+        [
+            0x9E3E, 0x3C75, 0xDAAC, 0x78E3, 0x171A, 0xB551, 0x5388, 0xF1BF, 0x8FF6, 0x2E2D, 0xCC64, 0x6A9B,
+            0x9824, 0x2364, 0x04F9, 0xF876, 0x097F, 0x40E2, 0xC20C, 0xCB02,
+        ],
+    ),
+    (12, 0x053, 8, 1, [0x9EA, 0x3CD, 0xDB0, 0x793, 0x176, 0xB59, 0x53C, 0xF1F, 0x080, 0x1B0, 0xB30, 0x088, 0x8A5, 0xE46]),
+    (4, 0b11, 2, 1, [15, 15, 4, 1, 3, 4, 12]),
+]
 
 
 # FIPS 197, figure 7, row by row.

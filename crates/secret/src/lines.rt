@@ -20,7 +20,7 @@ pub(crate) const HEAD: usize = 11;
 const SUM: usize = 8;
 
 /// Why a line says no share.
-#[derive(Clone, Copy, Debug, PartialEq, Eq)]
+#[derive(Clone, Copy)]
 pub(crate) enum LineFault {
     /// It does not begin as one does, or is too short.
     NoShare,

@@ -8,8 +8,6 @@ mod fault;
 mod lines;
 mod sets;
 mod sharing;
-#[cfg(test)]
-mod tests;
 mod words;
 
 use crate::bytes::{read_all, wipe};

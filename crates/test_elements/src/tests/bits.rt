@@ -1,5 +1,3 @@
 mod closures;
-mod matrices;
 mod memory;
-mod rows;
 mod text;

@@ -1,4 +1,3 @@
 mod guarded;
-mod hash_challenger;
 mod memory;
 mod sha256;

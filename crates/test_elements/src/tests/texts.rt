@@ -1,3 +1,2 @@
-mod draws;
 mod json;
 mod printed;

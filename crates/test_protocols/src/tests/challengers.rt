@@ -6,6 +6,5 @@ mod many_calls;
 mod numbers;
 mod partners;
 mod scripts;
-mod seeds;
 mod trials;
 mod vectors;

@@ -74,19 +74,3 @@ pub(crate) fn vectors_are_due<F: PrimeCharacteristicRing, E: BasedVectorSpace<F>
     }
     true
 }
-
-/// Whether the coefficients of an element are these.
-pub(crate) fn is_flattened<F: PrimeCharacteristicRing, E: BasedVectorSpace<F>>(
-    alloc: Global,
-    element: E,
-    coefficients: &[F],
-) -> bool {
-    let mut elements = Vec::new(alloc);
-    if elements.push(element).is_err() {
-        return false;
-    }
-    match E::flatten_to_base(alloc, elements.as_slice()) {
-        Ok(flat) => flat.as_slice() == coefficients,
-        Err(_) => false,
-    }
-}

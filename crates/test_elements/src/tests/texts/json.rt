@@ -1,14 +1,14 @@
 // Elements to JSON and back, and numbers that are refused, from a text and from a value that is given away. No contract says when
-// reading succeeds, nor which text an error holds. In the levels below a byte 2, 4 and 16, and each larger byte, get the error
-// `Value is out of range`; each smaller byte is read.
-use field_base::{Gf2, ReadWord};
-use field_element::{Coefficients, Element, HasPacking};
+// reading succeeds, nor which text an error holds. In GF(2) 2 and in the level of four bits 16, and each larger byte, get the
+// error `Value is out of range`; each smaller byte is read.
+use field_base::{FieldKernel, Gf2, ReadWord};
+use field_element::{Coefficients, Element};
 use field_space::LinearizedPoly8b;
 use serde::{Deserialize, DeserializeOwned, Serialize};
 use serde_json::{Error, Value};
 use std::alloc::Global;
 use word_polynomial::{CubicKernel, GhashKernel, Poly64Kernel};
-use word_tower::{Bits2, Bits4, Tower};
+use word_tower::{Bits4, Tower};
 
 /// The numbers of a byte.
 static NUMBERS: &str =
@@ -75,7 +75,7 @@ fn takes<'a, E: Copy + Serialize + Deserialize<'a> + DeserializeOwned>(
 }
 
 // The same for elements of the field of a kernel.
-fn elements_take<'a, R: ReadWord + Serialize, K: HasPacking<R>>(
+fn elements_take<'a, R: ReadWord + Serialize, K: FieldKernel<R>>(
     alloc: Global,
     texts: &'a str,
     taken: usize,
@@ -86,14 +86,12 @@ fn elements_take<'a, R: ReadWord + Serialize, K: HasPacking<R>>(
 
 const RANGE: &str = "Value is out of range";
 
-// Each number of a byte, at the fields that a byte stores with bits to spare. That GF(2) refuses 2, the field of two bits 4 and 7,
-// and that of four bits 16 are worked rows.
+// Each number of a byte, at GF(2) and at a field that a byte stores with bits to spare.
 #[test]
 fn numbers_of_a_byte_are_read_or_refused(rt: HostRuntime) {
     let alloc = rt.alloc();
     assert!(rt;
         takes::<Gf2>(alloc, NUMBERS, 2, RANGE)
-            && elements_take::<u8, Tower<Bits2>>(alloc, NUMBERS, 4, RANGE)
             && elements_take::<u8, Tower<Bits4>>(alloc, NUMBERS, 16, RANGE)
     );
 }

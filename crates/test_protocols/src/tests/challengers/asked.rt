@@ -68,19 +68,9 @@ pub(crate) fn element<F: ByteLevel>(number: u128) -> F {
     F::from_repr(F::Repr::of_u128(number))
 }
 
-/// The representation of the element.
-pub(crate) fn number_of<F: ByteLevel>(element: F) -> u128 {
+// The representation of the element.
+fn number_of<F: ByteLevel>(element: F) -> u128 {
     element.to_repr().to_u128()
-}
-
-/// Whether the elements have these representations.
-pub(crate) fn are<F: ByteLevel>(elements: &[F], wanted: &[u128]) -> bool {
-    for place in 0..elements.len() {
-        if place >= wanted.len() || number_of(elements[place]) != wanted[place] {
-            return false;
-        }
-    }
-    elements.len() == wanted.len()
 }
 
 // What digests are of.
@@ -97,8 +87,8 @@ fn roots<D: Copy + Drop>(alloc: Global, roots: [D; 2]) -> MerkleCap<Tree, D> {
     MerkleCap::new(kept)
 }
 
-/// The value so many times, or fewer where memory is refused.
-pub(crate) fn repeated<T: Copy + Drop>(alloc: Global, value: T, count: usize) -> Vec<T> {
+// The value so many times, or fewer where memory is refused.
+fn repeated<T: Copy + Drop>(alloc: Global, value: T, count: usize) -> Vec<T> {
     let mut values = Vec::new(alloc);
     for _ in 0..count {
         if values.push(value).is_err() {
@@ -152,16 +142,16 @@ fn searched<F: ByteLevel, Inner: ByteChallenger>(
     }
 }
 
-/// What is said of an error.
-pub(crate) fn error_said(error: ChallengerError) -> Said {
+// What is said of an error.
+fn error_said(error: ChallengerError) -> Said {
     match error {
         ChallengerError::Memory => Said::Memory,
         ChallengerError::Failed => Said::Failed,
     }
 }
 
-/// What is said where something is observed.
-pub(crate) fn observed_said(answer: Result<(), ChallengerError>) -> Said {
+// What is said where something is observed.
+fn observed_said(answer: Result<(), ChallengerError>) -> Said {
     match answer {
         Ok(()) => Said::Number(0),
         Err(error) => error_said(error),

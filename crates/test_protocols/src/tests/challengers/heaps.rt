@@ -2,7 +2,7 @@
 // encoded elements from 67 plus that of the bytes before them, so that all bytes come as their lowest one: a call that refuses some
 // lengths, some bytes or some elements fails here. What a refusal leaves the contracts say. The calls are
 //
-// - `observe_seed` of 0 to 257 bytes into a `Recorder`, and `encode` behind as many bytes, at the narrowest and the widest field;
+// - `observe_seed` of 0 to 257 bytes into a `Recorder`, and `encode` behind as many bytes, at fields of 16 and 128 bits;
 // - each call of a challenger over `HashChallenger` from initial states of 0 to 257 bytes (`observe` of an element, of digests of bytes and
 //   of words, of caps lent and given away, `observe_slice`, `sample_element`, `sample_bits`, uniform bits, `check_witness`, `try_clone` and
 //   a sample of the copy), at fields of 16 and 128 bits;
@@ -18,13 +18,8 @@ use transcripts::{ChallengerError, Recorder};
 /// A challenger over SHA-256 in a heap.
 pub(crate) type InHeap<'a, F> = Hashed<F, &'a LocalHeap>;
 
-/// How a call of a challenger that had not failed ended.
-pub(crate) fn ending_of<C: Asked>(
-    alloc: Global,
-    challenger: &mut C,
-    row: &Row,
-    rest: Rest<'_>,
-) -> Ending {
+// How a call of a challenger that had not failed ended.
+fn ending_of<C: Asked>(alloc: Global, challenger: &mut C, row: &Row, rest: Rest<'_>) -> Ending {
     let said = challenger.answer(alloc, row);
     drop(rest);
     match said {

@@ -4,22 +4,8 @@
 
 use super::asked::Row;
 
-/// Scripts of three fields. The first six are worked rows, the second of a field of 16 bits and the others of one of 8: the digest of no
-/// byte ends in .. 4c a4 95 99 1b 78 52 b8 55, and for no bits too eight bytes are sampled. The next is of `BinaryField16`, seed 2, and the
-/// last of `BinaryField128`, seed 5.
-pub(crate) static SCRIPTS: [&[Row]; 8] = [
-    &[[10, 0, 0, 0x55], [1, 0, 0, 0x55]],
-    &[[1, 0, 0, 0xb855]],
-    &[[2, 0, 0, 0], [1, 0, 0, 0x4c]],
-    &[[2, 12, 0, 0x855]],
-    &[[5, 12, 0, 0x855], [1, 0, 0, 0x4c]],
-    &[
-        [0, 0, 0x61, 0],
-        [0, 0, 0x62, 0],
-        [0, 0, 0x63, 0],
-        [1, 0, 0, 0xad],
-        [1, 0, 0, 0x15],
-    ],
+/// Scripts of `BinaryField16`, seed 2, and of `BinaryField128`, seed 5.
+pub(crate) static SCRIPTS: [&[Row]; 2] = [
     &[
         [0, 0, 0xffff, 0],
         [0, 0, 0xfb29, 0],

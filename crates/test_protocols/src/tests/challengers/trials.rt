@@ -10,27 +10,18 @@ use super::partners::{
     refused_copy, search,
 };
 use super::scripts::SCRIPTS;
-use super::seeds::{bytes_are, is_read, seed_is, too_few_bytes_are_refused};
 use super::vectors::vectors_are_taken;
 use field_bytes::ShortWord;
 use field_element::{Element, Poly64, Poly192};
 use std::alloc::Global;
-use transcript_elements::{TranscriptField, TranscriptKernel};
-use word_tower::{Bits8, Bits16, Bits32, Bits128, Tower};
+use transcript_elements::{ByteLevel, TranscriptField, TranscriptKernel};
+use word_tower::{Bits16, Bits32, Bits128, Tower};
 
 /// A trial of a field. Elements stand by their representations.
 #[derive(Clone, Copy)]
 enum Trial<'a> {
     /// Calls over SHA-256 from an initial state.
     Script(&'a [u8], &'a [Row]),
-    /// A seed, and the elements that are observed of it.
-    Seed(&'a [u8], &'a [u128]),
-    /// An element, and its bytes.
-    Bytes(u128, &'a [u8]),
-    /// Bytes that begin with those of an element, and the element.
-    Read(&'a [u8], u128),
-    /// Too few bytes for an element.
-    TooFewBytes,
     /// A double that refuses, or samples one byte always.
     Partner(&'a Partner),
     /// A call of a challenger in heaps that are full, from an initial state of so many bytes.
@@ -41,7 +32,7 @@ enum Trial<'a> {
     Text(usize),
 }
 
-fn script_is_followed<F: TranscriptField>(alloc: Global, state: &[u8], rows: &[Row]) -> bool {
+fn script_is_followed<F: ByteLevel>(alloc: Global, state: &[u8], rows: &[Row]) -> bool {
     match Vec::from_slice(alloc, state) {
         Ok(state) => {
             let mut challenger = hashed::<F, _>(state);
@@ -54,10 +45,6 @@ fn script_is_followed<F: TranscriptField>(alloc: Global, state: &[u8], rows: &[R
 fn succeeds<F: TranscriptField>(alloc: Global, trial: Trial<'_>) -> bool {
     match trial {
         Trial::Script(state, rows) => script_is_followed::<F>(alloc, state, rows),
-        Trial::Seed(seed, wanted) => seed_is::<F>(alloc, seed, wanted),
-        Trial::Bytes(number, bytes) => bytes_are::<F>(alloc, number, bytes),
-        Trial::Read(bytes, number) => is_read::<F>(bytes, number),
-        Trial::TooFewBytes => too_few_bytes_are_refused::<F>(),
         Trial::Partner(partner) => is_answered::<F>(alloc, partner),
         Trial::Call(row, len) => call_is_refused::<F>(alloc, *row, len),
         Trial::List(len) => list_is_refused::<F>(alloc, len),
@@ -73,7 +60,6 @@ fn succeeds_at<R: ShortWord, K: TranscriptKernel<R>>(alloc: Global, trial: Trial
 /// The fields of transcripts.
 #[derive(Clone, Copy)]
 enum Field {
-    Tower8,
     Tower16,
     Tower32,
     Tower128,
@@ -81,36 +67,14 @@ enum Field {
 
 fn succeeds_in(alloc: Global, field: Field, trial: Trial<'_>) -> bool {
     match field {
-        Field::Tower8 => succeeds_at::<u8, Tower<Bits8>>(alloc, trial),
         Field::Tower16 => succeeds_at::<u16, Tower<Bits16>>(alloc, trial),
         Field::Tower32 => succeeds_at::<u32, Tower<Bits32>>(alloc, trial),
         Field::Tower128 => succeeds_at::<u128, Tower<Bits128>>(alloc, trial),
     }
 }
 
-// The narrowest and the widest: the code is the same for all.
-static ENDS: [Field; 2] = [Field::Tower8, Field::Tower128];
-
-fn all_succeed(alloc: Global, field: Field, trials: &[Trial<'_>]) -> bool {
-    for place in 0..trials.len() {
-        if !succeeds_in(alloc, field, trials[place]) {
-            return false;
-        }
-    }
-    true
-}
-
-// The fields of the scripts, which are followed from an empty initial state.
-static SCRIPTED: [Field; 8] = [
-    Field::Tower8,
-    Field::Tower16,
-    Field::Tower8,
-    Field::Tower8,
-    Field::Tower8,
-    Field::Tower8,
-    Field::Tower16,
-    Field::Tower128,
-];
+// A narrow one and the widest: the code is the same for all.
+static ENDS: [Field; 2] = [Field::Tower16, Field::Tower128];
 
 // Whether a search from the state finds the least witness, and leaves the challenger as after it.
 fn is_found(alloc: Global, row: &(u64, u16, u16)) -> bool {
@@ -126,55 +90,15 @@ fn is_found(alloc: Global, row: &(u64, u16, u16)) -> bool {
 #[test]
 fn scripts_are_followed_and_searches_end(rt: HostRuntime) {
     let alloc = rt.alloc();
-    for place in 0..8usize {
+    for place in 0..2usize {
         let script = Trial::Script(&[], SCRIPTS[place]);
-        assert!(rt;
-            succeeds_in(alloc, SCRIPTED[place], script),
-            "script {place}"
-        );
+        assert!(rt; succeeds_in(alloc, ENDS[place], script), "script {place}");
     }
     let many_calls = Trial::Script(&[], &CALLS);
     assert!(rt; succeeds_in(alloc, Field::Tower32, many_calls));
     for row in &LEAST_WITNESSES {
         assert!(rt; is_found(alloc, row));
     }
-}
-
-// Worked rows: expected values follow from the representations that stand beside them.
-static OF_8: [Trial<'static>; 3] = [
-    Trial::Seed(&[1, 2, 3], &[3, 0, 0, 0, 0, 0, 0, 0, 1, 2, 3]),
-    Trial::Seed(&[], &[0, 0, 0, 0, 0, 0, 0, 0]),
-    Trial::Read(&[0xa5, 9], 0xa5),
-];
-
-static OF_16: [Trial<'static>; 4] = [
-    Trial::Seed(&[1], &[1, 0, 0, 0, 1]),
-    Trial::Seed(&[1, 0], &[2, 0, 0, 0, 1]),
-    Trial::Bytes(0xa5c3, &[0xa5, 0xc3]),
-    Trial::TooFewBytes,
-];
-
-static OF_128: [Trial<'static>; 2] = [
-    Trial::Seed(
-        &[
-            0, 1, 2, 3, 4, 5, 6, 7, 8, 9, 10, 11, 12, 13, 14, 15, 16, 17, 18, 19,
-        ],
-        &[20, 0x0f0e_0d0c_0b0a_0908_0706_0504_0302_0100, 0x1312_1110],
-    ),
-    Trial::Bytes(
-        0x0001_0203_0405_0607_0809_0a0b_0c0d_0e0f,
-        &[0, 1, 2, 3, 4, 5, 6, 7, 8, 9, 10, 11, 12, 13, 14, 15],
-    ),
-];
-
-#[test]
-fn seeds_and_elements_are_bytes(rt: HostRuntime) {
-    let alloc = rt.alloc();
-    assert!(rt;
-        all_succeed(alloc, Field::Tower8, &OF_8)
-            && all_succeed(alloc, Field::Tower16, &OF_16)
-            && all_succeed(alloc, Field::Tower128, &OF_128)
-    );
 }
 
 fn texts_are_refused(alloc: Global, field: Field) -> bool {

@@ -1,3 +1,0 @@
-mod images;
-mod linear_maps;
-mod rows;
