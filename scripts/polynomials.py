@@ -3,8 +3,8 @@
 # The modulus of the bytes of erasure codes, x^8 + x^4 + x^3 + x^2 + 1.
 CODES = 0x11D
 
-# The moduli of the bytes of codes that correct errors, of QR and DVB, of CCSDS 131.0-B, and of AES, each with a generator.
-CORRECTED = [(CODES, 2), (0x187, 2), (0x11B, 3)]
+# The moduli of the bytes of codes besides those of AES, of QR and DVB, and of CCSDS 131.0-B, each with a generator.
+CORRECTED = [(CODES, 2), (0x187, 2)]
 
 
 def multiply(modulus, a, b):

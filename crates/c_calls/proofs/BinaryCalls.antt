@@ -1,9 +1,9 @@
 -- Calls of binary codes, once the code was made.
 use Rattle.std.proofs.Common.{◌≡◌, ◌≢◌, ℕ, ◌-◌, ◌*◌, ◌<◌, arith, refl, subst}
 use Rattle.error_codes.specs.BinaryBch.{AreConjugates}
-use Rattle.error_codes.specs.ByteFields.{byte_modulus, byte_times}
-use Rattle.error_codes.specs.declared.byte_field.ByteField.{ByteField}
-use Rattle.error_codes.specs.declared.byte_field.ByteField.TheVariants.{Ccsds, Qr, Rijndael}
+use Rattle.reed_solomon.specs.ByteFields.{byte_modulus, byte_times}
+use Rattle.reed_solomon.specs.declared.byte_field.ByteField.{ByteField}
+use Rattle.reed_solomon.specs.declared.byte_field.ByteField.TheVariants.{Ccsds, Qr, Rijndael}
 use Rattle.c_calls.specs.BinaryCodes.{HasBinaryCode, HasData, IsBinaryCode, OverBinaryCode}
 use Rattle.c_calls.specs.ChosenCodes.{OfCode}
 use Rattle.c_calls.specs.Codes.{code_root}

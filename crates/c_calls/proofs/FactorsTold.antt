@@ -4,7 +4,8 @@ use Rattle.std.proofs.lemmas.Bool.{cases_lt}
 use Rattle.std.proofs.lemmas.List.{get_or-take, get_or_past, length-take}
 use Rattle.field_base.proofs.BasisSums.{sum_below-same}
 use Rattle.reed_solomon.specs.Adding.{MakeShard}
-use Rattle.reed_solomon.specs.ErasureField.{erasure_product}
+use Rattle.reed_solomon.specs.ByteFields.{byte_times}
+use Rattle.reed_solomon.specs.declared.byte_field.ByteField.TheVariants.{Qr}
 
 -- those of shards that are none are not read
 made_by_first : (k total : ℕ) (present : List Bool) (shard : ℕ) (found : List ℕ) → MakeShard k total present shard found
@@ -18,8 +19,8 @@ made_by_first k total present shard found made =
           ];
       sums = λ symbol word bytes.
           made.sums symbol word bytes
-          ∙ sum_below-same (λ i. erasure_product (get_or found i 0) (symbol i)) (λ i. erasure_product (get_or (take total found) i 0) (symbol i)) total
-          (λ i below. ap (λ (f : ℕ). erasure_product f (symbol i)) (sym (get_or-take total found i 0 below)));
+          ∙ sum_below-same (λ i. byte_times Qr (get_or found i 0) (symbol i)) (λ i. byte_times Qr (get_or (take total found) i 0) (symbol i)) total
+          (λ i below. ap (λ (f : ℕ). byte_times Qr f (symbol i)) (sym (get_or-take total found i 0 below)));
     }
 
 -- the same by other names of the counts, the flags and the factors

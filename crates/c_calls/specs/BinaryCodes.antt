@@ -1,9 +1,9 @@
 -- What calls of binary BCH codes do, on words of bits that stand one after the other, a byte each: which status they return, and what they write.
 use Rattle.std.specs.Prelude.{◌≡◌, ◌⊎◌, ℕ, ◌-◌, ◌*◌, ◌/◌, ◌%◌, ◌<◌, ◌≤◌, List, length, slice_index}
 use Rattle.error_codes.specs.BinaryBch.{AreBinary, AreConjugates, HasFewConjugates, IsMeantBits}
-use Rattle.error_codes.specs.ByteFields.{byte_modulus, byte_times}
+use Rattle.reed_solomon.specs.ByteFields.{byte_modulus, byte_times}
 use Rattle.error_codes.specs.Correcting.{HasOrder, HasRoots, is_listed}
-use Rattle.error_codes.specs.declared.byte_field.ByteField.{ByteField}
+use Rattle.reed_solomon.specs.declared.byte_field.ByteField.{ByteField}
 use Rattle.c_calls.specs.Bytes.{Answers}
 use Rattle.c_calls.specs.Calls.{CallOf}
 use Rattle.c_calls.specs.ChosenCodes.{OfCode}

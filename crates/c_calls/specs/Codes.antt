@@ -3,9 +3,9 @@
 use Rattle.std.specs.Prelude.{◌≡◌, ◌≢◌, ◌⊎◌, Bool, nat_eq, not, ℕ, ◌+◌, ◌-◌, ◌*◌, ◌/◌, ◌%◌, ◌<◌, ◌≤◌, List, length, slice_index, take, drop}
 use Rattle.field_base.specs.Powers.{power}
 use Rattle.field_slices.specs.Marks.{marked_below}
-use Rattle.error_codes.specs.ByteFields.{byte_generator, byte_modulus, byte_times}
+use Rattle.reed_solomon.specs.ByteFields.{byte_generator, byte_modulus, byte_times}
 use Rattle.error_codes.specs.Correcting.{HasOrder, HasRoots, IsMeantIn, code_value, is_listed}
-use Rattle.error_codes.specs.declared.byte_field.ByteField.{ByteField}
+use Rattle.reed_solomon.specs.declared.byte_field.ByteField.{ByteField}
 use Rattle.c_calls.specs.Bytes.{Answers, CallOfCode}
 
 -- word i of words of n symbols

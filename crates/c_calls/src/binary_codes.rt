@@ -2,7 +2,7 @@
 // x^i, and the numbers that `BinaryBch::new` takes.
 ghost use Rattle.std.specs.Prelude.{◌≡◌, ◌-◌, ◌*◌, ◌/◌, ◌≤◌, ◌↔◌, IfNone, IfSome, IsTrue, length};
 ghost use Rattle.error_codes.specs.BinaryBch.{AreBinary};
-ghost use Rattle.error_codes.specs.ByteFields.{byte_times};
+ghost use Rattle.reed_solomon.specs.ByteFields.{byte_times};
 ghost use Rattle.c_calls.specs.BinaryCodes.{AreDataBits, AreEncodedBits, CorrectsBits, CorrectsWordsOfBits, EncodesBits, EncodesDataBits};
 ghost use Rattle.c_calls.specs.BinaryCodes.{HasBinaryCode, IsBinaryCode, IsMeantBitsBy, TellBinaryWords, TellsBinaryWords};
 ghost use Rattle.c_calls.specs.BinaryCodes.{TellsDataBits, TellsWordsOfBits};

@@ -2,7 +2,7 @@
 // bit i for x^i, and the numbers that `CorrectingCode::new` takes.
 ghost use Rattle.std.specs.Prelude.{◌≡◌, ◌-◌, ◌*◌, ◌/◌, ◌%◌, ◌+◌, ◌≤◌, ℕ, IfSome, IsNone, length, take};
 ghost use borrow.Rule.Slice.PartMut.{put_mid};
-ghost use Rattle.error_codes.specs.ByteFields.{byte_modulus, byte_times};
+ghost use Rattle.reed_solomon.specs.ByteFields.{byte_modulus, byte_times};
 ghost use Rattle.error_codes.specs.Correcting.{is_listed};
 ghost use Rattle.c_calls.specs.Codes.{AreCorrectedWords, AreEncodedWords, AreSyndromes, CorrectsWords, EncodesWords, HasCorrectingCode};
 ghost use Rattle.c_calls.specs.Codes.{IsCorrectedWord, IsCorrectingCode, TellWords, is_flagged};

@@ -1,7 +1,7 @@
 // Words of the codes of `codes` that stand interleaved: the first symbols of all words, one after the other, then the second symbols. There
 // are as many words as symbols at one place.
 ghost use Rattle.std.specs.Prelude.{◌≡◌, ◌-◌, ◌*◌, ◌≤◌, length};
-ghost use Rattle.error_codes.specs.ByteFields.{byte_times};
+ghost use Rattle.reed_solomon.specs.ByteFields.{byte_times};
 ghost use Rattle.error_codes.specs.Interleaved.{AreWordValues};
 ghost use Rattle.c_calls.specs.InterleavedCodes.{AreSettled, CorrectsInterleaved, EncodesInterleaved, WritesInterleavedSyndromes};
 

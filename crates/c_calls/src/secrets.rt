@@ -1,12 +1,12 @@
 // Shares of a secret, which stand one after the other, over the field of bytes whose modulus is named.
 ghost use Rattle.std.specs.Prelude.{◌≡◌, ◌≢◌, ◌<◌, ◌≤◌, ℕ, MatchOption, cond, length, slice_index};
 ghost use Rattle.error_codes.specs.Filling.{is_marked};
-ghost use Rattle.error_codes.specs.Fields.{modulus_of};
-ghost use Rattle.error_codes.specs.declared.field.ShareField.{ShareField};
-ghost use Rattle.c_calls.specs.Secrets.{CombinesShares, CorrectsShares, SplitsSecret};
+ghost use Rattle.reed_solomon.specs.ByteFields.{byte_modulus};
+ghost use Rattle.reed_solomon.specs.declared.byte_field.ByteField.TheVariants.{Ccsds};
+ghost use Rattle.c_calls.specs.Secrets.{CombinesShares, CorrectsShares, IsShareModulus, SplitsSecret};
 
 use crate::status;
-use error_codes::{ShareField, SharingError};
+use error_codes::{ByteField, SharingError};
 
 /// Writes `count` shares of a secret, any `needed` of which restore it, from drawn bytes.
 pub fn split_secret(
@@ -100,13 +100,13 @@ fn write_marks(marks: &[bool; 256], flags: &mut [u8])
     }
 }
 
-// The field with that modulus.
-fn field_of(modulus: u64) -> Option<ShareField>
-    ensures { MatchOption result ((field : ShareField) → modulus_of field ≢ modulus) (λ field. modulus_of field ≡ modulus) }
+// The field with that modulus, if secrets are shared over it.
+fn field_of(modulus: u64) -> Option<ByteField>
+    ensures { MatchOption result (¬ IsShareModulus modulus) (λ field. (byte_modulus field ≡ modulus) × (field ≢ Ccsds)) }
 {
     match modulus {
-        0x11b => Some(ShareField::Rijndael),
-        0x11d => Some(ShareField::Gfshare),
+        0x11b => Some(ByteField::Rijndael),
+        0x11d => Some(ByteField::Qr),
         _ => None,
     }
 }

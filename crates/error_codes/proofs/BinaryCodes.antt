@@ -19,10 +19,10 @@ use Rattle.field_base.proofs.RingLemmas.{sum_times, times-zero, xor_nothing, zer
 use Rattle.field_slices.specs.Marks.{marked_below}
 use Rattle.field_slices.proofs.Counts.{enumerated}
 use Rattle.error_codes.specs.BinaryBch.{HasFewConjugates, IsConjugate, IsSquaring, MarkConjugates}
-use Rattle.error_codes.specs.ByteFields.{byte_times}
+use Rattle.reed_solomon.specs.ByteFields.{byte_times}
 use Rattle.error_codes.specs.Correcting.{code_value}
 use Rattle.error_codes.specs.Filling.{is_marked}
-use Rattle.error_codes.specs.declared.byte_field.ByteField.{ByteField}
+use Rattle.reed_solomon.specs.declared.byte_field.ByteField.{ByteField}
 use Rattle.error_codes.proofs.CodeValues.{value-split}
 use Rattle.error_codes.proofs.Marking.{count-more, count-same, none-marked}
 use Rattle.error_codes.proofs.Meanings.{marks-same}

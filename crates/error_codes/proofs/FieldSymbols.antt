@@ -4,9 +4,9 @@ use Rattle.std.proofs.Math.Nat.{pow-le-pow_right}
 use native.Mathlib.Nat.{mod-eq_of_lt}
 use Rattle.field_base.specs.Field.{IsInverseOrZero}
 use Rattle.field_base.proofs.RingLemmas.{mod-times, times-mod}
-use Rattle.error_codes.specs.ByteFields.{byte_times}
-use Rattle.error_codes.specs.declared.byte_field.ByteField.{ByteField}
-use Rattle.error_codes.specs.lemmas.ByteField.{bytes_are_fields}
+use Rattle.reed_solomon.specs.ByteFields.{byte_times}
+use Rattle.reed_solomon.specs.declared.byte_field.ByteField.{ByteField}
+use Rattle.reed_solomon.proofs.ByteFields.{bytes_are_fields}
 
 -- an element fits in a word
 pub element-fits : (width x : ℕ) → width ≤ 16 → x < 2 ^ width → x < 65536

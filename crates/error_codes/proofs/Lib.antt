@@ -1,4 +1,3 @@
-mod ShareProducts
 mod Interpolating
 mod Loops
 mod Secrecy

@@ -10,10 +10,10 @@ use Rattle.field_base.specs.Powers.{power, value_of}
 use Rattle.field_base.proofs.Horner.{horner_start, horner_step, value_of-cons}
 use Rattle.field_base.proofs.PowerLemmas.{times-one}
 use Rattle.field_base.proofs.RingLemmas.{xor_nothing}
-use Rattle.error_codes.specs.Fields.{product_in}
+use Rattle.reed_solomon.specs.ByteFields.{byte_times}
 use Rattle.error_codes.specs.Sharing.{AreSplit, bytes_at, share_byte}
-use Rattle.error_codes.specs.declared.field.ShareField.{ShareField}
-use Rattle.error_codes.proofs.ShareProducts.{product_ring}
+use Rattle.reed_solomon.specs.declared.byte_field.ByteField.{ByteField}
+use Rattle.reed_solomon.proofs.ByteFields.{bytes_are_fields}
 
 -- a byte gathers whether something holds at every place so far
 pub gathered : (P : ℕ → Type 0) (n before more : ℕ) → ((before ≡ 0) ↔ ((j : ℕ) → j < n → P j)) → ((more ≡ 0) ↔ P n)
@@ -40,24 +40,24 @@ differs value share wanted is = (
 -- ---- Horner's rule over the drawn coefficients
 
 -- before the first of them the value is 0
-pub no_coefficient : (field : ShareField) (others size place index : ℕ) (draws : List ℕ)
-    → 0 ≡ value_of 1 (product_in field) (λ c. c) (drop (others - 0) (bytes_at size others draws place)) index
+pub no_coefficient : (field : ByteField) (others size place index : ℕ) (draws : List ℕ)
+    → 0 ≡ value_of 1 (byte_times field) (λ c. c) (drop (others - 0) (bytes_at size others draws place)) index
 no_coefficient field others size place index draws =
-    horner_start 8 1 (product_in field) (product_ring field) (λ c. c) index 0 (others - 0) (bytes_at size others draws place)
+    horner_start 8 1 (byte_times field) (bytes_are_fields field).ring (λ c. c) index 0 (others - 0) (bytes_at size others draws place)
     (let long = length-map-range_with_len (λ i. slice_index draws (i * size + place)) 0 others in omega (arith, long)) refl
 
 -- one more makes what came so far the upper part
-pub next_coefficient : (field : ShareField) (others size place index value back row product : ℕ) (draws : List ℕ) → back < others
-    → row ≡ others - 1 - back → product ≡ product_in field index value → slice_index draws (row * size + place) < 256
-    → value ≡ value_of 1 (product_in field) (λ c. c) (drop (others - back) (bytes_at size others draws place)) index
+pub next_coefficient : (field : ByteField) (others size place index value back row product : ℕ) (draws : List ℕ) → back < others
+    → row ≡ others - 1 - back → product ≡ byte_times field value index → slice_index draws (row * size + place) < 256
+    → value ≡ value_of 1 (byte_times field) (λ c. c) (drop (others - back) (bytes_at size others draws place)) index
     → bit_xor product (slice_index draws (row * size + place))
-    ≡ value_of 1 (product_in field) (λ c. c) (drop (others - (back + 1)) (bytes_at size others draws place)) index
+    ≡ value_of 1 (byte_times field) (λ c. c) (drop (others - (back + 1)) (bytes_at size others draws place)) index
 next_coefficient field others size place index value back row product draws within row_is product_is fits so_far =
-    horner_step 8 1 (product_in field) (product_ring field) (λ c. c) index value (bit_xor product drawn) (others - back) rows drawn
+    horner_step 8 1 (byte_times field) (bytes_are_fields field).ring (λ c. c) index value (bit_xor product drawn) (others - back) rows drawn
     (omega (arith, within)) (let long = length-map-range_with_len at 0 others in omega (arith, long)) fits
     (sym (get_or-map-range_with_len at 0 others (others - back - 1) row drawn (omega (arith, within)) (omega (arith, within, row_is)))) so_far
-    (ap (λ (z : ℕ). bit_xor z drawn) (product_is ∙ (product_ring field).comm index value))
-    ∙ ap (λ (n : ℕ). value_of 1 (product_in field) (λ c. c) (drop n rows) index) (omega (arith, within))
+    (ap (λ (z : ℕ). bit_xor z drawn) product_is)
+    ∙ ap (λ (n : ℕ). value_of 1 (byte_times field) (λ c. c) (drop n rows) index) (omega (arith, within))
   where
     at : ℕ → ℕ
     at i = slice_index draws (i * size + place)
@@ -69,15 +69,15 @@ next_coefficient field others size place index value back row product draws with
     drawn = slice_index draws (row * size + place)
 
 -- and the byte of the secret comes last
-pub last_coefficient : (field : ShareField) (others place index value back product : ℕ) (secret draws : List ℕ) → back ≡ others
-    → product ≡ product_in field index value → slice_index secret place < 256
-    → value ≡ value_of 1 (product_in field) (λ c. c) (drop (others - back) (bytes_at (length secret) others draws place)) index
+pub last_coefficient : (field : ByteField) (others place index value back product : ℕ) (secret draws : List ℕ) → back ≡ others
+    → product ≡ byte_times field value index → slice_index secret place < 256
+    → value ≡ value_of 1 (byte_times field) (λ c. c) (drop (others - back) (bytes_at (length secret) others draws place)) index
     → bit_xor product (slice_index secret place) ≡ share_byte field others secret draws index place
 last_coefficient field others place index value back product secret draws all product_is fits so_far =
-    ap (λ (z : ℕ). bit_xor z own) (product_is ∙ (product_ring field).comm index value) ∙ xor_comm (product_in field value index) own
-    ∙ ap (λ (z : ℕ). bit_xor own (product_in field z index))
-    (so_far ∙ ap (λ (n : ℕ). value_of 1 (product_in field) (λ c. c) (drop n rows) index) none)
-    ∙ sym (value_of-cons 8 1 (product_in field) (product_ring field) (λ c. c) index own rows fits)
+    ap (λ (z : ℕ). bit_xor z own) product_is ∙ xor_comm (byte_times field value index) own
+    ∙ ap (λ (z : ℕ). bit_xor own (byte_times field z index))
+    (so_far ∙ ap (λ (n : ℕ). value_of 1 (byte_times field) (λ c. c) (drop n rows) index) none)
+    ∙ sym (value_of-cons 8 1 (byte_times field) (bytes_are_fields field).ring (λ c. c) index own rows fits)
   where
     own : ℕ
     own = slice_index secret place
@@ -91,7 +91,7 @@ last_coefficient field others place index value back product secret draws all pr
 -- ---- shares
 
 -- bytes that are right at each place are right in each share
-pub split_at : (field : ShareField) (others count all : ℕ) (secret draws shares : List ℕ) → all ≡ count * length secret
+pub split_at : (field : ByteField) (others count all : ℕ) (secret draws shares : List ℕ) → all ≡ count * length secret
     → ((p : ℕ) → p < all → slice_index shares p ≡ share_byte field others secret draws (p / length secret + 1) (p % length secret))
     → AreSplit field others count secret draws shares
 split_at field others count all secret draws shares whole each i j within inside =
@@ -101,18 +101,18 @@ split_at field others count all secret draws shares whole each i j within inside
 -- ---- syndromes
 
 -- the first term of a share is its scaled byte
-pub first-term : (field : ShareField) (scale byte index : ℕ)
-    → product_in field scale byte ≡ product_in field (product_in field scale byte) (power 1 (product_in field) index 0)
+pub first-term : (field : ByteField) (scale byte index : ℕ)
+    → byte_times field scale byte ≡ byte_times field (byte_times field scale byte) (power 1 (byte_times field) index 0)
 unfolding power
 first-term field scale byte index =
-    sym (times-one 8 1 (product_in field) (product_ring field) (product_in field scale byte) ((product_ring field).below scale byte))
+    sym (times-one 8 1 (byte_times field) (bytes_are_fields field).ring (byte_times field scale byte) ((bytes_are_fields field).ring.below scale byte))
 
 -- and each other is the product of that before by the index
-pub next-term : (field : ShareField) (first index m term : ℕ)
-    → term ≡ product_in field first (power 1 (product_in field) index m)
-    → product_in field index term ≡ product_in field first (power 1 (product_in field) index (m + 1))
+pub next-term : (field : ByteField) (first index m term : ℕ)
+    → term ≡ byte_times field first (power 1 (byte_times field) index m)
+    → byte_times field index term ≡ byte_times field first (power 1 (byte_times field) index (m + 1))
 unfolding power
 next-term field first index m term is =
-    ap (product_in field index) is ∙ (product_ring field).comm index (product_in field first (power 1 (product_in field) index m))
-    ∙ (product_ring field).assoc first (power 1 (product_in field) index m) index
-    ∙ ap (λ (n : ℕ). product_in field first (power 1 (product_in field) index n)) (sym (add-one m))
+    ap (byte_times field index) is ∙ (bytes_are_fields field).ring.comm index (byte_times field first (power 1 (byte_times field) index m))
+    ∙ (bytes_are_fields field).ring.assoc first (power 1 (byte_times field) index m) index
+    ∙ ap (λ (n : ℕ). byte_times field first (power 1 (byte_times field) index n)) (sym (add-one m))

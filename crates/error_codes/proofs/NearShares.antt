@@ -7,10 +7,10 @@ use Rattle.std.proofs.lemmas.Bool.Decides.{eqb_tells}
 use Rattle.field_base.specs.Powers.{value_of}
 use Rattle.field_slices.specs.Marks.{marked_below}
 use Rattle.error_codes.proofs.Marks.{fewer-marks}
-use Rattle.error_codes.specs.Fields.{product_in}
+use Rattle.reed_solomon.specs.ByteFields.{byte_times}
 use Rattle.error_codes.specs.Sharing.{share_at}
 use Rattle.error_codes.specs.Wrong.{AreNearPolynomials, IsThroughUnmarked, LieUnmarked, is_wrong_byte, is_wrong_share}
-use Rattle.error_codes.specs.declared.field.ShareField.{ShareField}
+use Rattle.reed_solomon.specs.declared.byte_field.ByteField.{ByteField}
 use Rattle.error_codes.proofs.Located.{each-unmarked, nothing-marked, some-marked}
 
 equal-is : (a b : ℕ) → not (nat_eq a b) ≡ false → b ≡ a
@@ -25,7 +25,7 @@ is-equal a b same = elim (eqb_tells a b) [
   | inr other ↦ absurd (other.1 (sym same))
 ]
 
-module _ (field : ShareField) (k : ℕ) (indexes : List ℕ) (size : ℕ) (shares : List ℕ) where
+module _ (field : ByteField) (k : ℕ) (indexes : List ℕ) (size : ℕ) (shares : List ℕ) where
   -- the shares that are not marked lie on polynomials for which the marked are wrong
   pub near-unmarked : (polynomials : ℕ → List ℕ) (marked : ℕ → Bool) → AreNearPolynomials field k indexes size shares polynomials
       → ((i : ℕ) → i < length indexes → marked i ≡ is_wrong_share field indexes size shares polynomials i) → (j : ℕ) → j < size
@@ -33,7 +33,7 @@ module _ (field : ShareField) (k : ℕ) (indexes : List ℕ) (size : ℕ) (share
   near-unmarked polynomials marked near are j inside = record {
     coefficient_count = near.coefficient_count j inside;
     at_points = λ i below free.
-        equal-is (share_at size shares j i) (value_of 1 (product_in field) (λ c. c) (polynomials j) (slice_index indexes i))
+        equal-is (share_at size shares j i) (value_of 1 (byte_times field) (λ c. c) (polynomials j) (slice_index indexes i))
         (each-unmarked (is_wrong_byte field indexes size shares polynomials i) size (sym (are i below) ∙ free) j inside);
   }
 
@@ -68,7 +68,7 @@ module _ (field : ShareField) (k : ℕ) (indexes : List ℕ) (size : ℕ) (share
     right i below free =
         let fewer = fewer-marks (is_wrong_byte field indexes size shares polynomials i) (λ j. false) size
         (λ j inside is.
-        let same = is-equal (share_at size shares j i) (value_of 1 (product_in field) (λ c. c) (polynomials j) (slice_index indexes i))
+        let same = is-equal (share_at size shares j i) (value_of 1 (byte_times field) (λ c. c) (polynomials j) (slice_index indexes i))
         ((through j inside).at_points i below free) in
         absurd (cc)) in
         let nothing = nothing-marked size in

@@ -2,13 +2,13 @@
 use Rattle.std.proofs.Common.{◌≡◌, ℕ, ◌+◌, ◌<◌, Bool, true, List, length, map, sym, ◌∙◌, ap, subst, arith}
 use Rattle.std.specs.Prelude.{◌↔◌, nat_eq, not, slice_index}
 use Rattle.std.proofs.lemmas.List.{get_or-map, length-map}
-use Rattle.error_codes.specs.ByteFields.{byte_times}
+use Rattle.reed_solomon.specs.ByteFields.{byte_times}
 use Rattle.error_codes.specs.Checks.{AreScaled}
 use Rattle.error_codes.specs.Correcting.{HasOrder, HasRoots, IsMeant}
 use Rattle.error_codes.specs.Generators.{power_point, power_scale}
 use Rattle.error_codes.specs.Nibbles.{AreNibbles, IsMeantNibbles, lowered, nibble_root, nibble_times, raised}
-use Rattle.error_codes.specs.declared.byte_field.ByteField.{ByteField}
-use Rattle.error_codes.specs.declared.byte_field.ByteField.TheVariants.{Qr}
+use Rattle.reed_solomon.specs.declared.byte_field.ByteField.{ByteField}
+use Rattle.reed_solomon.specs.declared.byte_field.ByteField.TheVariants.{Qr}
 use Rattle.error_codes.proofs.NibbleFields.{bytes, frobenius, kept-lowered, lowered-order, lowered-raised, lowered-roots, nibble-power-lt, raised-kept}
 use Rattle.error_codes.proofs.NibbleFields.{raised-order, raised-roots}
 use Rattle.error_codes.proofs.NibbleWords.{changes-raised, code-kept, lowered-meant, lowered-word, raised-meant, raised-word}

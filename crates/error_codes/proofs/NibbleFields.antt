@@ -14,12 +14,12 @@ use Rattle.field_base.specs.Remainder.{mul_mod, rem, rem_in}
 use Rattle.field_base.specs.Ring.{IsRing}
 use Rattle.field_base.proofs.PowerLemmas.{power-add, power-lt, power-mul}
 use Rattle.field_base.proofs.RemainderRing.{mul_mod_ring}
-use Rattle.error_codes.specs.ByteFields.{byte_times}
+use Rattle.reed_solomon.specs.ByteFields.{byte_times}
 use Rattle.error_codes.specs.Correcting.{HasOrder, HasRoots, code_value}
 use Rattle.error_codes.specs.Nibbles.{AreNibbles, lowered, nibble_root, nibble_times, raised}
-use Rattle.error_codes.specs.declared.byte_field.ByteField.TheVariants.{Qr}
+use Rattle.reed_solomon.specs.declared.byte_field.ByteField.TheVariants.{Qr}
 use Rattle.error_codes.specs.declared.nibble_code.literals.TheConstants.{IMAGES}
-use Rattle.error_codes.specs.lemmas.ByteField.{bytes_are_fields}
+use Rattle.reed_solomon.proofs.ByteFields.{bytes_are_fields}
 use Rattle.error_codes.proofs.Encoding.{value-same}
 use Rattle.error_codes.proofs.Moments.{sum-same}
 

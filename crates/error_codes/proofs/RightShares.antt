@@ -8,10 +8,10 @@ use Rattle.field_base.specs.PolynomialRoots.{AreDistinctBelow}
 use Rattle.field_base.specs.Powers.{value_of}
 use Rattle.field_slices.specs.Marks.{marked_below}
 use Rattle.error_codes.proofs.Marking.{count-more, count-none, count-same}
-use Rattle.error_codes.specs.Fields.{product_in}
+use Rattle.reed_solomon.specs.ByteFields.{byte_times}
 use Rattle.error_codes.specs.Sharing.{IsThrough, share_at}
 use Rattle.error_codes.specs.Wrong.{AreUnmarked, RowsFit, IsThroughUnmarked, listed_share}
-use Rattle.error_codes.specs.declared.field.ShareField.{ShareField}
+use Rattle.reed_solomon.specs.declared.byte_field.ByteField.{ByteField}
 
 -- ---- the list grows
 
@@ -141,7 +141,7 @@ module _ (marked : ℕ → Bool) (n count : ℕ) (places own indexes : List ℕ)
       next : (a : ℕ) → a < n → a + 1 ≤ n
       next a below = omega (arith, below)
 
-  module _ (field : ShareField) (k size j : ℕ) (shares cs : List ℕ) where
+  module _ (field : ByteField) (k size j : ℕ) (shares cs : List ℕ) where
     -- through all of the list is through all that are not marked
     pub through-unmarked : IsThrough field k count (slice_index own) (listed_share size shares places j) cs
         → IsThroughUnmarked field k n (slice_index indexes) (share_at size shares j) marked cs
@@ -149,7 +149,7 @@ module _ (marked : ℕ → Bool) (n count : ℕ) (places own indexes : List ℕ)
       coefficient_count = through.coefficient_count;
       at_points = λ i below free.
           let found = are.each i below free in
-          ap (value_of 1 (product_in field) (λ c. c) cs) (sym (own_are found.0 found.1 ∙ ap (slice_index indexes) found.2))
+          ap (value_of 1 (byte_times field) (λ c. c) cs) (sym (own_are found.0 found.1 ∙ ap (slice_index indexes) found.2))
           ∙ through.at_points found.0 found.1 ∙ ap (share_at size shares j) found.2;
     }
 
@@ -159,6 +159,6 @@ module _ (marked : ℕ → Bool) (n count : ℕ) (places own indexes : List ℕ)
     unmarked-through through = record {
       coefficient_count = through.coefficient_count;
       at_points = λ p below.
-          ap (value_of 1 (product_in field) (λ c. c) cs) (own_are p below)
+          ap (value_of 1 (byte_times field) (λ c. c) cs) (own_are p below)
           ∙ through.at_points (slice_index places p) (are.inside p below) (are.unmarked p below);
     }

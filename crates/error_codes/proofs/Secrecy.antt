@@ -8,7 +8,6 @@ use Rattle.std.proofs.lemmas.List.FromFn.{get_or-map-range_with_len, length-map-
 use Rattle.std.proofs.lemmas.Nat.{div-add-mod', div-mul-add, div_below, mod-mul-add, mul-add-lt}
 use native.Mathlib.Nat.{mod-lt}
 use lib.Bits.{xor_zero_r}
-use Rattle.field_base.specs.Field.{IsField}
 use Rattle.field_base.specs.PolynomialRoots.{AreDistinctBelow}
 use Rattle.field_base.specs.Powers.{value_of}
 use Rattle.field_base.proofs.Horner.{value_of-cons}
@@ -17,19 +16,13 @@ use Rattle.error_codes.specs.Secrets.{SharesSecret}
 use Rattle.error_codes.proofs.FewerShares.{fewer_shares_are_counted}
 use Rattle.error_codes.proofs.Meanings.{marks-same}
 use Rattle.error_codes.proofs.Secrets.{shares_hide_secret}
-use Rattle.error_codes.specs.Fields.{product_in}
+use Rattle.reed_solomon.specs.ByteFields.{byte_times}
 use Rattle.error_codes.specs.Refusals.{AreDistinct, AreNonzero}
 use Rattle.error_codes.specs.Secrecy.{FitBytes, ByteSharesAreCounted, ChangedSharesAreFound, GiveShares, SharesHideString, SplitSharesCombine, is_changed_share}
 use Rattle.error_codes.specs.Sharing.{IsThrough, bytes_at, coefficients, share_at, share_byte}
 use Rattle.error_codes.specs.Wrong.{is_wrong_byte, is_wrong_share}
-use Rattle.error_codes.specs.declared.field.ShareField.{ShareField}
-use Rattle.error_codes.specs.declared.field.ShareField.TheVariants.{Gfshare, Rijndael}
-use Rattle.error_codes.proofs.ShareProducts.{product_ring}
-
--- either of the two
-pub of_fields : IsField 8 (product_in Rijndael) → IsField 8 (product_in Gfshare) → (field : ShareField) → IsField 8 (product_in field)
-of_fields rijndael gfshare Rijndael = rijndael
-of_fields rijndael gfshare Gfshare = gfshare
+use Rattle.reed_solomon.specs.declared.byte_field.ByteField.{ByteField}
+use Rattle.reed_solomon.proofs.ByteFields.{bytes_are_fields}
 
 row-at : (size count : ℕ) (rows : List ℕ) (j i : ℕ) → i < count → slice_index (bytes_at size count rows j) i ≡ slice_index rows (i * size + j)
 row-at size count rows j i within = get_or-map-range_with_len (λ n. slice_index rows (n * size + j)) 0 count i i 0 within (omega arith)
@@ -49,10 +42,10 @@ positive (suc n) count p below = omega arith
 -- ---- what shares combine to
 
 -- the value at 0 is the lowest coefficient
-value-at_zero : (field : ShareField) (c : ℕ) (cs : List ℕ) → c < 2 ^ 8 → value_of 1 (product_in field) (λ d. d) (c ∷ cs) 0 ≡ c
+value-at_zero : (field : ByteField) (c : ℕ) (cs : List ℕ) → c < 2 ^ 8 → value_of 1 (byte_times field) (λ d. d) (c ∷ cs) 0 ≡ c
 value-at_zero field c cs fits =
-    value_of-cons 8 1 (product_in field) (product_ring field) (λ d. d) 0 c cs fits
-    ∙ ap (bit_xor c) (times-zero 8 1 (product_in field) (product_ring field) (value_of 1 (product_in field) (λ d. d) cs 0)) ∙ xor_zero_r c
+    value_of-cons 8 1 (byte_times field) (bytes_are_fields field).ring (λ d. d) 0 c cs fits
+    ∙ ap (bit_xor c) (times-zero 8 1 (byte_times field) (bytes_are_fields field).ring (value_of 1 (byte_times field) (λ d. d) cs 0)) ∙ xor_zero_r c
 
 pub split_shares_combine : SplitSharesCombine
 split_shares_combine field others count secret draws shares indexes chosen restored fits split enough nonzero most choice = (
@@ -118,33 +111,33 @@ changed_shares_are_found field others count secret draws shares indexes chosen f
 
 -- ---- what they hide
 
-module _ (field : ShareField) (is_field : IsField 8 (product_in field)) (others : ℕ) (indexes secret shares : List ℕ) (count : length indexes ≡ others)
+module _ (field : ByteField) (others : ℕ) (indexes secret shares : List ℕ) (count : length indexes ≡ others)
     (nonzero : AreNonzero indexes) (distinct : AreDistinct indexes) (secret_fits : FitBytes secret) (shares_fit : FitBytes shares) where
   points : AreDistinctBelow others (2 ^ 8) (slice_index indexes)
   points = subst (λ (n : ℕ). AreDistinctBelow n (2 ^ 8) (slice_index indexes)) count distinct
 
   Given : ℕ → Type 0
-  Given j = (cs : List ℕ) × SharesSecret 8 (product_in field) others (slice_index indexes) (share_at (length secret) shares j) (slice_index secret j) cs
+  Given j = (cs : List ℕ) × SharesSecret 8 (byte_times field) others (slice_index indexes) (share_at (length secret) shares j) (slice_index secret j) cs
       × ((ds : List ℕ)
-      → SharesSecret 8 (product_in field) others (slice_index indexes) (share_at (length secret) shares j) (slice_index secret j) ds → ds ≡ cs)
+      → SharesSecret 8 (byte_times field) others (slice_index indexes) (share_at (length secret) shares j) (slice_index secret j) ds → ds ≡ cs)
 
   -- the coefficients for byte j
   given : (j : ℕ) → Given j
   unfolding Given
   given j =
-      shares_hide_secret 8 (product_in field) (lit< tt) is_field others (slice_index indexes) (share_at (length secret) shares j) points
+      shares_hide_secret 8 (byte_times field) (lit< tt) (bytes_are_fields field) others (slice_index indexes) (share_at (length secret) shares j) points
       (λ i below. nonzero i (omega (arith, below, count))) (λ i below. shares_fit (i * length secret + j)) (slice_index secret j) (secret_fits j)
 
   list : ℕ → List ℕ
   unfolding Given
   list j = (given j).0
 
-  has : (j : ℕ) → SharesSecret 8 (product_in field) others (slice_index indexes) (share_at (length secret) shares j) (slice_index secret j) (list j)
+  has : (j : ℕ) → SharesSecret 8 (byte_times field) others (slice_index indexes) (share_at (length secret) shares j) (slice_index secret j) (list j)
   unfolding Given list
   has j = (given j).1
 
   only : (j : ℕ) (ds : List ℕ)
-      → SharesSecret 8 (product_in field) others (slice_index indexes) (share_at (length secret) shares j) (slice_index secret j) ds → ds ≡ list j
+      → SharesSecret 8 (byte_times field) others (slice_index indexes) (share_at (length secret) shares j) (slice_index secret j) ds → ds ≡ list j
   unfolding Given list
   only j = (given j).2
 
@@ -200,13 +193,13 @@ module _ (field : ShareField) (is_field : IsField 8 (product_in field)) (others 
     count = made-count;
     fits = made-fits;
     at_shares = λ i j within inside.
-        ap (λ (cs : List ℕ). value_of 1 (product_in field) (λ c. c) cs (slice_index indexes i)) (makes j inside) ∙ (has j).shares i within;
+        ap (λ (cs : List ℕ). value_of 1 (byte_times field) (λ c. c) cs (slice_index indexes i)) (makes j inside) ∙ (has j).shares i within;
   }
 
   -- and there are no others
   module _ (other : List ℕ) (other_gives : GiveShares field others indexes secret shares other) where
     shared : (j : ℕ) → j < length secret
-        → SharesSecret 8 (product_in field) others (slice_index indexes) (share_at (length secret) shares j) (slice_index secret j) (coefficients others secret other j)
+        → SharesSecret 8 (byte_times field) others (slice_index indexes) (share_at (length secret) shares j) (slice_index secret j) (coefficients others secret other j)
     shared j inside = record {
       count = ap suc (row-count (length secret) others other j);
       fits = each;
@@ -242,11 +235,11 @@ module _ (field : ShareField) (is_field : IsField 8 (product_in field)) (others 
       × ((other : List ℕ) → GiveShares field others indexes secret shares other → other ≡ draws)
   hides = (made, gives, same)
 
-pub shares_hide_string : IsField 8 (product_in Rijndael) → IsField 8 (product_in Gfshare) → SharesHideString
-shares_hide_string rijndael gfshare field = hides field (of_fields rijndael gfshare field)
+pub shares_hide_string : SharesHideString
+shares_hide_string field = hides field
 
-pub byte_shares_are_counted : IsField 8 (product_in Rijndael) → IsField 8 (product_in Gfshare) → ByteSharesAreCounted
-byte_shares_are_counted rijndael gfshare field others more known indexes share sum count nonzero distinct fits secret secret_fits =
-    fewer_shares_are_counted 8 (product_in field) (lit< tt) (of_fields rijndael gfshare field) others more known (slice_index indexes) share sum
+pub byte_shares_are_counted : ByteSharesAreCounted
+byte_shares_are_counted field others more known indexes share sum count nonzero distinct fits secret secret_fits =
+    fewer_shares_are_counted 8 (byte_times field) (lit< tt) (bytes_are_fields field) others more known (slice_index indexes) share sum
     (subst (λ (n : ℕ). AreDistinctBelow n (2 ^ 8) (slice_index indexes)) count distinct)
     (λ i below. nonzero i (omega (arith, below, count))) fits secret secret_fits

@@ -1,6 +1,6 @@
 -- Words as columns of a matrix: the places of their symbols, one word that is written among them, and all words one after the
 -- other.
-use Rattle.std.proofs.Common.{◌≡◌, ◌≢◌, ℕ, zero, suc, ◌+◌, ◌*◌, ◌%◌, ◌^◌, ◌<◌, ◌≤◌, List, [], ◌∷◌, ◌++◌, length, take, drop, set}
+use Rattle.std.proofs.Common.{◌≡◌, ◌≢◌, ℕ, suc, ◌+◌, ◌*◌, ◌%◌, ◌<◌, ◌≤◌, List, ◌++◌, length, take, drop, set}
 use Rattle.std.proofs.Common.{sym, ◌∙◌, ap, subst, arith, below_more}
 use Rattle.std.specs.Prelude.{slice_index}
 use Rattle.std.proofs.Math.Nat.{mul-le-mul_right, suc-mul}
@@ -10,10 +10,6 @@ use Rattle.std.proofs.lemmas.List.FromFn.{fill_by_all, get_or-map-range_with_len
 use Rattle.std.proofs.lemmas.Nat.{mod-mul-add}
 use borrow.Rule.Slice.PartMut.{mid_of, post_of, put_mid, same_len_mid}
 use lib.Arith.{digits_lt}
-use Rattle.field_base.specs.LinearMaps.{linear_image}
-use Rattle.field_base.specs.Ring.{IsRing}
-use Rattle.field_base.proofs.LinearMapLemmas.{the_linear_map}
-use Rattle.field_base.proofs.RingLemmas.{sum_times}
 use Rattle.error_codes.specs.Interleaved.{interleaved_word}
 
 -- ---- places
@@ -163,23 +159,3 @@ columns-as n depth count relates other old now each before = record {
       each c (interleaved_word n depth old c) (interleaved_word n depth now c) below (before.done c below);
   rest = before.rest;
 }
-
--- ---- products by one scalar
-
--- the map that takes each bit to its product by s is the product by s
-pub images_are : (times : ℕ → ℕ → ℕ) → IsRing 8 1 times → (s a b c d e f g h : ℕ) → a ≡ times 1 s → b ≡ times 2 s → c ≡ times 4 s
-    → d ≡ times 8 s → e ≡ times 16 s → f ≡ times 32 s → g ≡ times 64 s → h ≡ times 128 s
-    → (x : ℕ) → x < 256 → linear_image (a ∷ b ∷ c ∷ d ∷ e ∷ f ∷ g ∷ h ∷ []) x ≡ times x s
-images_are times ring s a b c d e f g h a_is b_is c_is d_is e_is f_is g_is h_is x fits =
-    sym ((the_linear_map (a ∷ b ∷ c ∷ d ∷ e ∷ f ∷ g ∷ h ∷ [])).only (λ y. times y s) (λ y z. sum_times 8 1 times ring y z s) each x fits)
-  where
-    each : (j : ℕ) → j < 8 → times (2 ^ j) s ≡ slice_index (a ∷ b ∷ c ∷ d ∷ e ∷ f ∷ g ∷ h ∷ []) j
-    each zero below = sym a_is
-    each (suc zero) below = sym b_is
-    each (suc (suc zero)) below = sym c_is
-    each (suc (suc (suc zero))) below = sym d_is
-    each (suc (suc (suc (suc zero)))) below = sym e_is
-    each (suc (suc (suc (suc (suc zero))))) below = sym f_is
-    each (suc (suc (suc (suc (suc (suc zero)))))) below = sym g_is
-    each (suc (suc (suc (suc (suc (suc (suc zero))))))) below = sym h_is
-    each (suc (suc (suc (suc (suc (suc (suc (suc j)))))))) below = absurd (omega (arith, below))

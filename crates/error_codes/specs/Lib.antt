@@ -1,4 +1,3 @@
-pub mod Fields
 pub mod Sharing
 pub mod Refusals
 pub mod Wrong
@@ -11,11 +10,9 @@ pub mod Euclid
 pub mod Generators
 pub mod Registers
 pub mod Secrets
-pub mod ByteFields
 pub mod Correcting
 pub mod Filling
 pub mod Interleaved
 pub mod Nibbles
 pub mod DualBasis
 pub mod FieldCodes
-pub mod lemmas

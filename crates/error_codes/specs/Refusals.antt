@@ -4,7 +4,7 @@ use Rattle.field_base.specs.PolynomialRoots.{AreDistinctBelow}
 use Rattle.error_codes.specs.Sharing.{LieOnPolynomials}
 use Rattle.error_codes.specs.declared.sharing_error.SharingError.{SharingError}
 use Rattle.error_codes.specs.declared.sharing_error.SharingError.TheVariants.{EmptySecret, EqualIndexes, TooFewNeeded, TooFewShares, TooManyShares, UnequalLengths, WrongDraws, WrongShare, ZeroIndex}
-use Rattle.error_codes.specs.declared.field.ShareField.{ShareField}
+use Rattle.reed_solomon.specs.declared.byte_field.ByteField.{ByteField}
 
 -- a secret of `size` bytes can be split, by so many drawn bytes, into shares of so many bytes in all: k of `count`
 -- shares are needed
@@ -49,7 +49,7 @@ pub record AreShares (k : ℕ) (indexes : List ℕ) (size bytes : ℕ) : Type 0 
   pub room : bytes ≡ length indexes * size
 
 -- why they cannot be combined
-abbrev pub RefusesCombine : ShareField → ℕ → List ℕ → ℕ → List ℕ → SharingError → Type 0
+abbrev pub RefusesCombine : ByteField → ℕ → List ℕ → ℕ → List ℕ → SharingError → Type 0
 RefusesCombine field k indexes size shares TooFewNeeded = k < 2
 RefusesCombine field k indexes size shares TooFewShares = (2 ≤ k) × (length indexes < k)
 RefusesCombine field k indexes size shares ZeroIndex =

@@ -6,11 +6,11 @@ use Rattle.field_base.specs.Powers.{value_of}
 use Rattle.field_slices.specs.Marks.{marked_below}
 use Rattle.field_slices.specs.Openings.{sum_lists}
 use Rattle.error_codes.specs.Secrets.{are_shares}
-use Rattle.error_codes.specs.Fields.{product_in}
+use Rattle.reed_solomon.specs.ByteFields.{byte_times}
 use Rattle.error_codes.specs.Refusals.{AreDistinct, AreNonzero}
 use Rattle.error_codes.specs.Sharing.{AreSplit, IsCombined, LieOnPolynomials, coefficients, share_at, share_byte}
 use Rattle.error_codes.specs.Wrong.{AreNearPolynomials, is_wrong_share}
-use Rattle.error_codes.specs.declared.field.ShareField.{ShareField}
+use Rattle.reed_solomon.specs.declared.byte_field.ByteField.{ByteField}
 
 -- the entries of a list are bytes
 abbrev pub FitBytes : List ℕ → Type 0
@@ -24,7 +24,7 @@ AreChosen size shares indexes chosen =
 -- any k = others + 1 or more of the shares of a secret lie on polynomials of k coefficients, and what they combine to
 -- is the secret
 abbrev pub SplitSharesCombine : Type 0
-SplitSharesCombine = (field : ShareField) (others count : ℕ) (secret draws shares indexes chosen restored : List ℕ)
+SplitSharesCombine = (field : ByteField) (others count : ℕ) (secret draws shares indexes chosen restored : List ℕ)
     → FitBytes secret → AreSplit field others count secret draws shares
     → others < length indexes → AreNonzero indexes → ((i : ℕ) → i < length indexes → slice_index indexes i ≤ count)
     → AreChosen (length secret) shares indexes chosen
@@ -39,7 +39,7 @@ is_changed_share size shares indexes chosen i =
 -- of the shares of a secret, few of which are changed, exactly these are wrong for the polynomials of the secret, which
 -- all are near to, and whose values at 0 are the secret
 abbrev pub ChangedSharesAreFound : Type 0
-ChangedSharesAreFound = (field : ShareField) (others count : ℕ) (secret draws shares indexes chosen : List ℕ)
+ChangedSharesAreFound = (field : ByteField) (others count : ℕ) (secret draws shares indexes chosen : List ℕ)
     → FitBytes secret → AreSplit field others count secret draws shares
     → AreNonzero indexes → ((i : ℕ) → i < length indexes → slice_index indexes i ≤ count)
     → 2 * marked_below (is_changed_share (length secret) shares indexes chosen) (length indexes) + (others + 1) ≤ length indexes
@@ -47,10 +47,10 @@ ChangedSharesAreFound = (field : ShareField) (others count : ℕ) (secret draws 
     × ((i : ℕ) → i < length indexes → is_wrong_share field indexes (length secret) chosen (coefficients others secret draws) i
     ≡ is_changed_share (length secret) shares indexes chosen i)
     × ((j : ℕ) → j < length secret
-    → value_of 1 (product_in field) (λ c. c) (coefficients others secret draws j) 0 ≡ slice_index secret j)
+    → value_of 1 (byte_times field) (λ c. c) (coefficients others secret draws j) 0 ≡ slice_index secret j)
 
 -- the drawn bytes give a secret these shares
-pub record GiveShares (field : ShareField) (others : ℕ) (indexes secret shares draws : List ℕ) : Type 0 where
+pub record GiveShares (field : ByteField) (others : ℕ) (indexes secret shares draws : List ℕ) : Type 0 where
   pub count : length draws ≡ others * length secret
   pub fits : FitBytes draws
   pub at_shares : (i j : ℕ) → i < others → j < length secret
@@ -58,7 +58,7 @@ pub record GiveShares (field : ShareField) (others : ℕ) (indexes secret shares
 
 -- for k - 1 indexes, any bytes of these shares and any secret there is exactly one choice of drawn bytes
 abbrev pub SharesHideString : Type 0
-SharesHideString = (field : ShareField) (others : ℕ) (indexes secret shares : List ℕ)
+SharesHideString = (field : ByteField) (others : ℕ) (indexes secret shares : List ℕ)
     → length indexes ≡ others → AreNonzero indexes → AreDistinct indexes → FitBytes secret → FitBytes shares
     → (draws : List ℕ) × GiveShares field others indexes secret shares draws
     × ((other : List ℕ) → GiveShares field others indexes secret shares other → other ≡ draws)
@@ -66,8 +66,8 @@ SharesHideString = (field : ShareField) (others : ℕ) (indexes secret shares : 
 -- of all choices of the k - 1 bytes that are drawn for one byte of a secret, equally many give the same `known`
 -- shares whatever the byte is: 256 ^ (k - 1 - known), and so one where k - 1 shares are known
 abbrev pub ByteSharesAreCounted : Type 0
-ByteSharesAreCounted = (field : ShareField) (others more known : ℕ) (indexes : List ℕ) (share : ℕ → ℕ)
+ByteSharesAreCounted = (field : ByteField) (others more known : ℕ) (indexes : List ℕ) (share : ℕ → ℕ)
     → more + known ≡ others → length indexes ≡ others → AreNonzero indexes → AreDistinct indexes
     → ((i : ℕ) → i < known → share i < 2 ^ 8) → (secret : ℕ) → secret < 2 ^ 8
-    → sum_lists others (2 ^ 8) (λ rest. cond (are_shares (product_in field) (slice_index indexes) share (secret ∷ rest) known) 1 0)
+    → sum_lists others (2 ^ 8) (λ rest. cond (are_shares (byte_times field) (slice_index indexes) share (secret ∷ rest) known) 1 0)
     ≡ (2 ^ 8) ^ more

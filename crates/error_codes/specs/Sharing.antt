@@ -5,8 +5,8 @@
 use Rattle.std.specs.Prelude.{◌≡◌, ℕ, ◌+◌, ◌*◌, ◌<◌, List, ◌∷◌, length, map, slice_index}
 use Rattle.std.specs.List.{range_with_len}
 use Rattle.field_base.specs.Powers.{value_of}
-use Rattle.error_codes.specs.Fields.{product_in}
-use Rattle.error_codes.specs.declared.field.ShareField.{ShareField}
+use Rattle.reed_solomon.specs.ByteFields.{byte_times}
+use Rattle.reed_solomon.specs.declared.byte_field.ByteField.{ByteField}
 
 -- the bytes at place j of the first `count` rows of `size` bytes
 abbrev pub bytes_at : ℕ → ℕ → List ℕ → ℕ → List ℕ
@@ -17,32 +17,32 @@ abbrev pub coefficients : ℕ → List ℕ → List ℕ → ℕ → List ℕ
 coefficients others secret draws j = slice_index secret j ∷ bytes_at (length secret) others draws j
 
 -- byte j of the share at index x
-abbrev pub share_byte : ShareField → ℕ → List ℕ → List ℕ → ℕ → ℕ → ℕ
-share_byte field others secret draws x j = value_of 1 (product_in field) (λ c. c) (coefficients others secret draws j) x
+abbrev pub share_byte : ByteField → ℕ → List ℕ → List ℕ → ℕ → ℕ → ℕ
+share_byte field others secret draws x j = value_of 1 (byte_times field) (λ c. c) (coefficients others secret draws j) x
 
 -- share i is that at index i + 1
-abbrev pub AreSplit : ShareField → ℕ → ℕ → List ℕ → List ℕ → List ℕ → Type 0
+abbrev pub AreSplit : ByteField → ℕ → ℕ → List ℕ → List ℕ → List ℕ → Type 0
 AreSplit field others count secret draws shares =
     (i j : ℕ) → i < count → j < length secret
     → slice_index shares (i * length secret + j) ≡ share_byte field others secret draws (i + 1) j
 
 -- these are k coefficients of a polynomial that has the value of each of `count` points
-pub record IsThrough (field : ShareField) (k count : ℕ) (point value : ℕ → ℕ) (cs : List ℕ) : Type 0 where
+pub record IsThrough (field : ByteField) (k count : ℕ) (point value : ℕ → ℕ) (cs : List ℕ) : Type 0 where
   pub coefficient_count : length cs ≡ k
-  pub at_points : (i : ℕ) → i < count → value_of 1 (product_in field) (λ c. c) cs (point i) ≡ value i
+  pub at_points : (i : ℕ) → i < count → value_of 1 (byte_times field) (λ c. c) cs (point i) ≡ value i
 
 -- byte j of each share
 abbrev pub share_at : ℕ → List ℕ → ℕ → ℕ → ℕ
 share_at size shares j i = slice_index shares (i * size + j)
 
 -- for each byte there is a polynomial of k coefficients that all shares lie on
-abbrev pub LieOnPolynomials : ShareField → ℕ → List ℕ → ℕ → List ℕ → Type 0
+abbrev pub LieOnPolynomials : ByteField → ℕ → List ℕ → ℕ → List ℕ → Type 0
 LieOnPolynomials field k indexes size shares =
     (j : ℕ) → j < size → (cs : List ℕ) × IsThrough field k (length indexes) (slice_index indexes) (share_at size shares j) cs
 
 -- each byte of the secret is the value at 0 of every polynomial of k coefficients that the shares lie on
-abbrev pub IsCombined : ShareField → ℕ → List ℕ → List ℕ → List ℕ → Type 0
+abbrev pub IsCombined : ByteField → ℕ → List ℕ → List ℕ → List ℕ → Type 0
 IsCombined field k indexes shares secret =
     (j : ℕ) (cs : List ℕ) → j < length secret
     → IsThrough field k (length indexes) (slice_index indexes) (share_at (length secret) shares j) cs
-    → slice_index secret j ≡ value_of 1 (product_in field) (λ c. c) cs 0
+    → slice_index secret j ≡ value_of 1 (byte_times field) (λ c. c) cs 0

@@ -4,36 +4,36 @@
 use Rattle.std.specs.Prelude.{◌≡◌, ℕ, ◌+◌, ◌*◌, ◌<◌, ◌≤◌, List, Bool, false, length, nat_eq, not, slice_index}
 use Rattle.field_base.specs.Powers.{value_of}
 use Rattle.field_slices.specs.Marks.{marked_below}
-use Rattle.error_codes.specs.Fields.{product_in}
+use Rattle.reed_solomon.specs.ByteFields.{byte_times}
 use Rattle.error_codes.specs.Sharing.{share_at}
-use Rattle.error_codes.specs.declared.field.ShareField.{ShareField}
+use Rattle.reed_solomon.specs.declared.byte_field.ByteField.{ByteField}
 
 -- byte j of share i is not the value of polynomial j at its index
-abbrev pub is_wrong_byte : ShareField → List ℕ → ℕ → List ℕ → (ℕ → List ℕ) → ℕ → ℕ → Bool
+abbrev pub is_wrong_byte : ByteField → List ℕ → ℕ → List ℕ → (ℕ → List ℕ) → ℕ → ℕ → Bool
 is_wrong_byte field indexes size shares polynomials i j =
-    not (nat_eq (share_at size shares j i) (value_of 1 (product_in field) (λ c. c) (polynomials j) (slice_index indexes i)))
+    not (nat_eq (share_at size shares j i) (value_of 1 (byte_times field) (λ c. c) (polynomials j) (slice_index indexes i)))
 
 -- share i is wrong: some of its bytes are
-abbrev pub is_wrong_share : ShareField → List ℕ → ℕ → List ℕ → (ℕ → List ℕ) → ℕ → Bool
+abbrev pub is_wrong_share : ByteField → List ℕ → ℕ → List ℕ → (ℕ → List ℕ) → ℕ → Bool
 is_wrong_share field indexes size shares polynomials i =
     not (nat_eq (marked_below (is_wrong_byte field indexes size shares polynomials i) size) 0)
 
 -- polynomials of k coefficients, one for each byte, for which few shares are wrong: twice their number and k are
 -- together no more than there are shares
-pub record AreNearPolynomials (field : ShareField) (k : ℕ) (indexes : List ℕ) (size : ℕ) (shares : List ℕ)
+pub record AreNearPolynomials (field : ByteField) (k : ℕ) (indexes : List ℕ) (size : ℕ) (shares : List ℕ)
     (polynomials : ℕ → List ℕ) : Type 0 where
   pub coefficient_count : (j : ℕ) → j < size → length (polynomials j) ≡ k
   pub few_wrong : 2 * marked_below (is_wrong_share field indexes size shares polynomials) (length indexes) + k ≤ length indexes
 
 -- these k coefficients give a polynomial that has the value of each point that is not marked
-pub record IsThroughUnmarked (field : ShareField) (k count : ℕ) (point value : ℕ → ℕ) (marked : ℕ → Bool) (cs : List ℕ)
+pub record IsThroughUnmarked (field : ByteField) (k count : ℕ) (point value : ℕ → ℕ) (marked : ℕ → Bool) (cs : List ℕ)
     : Type 0 where
   pub coefficient_count : length cs ≡ k
   pub at_points : (i : ℕ) → i < count → marked i ≡ false
-      → value_of 1 (product_in field) (λ c. c) cs (point i) ≡ value i
+      → value_of 1 (byte_times field) (λ c. c) cs (point i) ≡ value i
 
 -- for each byte there is a polynomial of k coefficients that all shares lie on which are not marked
-abbrev pub LieUnmarked : ShareField → ℕ → List ℕ → ℕ → List ℕ → (ℕ → Bool) → Type 0
+abbrev pub LieUnmarked : ByteField → ℕ → List ℕ → ℕ → List ℕ → (ℕ → Bool) → Type 0
 LieUnmarked field k indexes size shares marked =
     (j : ℕ) → j < size → (cs : List ℕ)
     × IsThroughUnmarked field k (length indexes) (slice_index indexes) (share_at size shares j) marked cs

@@ -5,17 +5,17 @@ ghost use Rattle.std.specs.Prelude.{slice_index, true, false, not, nat_eq, bit_a
 ghost use Rattle.field_base.specs.Powers.{power};
 ghost use Rattle.field_slices.specs.Marks.{marked_below};
 ghost use Rattle.error_codes.specs.BinaryBch.{AreBinary, AreConjugates, HasFewConjugates, IsMeantBits, IsSquaring, MarkConjugates};
-ghost use Rattle.error_codes.specs.ByteFields.{byte_generator, byte_times};
+ghost use Rattle.reed_solomon.specs.ByteFields.{byte_generator, byte_times};
 ghost use Rattle.error_codes.specs.Correcting.{HasOrder, HasRoots, code_value};
 ghost use Rattle.error_codes.specs.Filling.{is_marked};
 ghost use Rattle.error_codes.specs.declared.error.CodeError.TheVariants.{NoSymbols, RepeatedPoints, TooLong};
 
-use crate::byte_field::{ByteField, multiply};
 use crate::code::CorrectingCode;
 use crate::correcting::Corrected;
 use crate::dual_basis::bytes_fit;
 use crate::encoder::generator_polynomial;
 use crate::error::{CodeError, TooManyErrors};
+use reed_solomon::byte_field::{ByteField, multiply};
 
 /// A binary BCH code: words of `word_length` bits, each the symbol 0 or 1, the first `dimension` of them data. The first bit is the
 /// coefficient of the highest power, and the polynomials of code words are 0 at root, root^2, .., root^(2 errors). No call takes memory.

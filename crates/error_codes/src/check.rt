@@ -3,13 +3,13 @@ ghost use Rattle.std.specs.Prelude.{◌≡◌, ◌≢◌, ◌<◌, ◌↔◌, �
 ghost use Rattle.error_codes.specs.Refusals.{AreDistinct, AreNonzero, AreShares, RefusesCombine};
 ghost use Rattle.error_codes.specs.declared.sharing_error.SharingError.TheVariants.{WrongShare};
 
-use crate::field::ShareField;
 use crate::sharing_error::SharingError;
 use crate::splitting::is_product;
+use reed_solomon::byte_field::ByteField;
 
 // Whether shares at these indexes are those of a secret of `size` bytes.
 pub(crate) fn check_shares(
-    field: ShareField,
+    field: ByteField,
     needed: usize,
     indexes: &[u8],
     size: usize,

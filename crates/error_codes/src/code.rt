@@ -2,18 +2,18 @@
 ghost use Rattle.std.specs.Prelude.{◌≡◌, ◌≢◌, ◌+◌, ◌-◌, ◌<◌, ◌≤◌, ◌↔◌, ℕ, length, slice_index, IsTrue, IsOk, IfOk};
 ghost use Rattle.std.specs.Prelude.{IfErr};
 ghost use Rattle.field_base.specs.Powers.{power};
-ghost use Rattle.error_codes.specs.ByteFields.{byte_generator, byte_times};
+ghost use Rattle.reed_solomon.specs.ByteFields.{byte_generator, byte_times};
 ghost use Rattle.error_codes.specs.Checks.{AreScaled};
 ghost use Rattle.error_codes.specs.Correcting.{HasOrder, HasRoots, code_value};
 ghost use Rattle.error_codes.specs.Generators.{power_point, power_scale};
 ghost use Rattle.error_codes.specs.declared.error.CodeError.TheVariants.{NoSymbols, RepeatedPoints, TooLong};
 
-use crate::byte_field::{ByteField, generator, multiply, power_of};
 use crate::encoder::generator_polynomial;
 use crate::error::CodeError;
 use crate::field_code::has_order;
 use crate::field_code::values::evaluate;
 use crate::symbols::{narrow, widen};
+use reed_solomon::byte_field::{ByteField, generator, multiply, power_of};
 
 /// A Reed-Solomon code over bytes that corrects errors: words of `word_length` symbols, the first `dimension` of them
 /// data. The first symbol is the coefficient of the highest power, and the polynomials of code words are 0 at

@@ -2,7 +2,7 @@
 ghost use Rattle.std.specs.Prelude.{◌≡◌, ◌+◌, ◌-◌, ◌*◌, ◌<◌, ◌≤◌, ◌&&◌, ℕ, List, length, slice_index};
 ghost use Rattle.std.specs.Prelude.{false, not, nat_eq, IsOk, IfOk, OnOk, OnErr};
 ghost use Rattle.field_slices.specs.Marks.{marked_below};
-ghost use Rattle.error_codes.specs.ByteFields.{byte_times};
+ghost use Rattle.reed_solomon.specs.ByteFields.{byte_times};
 ghost use Rattle.error_codes.specs.Correcting.{IsMeant, is_listed};
 ghost use Rattle.error_codes.specs.Filling.{is_marked};
 

@@ -1,11 +1,11 @@
 // The generator polynomial of a code, and encoding by it.
 ghost use Rattle.std.specs.Prelude.{◌≡◌, ◌+◌, ◌-◌, ◌<◌, ◌≤◌, ℕ, length, slice_index, bit_xor};
-ghost use Rattle.error_codes.specs.ByteFields.{byte_times};
+ghost use Rattle.reed_solomon.specs.ByteFields.{byte_times};
 ghost use Rattle.error_codes.specs.Correcting.{HasRoots, code_value};
 
-use crate::byte_field::{ByteField, images_of, multiply};
 use crate::code::CorrectingCode;
 use crate::dual_basis::bytes_fit;
+use reed_solomon::byte_field::{ByteField, images_of, multiply};
 use word_tables::map_bytes;
 
 // The coefficients of a polynomial times x + root, the highest first. Behind those of its degree there are zeros.

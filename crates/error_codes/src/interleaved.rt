@@ -4,13 +4,13 @@ ghost use Rattle.std.specs.Prelude.{◌≡◌, ◌≢◌, ◌↔◌, ◌+◌, �
 ghost use Rattle.field_base.specs.LinearMaps.{linear_image};
 ghost use Rattle.field_base.specs.Powers.{power};
 ghost use Rattle.field_slices.specs.Marks.{marked_below};
-ghost use Rattle.error_codes.specs.ByteFields.{byte_times};
+ghost use Rattle.reed_solomon.specs.ByteFields.{byte_times};
 ghost use Rattle.error_codes.specs.Correcting.{HasRoots, code_value, is_listed};
 ghost use Rattle.error_codes.specs.Interleaved.{AreEncoded, AreWordValues, IsSettled, interleaved_word};
 
-use crate::byte_field::{ByteField, images_of};
 use crate::code::CorrectingCode;
 use crate::correcting::{count_marks, listed_places};
+use reed_solomon::byte_field::{ByteField, images_of};
 use word_tables::map_bytes;
 
 // From so many words on, a row of symbols is multiplied by a scalar faster than each word apart.

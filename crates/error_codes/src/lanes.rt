@@ -4,13 +4,13 @@
 ghost use Rattle.std.specs.Prelude.{◌≡◌, ◌⊎◌, ◌+◌, ◌-◌, ◌*◌, ◌<◌, ◌≤◌, ℕ, List, bit_xor, length, slice_index};
 ghost use Rattle.std.specs.Simd.Lanes.{chunk, put_chunk};
 ghost use Rattle.word_tables.specs.Nibbles.{entry_sum};
-ghost use Rattle.error_codes.specs.ByteFields.{byte_times};
+ghost use Rattle.reed_solomon.specs.ByteFields.{byte_times};
 ghost use Rattle.error_codes.specs.Correcting.{HasRoots};
 ghost use Rattle.error_codes.specs.Interleaved.{AreEncoded, HaveProducts, interleaved_word};
 
-use crate::byte_field::{ByteField, multiply};
 use crate::code::CorrectingCode;
 use crate::dual_basis::bytes_fit;
+use reed_solomon::byte_field::{ByteField, multiply};
 use std::simd::prelude::*;
 use word_tables::{ByteVector, entry_sums};
 

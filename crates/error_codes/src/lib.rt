@@ -17,7 +17,6 @@
 #![tactic(auto)]
 
 mod binary_bch;
-mod byte_field;
 mod check;
 mod code;
 mod combining;
@@ -26,7 +25,6 @@ mod dual_basis;
 mod encoder;
 mod error;
 mod factors;
-mod field;
 mod field_code;
 mod interleaved;
 mod lanes;
@@ -44,13 +42,11 @@ mod unmarked;
 mod wrong_shares;
 
 pub use crate::binary_bch::BinaryBch;
-pub use crate::byte_field::{ByteField, bytes_are_fields};
 pub use crate::code::CorrectingCode;
 pub use crate::combining::combine;
 pub use crate::correcting::Corrected;
 pub use crate::dual_basis::{dual_bytes_differ, from_dual_basis, to_dual_basis};
 pub use crate::error::{CodeError, TooManyErrors};
-pub use crate::field::{ShareField, share_fields};
 pub use crate::field_code::FieldCode;
 pub use crate::nibble_code::NibbleCode;
 pub use crate::share_laws::{
@@ -61,3 +57,4 @@ pub use crate::shift_registers::{Register, shortest_register};
 pub use crate::splitting::split;
 pub use crate::symbols::{SymbolField, WordField};
 pub use crate::wrong_shares::combine_correcting;
+pub use reed_solomon::byte_field::{ByteField, bytes_are_fields};

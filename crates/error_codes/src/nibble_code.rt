@@ -7,17 +7,17 @@ ghost use Rattle.field_slices.specs.Marks.{marked_below};
 ghost use Rattle.error_codes.specs.Correcting.{HasOrder, HasRoots};
 ghost use Rattle.error_codes.specs.Filling.{is_marked};
 ghost use Rattle.error_codes.specs.Nibbles.{AreNibbles, IsMeantNibbles, lowered, nibble_root, nibble_times, raised};
-ghost use Rattle.error_codes.specs.declared.byte_field.ByteField.TheVariants.{Qr};
+ghost use Rattle.reed_solomon.specs.declared.byte_field.ByteField.TheVariants.{Qr};
 ghost use Rattle.error_codes.specs.declared.error.CodeError.TheVariants.{NoSymbols, RepeatedPoints, TooLong};
 
 mod literals;
 
-use crate::byte_field::ByteField;
 use crate::code::CorrectingCode;
 use crate::correcting::Corrected;
 use crate::dual_basis::bytes_fit;
 use crate::error::{CodeError, TooManyErrors};
 use field_base::byte_tables::entry;
+use reed_solomon::byte_field::ByteField;
 
 /// A Reed-Solomon code over the field of 16 elements modulo x^4 + x + 1 (0x13), as `CorrectingCode` is over bytes: words of
 /// `word_length` symbols below 16, at most 15 of them, the first `dimension` of them data. Aztec codes have such a one, with the

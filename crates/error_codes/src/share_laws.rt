@@ -2,8 +2,6 @@
 ghost use Rattle.error_codes.specs.Secrecy.{ByteSharesAreCounted, ChangedSharesAreFound, SharesHideString};
 ghost use Rattle.error_codes.specs.Secrecy.{SplitSharesCombine};
 
-use crate::field::share_fields;
-
 /// States that any shares of a secret, as many as are needed or more, are combined to it: `combine` accepts them, and
 /// what it leaves is what `split` was given.
 pub fn split_shares_combine()
@@ -22,14 +20,10 @@ pub fn changed_shares_are_found()
 /// may be 0 is a part of it.
 pub fn shares_hide_string()
     ensures { SharesHideString }
-{
-    share_fields();
-}
+{}
 
 /// States the same of one byte by counting, and of fewer shares too: how many choices of drawn bytes give them does
 /// not depend on the secret.
 pub fn byte_shares_are_counted()
     ensures { ByteSharesAreCounted }
-{
-    share_fields();
-}
+{}

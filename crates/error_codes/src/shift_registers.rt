@@ -1,11 +1,11 @@
 // The shortest shift register of a sequence of bytes, by that over any field (`field_code::registers`).
 ghost use Rattle.std.specs.Prelude.{◌<◌, slice_index};
-ghost use Rattle.error_codes.specs.ByteFields.{byte_times};
+ghost use Rattle.reed_solomon.specs.ByteFields.{byte_times};
 ghost use Rattle.error_codes.specs.Registers.{IsShortest};
 
-use crate::byte_field::ByteField;
 use crate::field_code::registers::write_register;
 use crate::symbols::{narrow, widen};
+use reed_solomon::byte_field::ByteField;
 
 /// A linear shift register of bytes, by which a sequence goes on: the sum of an entry and of the `size` entries before it, each times its
 /// coefficient, the entry's own first, is 0.

@@ -3,9 +3,9 @@ ghost use Rattle.std.specs.Prelude.{◌≡◌, ◌-◌, ◌*◌, ◌<◌, ◌↔
 ghost use Rattle.error_codes.specs.Refusals.{CanSplit, RefusesSplit};
 ghost use Rattle.error_codes.specs.Sharing.{share_byte, AreSplit};
 
-use crate::field::ShareField;
-use crate::product::{columns_of, image};
+use crate::product::image;
 use crate::sharing_error::SharingError;
+use reed_solomon::byte_field::{ByteField, images_of};
 
 /// Splits a secret into `count` shares, any `needed` of which restore it. Share i, counted from 0, has the index i +
 /// 1, stands at i · (length of the secret) in `shares` and is as long as the secret.
@@ -15,7 +15,7 @@ use crate::sharing_error::SharingError;
 /// what the laws of this crate count is how likely shares are. The error is the first that applies, and leaves
 /// `shares` as they were.
 pub fn split(
-    field: ShareField,
+    field: ByteField,
     needed: usize,
     secret: &[u8],
     draws: &[u8],
@@ -81,7 +81,7 @@ pub(crate) fn is_product(bytes: usize, count: usize, size: usize) -> bool
 // One byte of the share at an index, by Horner's rule: the drawn coefficients come from the highest down, and the
 // secret last.
 fn share_byte(
-    field: ShareField,
+    field: ByteField,
     others: usize,
     secret: &[u8],
     draws: &[u8],
@@ -92,7 +92,7 @@ fn share_byte(
     requires inside { place < length secret.now }
     ensures { result ≡ share_byte field others secret.now draws.now index place }
 {
-    let columns = columns_of(field, index);
+    let columns = images_of(field, index);
     let mut value = 0;
     for back in 0..others {
         let row = others - 1 - back;

@@ -1,12 +1,12 @@
 // Codes of standards, by name.
 ghost use Rattle.std.specs.Prelude.{◌≡◌, ◌<◌, ◌≤◌, ◌↔◌, IsOk, IfOk};
 ghost use Rattle.field_base.specs.Powers.{power};
-ghost use Rattle.error_codes.specs.ByteFields.{byte_times};
-ghost use Rattle.error_codes.specs.declared.byte_field.ByteField.TheVariants.{Ccsds, Qr};
+ghost use Rattle.reed_solomon.specs.ByteFields.{byte_times};
+ghost use Rattle.reed_solomon.specs.declared.byte_field.ByteField.TheVariants.{Ccsds, Qr};
 
-use crate::byte_field::ByteField;
 use crate::code::CorrectingCode;
 use crate::error::CodeError;
+use reed_solomon::byte_field::ByteField;
 
 impl CorrectingCode {
     /// The code of telemetry with words of 255 symbols, 223 of them data (CCSDS 131.0-B, section 4): the roots are

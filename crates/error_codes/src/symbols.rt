@@ -3,14 +3,14 @@ ghost use Rattle.std.specs.Prelude.{◌≡◌, ◌≢◌, ◌<◌, ◌≤◌, �
 ghost use Rattle.field_base.specs.Field.{IsField};
 ghost use Rattle.any_field.specs.Contexts.{field_product};
 ghost use Rattle.any_field.proofs.ContextFields.{field-at};
-ghost use Rattle.error_codes.specs.ByteFields.{byte_times};
+ghost use Rattle.reed_solomon.specs.ByteFields.{byte_times};
 ghost use Rattle.error_codes.specs.FieldCodes.{AreSymbols};
-ghost use Rattle.error_codes.specs.lemmas.ByteField.{bytes-narrow, bytes-wide, bytes_are_fields};
+ghost use Rattle.reed_solomon.proofs.ByteFields.{bytes-narrow, bytes-wide, bytes_are_fields};
 ghost use Rattle.error_codes.specs.declared.error.CodeError.TheVariants.{TooLong};
 
-use crate::byte_field::{self, ByteField};
 use crate::error::CodeError;
 use any_field::BinaryExtension;
+use reed_solomon::byte_field::{self, ByteField};
 
 /// A field of characteristic two with at most 65,536 elements. An element is a word whose number has no bit above the field.
 pub trait SymbolField: Copy {
@@ -99,7 +99,11 @@ impl SymbolField for ByteField {
     }
 
     fn invert(self, x: u16) -> u16 {
-        byte_field::invert(self, (x % 256) as u8) as u16
+        let byte = (x % 256) as u8;
+        if byte == 0 {
+            return 0;
+        }
+        byte_field::invert(self, byte) as u16
     }
 
     ghost wide_law = { bytes-wide };

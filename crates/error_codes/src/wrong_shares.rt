@@ -3,16 +3,16 @@ ghost use Rattle.std.specs.Prelude.{◌≡◌, ◌≢◌, ◌+◌, ◌*◌, ◌<
 ghost use Rattle.field_base.specs.Powers.{value_of};
 ghost use Rattle.field_slices.specs.Marks.{marked_below};
 ghost use Rattle.error_codes.specs.Filling.{is_marked};
-ghost use Rattle.error_codes.specs.Fields.{product_in};
+ghost use Rattle.reed_solomon.specs.ByteFields.{byte_times};
 ghost use Rattle.error_codes.specs.Refusals.{AreShares, RefusesCombine};
 ghost use Rattle.error_codes.specs.Wrong.{is_wrong_share, AreNearPolynomials};
 ghost use Rattle.error_codes.specs.declared.sharing_error.SharingError.TheVariants.{WrongShare};
 
 use crate::check::check_shares;
 use crate::combining::combine_unmarked;
-use crate::field::ShareField;
 use crate::locating::suspected_shares;
 use crate::sharing_error::SharingError;
+use reed_solomon::byte_field::ByteField;
 
 /// Restores a secret from shares as `combine` does, some of which may be wrong, and says which: entry i of the answer is
 /// `true` where share i is wrong, and `false` behind the shares. A share is wrong if any of its bytes is, and where n
@@ -20,7 +20,7 @@ use crate::sharing_error::SharingError;
 /// The error is the first that applies, and leaves `secret` as it was; where more are wrong, it is `WrongShare`, if they
 /// are not by chance or by intent as near to the shares of another secret.
 pub fn combine_correcting(
-    field: ShareField,
+    field: ByteField,
     needed: usize,
     indexes: &[u8],
     shares: &[u8],
@@ -32,7 +32,7 @@ pub fn combine_correcting(
     ensures combined { IsOk result → (polynomials : ℕ → List ℕ)
         → AreNearPolynomials field needed indexes.now (length secret.old) shares.now polynomials
         → (j : ℕ) → j < length secret.old
-        → slice_index secret.new j ≡ value_of 1 (product_in field) (λ c. c) (polynomials j) 0 }
+        → slice_index secret.new j ≡ value_of 1 (byte_times field) (λ c. c) (polynomials j) 0 }
     ensures named { IfOk result (λ wrong. (polynomials : ℕ → List ℕ)
         → AreNearPolynomials field needed indexes.now (length secret.old) shares.now polynomials
         → (i : ℕ) → i < length indexes.now

@@ -12,7 +12,8 @@ use Rattle.std.proofs.lemmas.Simd.{get_or-chunk, get_or-put_chunk_above, get_or-
 use lib.Bits.{xor_zero_r}
 use Rattle.field_base.specs.Basis.{sum_below}
 use Rattle.reed_solomon.specs.Adding.{AddedShardsEncode}
-use Rattle.reed_solomon.specs.ErasureField.{erasure_product}
+use Rattle.reed_solomon.specs.ByteFields.{byte_times}
+use Rattle.reed_solomon.specs.declared.byte_field.ByteField.TheVariants.{Qr}
 use Rattle.reed_solomon.specs.Parity.{HaveParityTables, parity_factor, tables_length}
 use Rattle.reed_solomon.specs.Shards.{shard_byte}
 use Rattle.reed_solomon.specs.Tables.{nibble_sum}
@@ -102,7 +103,7 @@ module _ (k m t j : ℕ) (tables : List ℕ) where
 
   -- and give products by the pair's factor
   pub entries_product : HaveParityTables k m tables → t < m → j < k → (byte : ℕ) → byte < 256
-      → nibble_sum tables (128 * k * (t / 4) + 128 * j + 32 * (t % 4)) byte ≡ erasure_product (parity_factor k t j) byte
+      → nibble_sum tables (128 * k * (t / 4) + 128 * j + 32 * (t % 4)) byte ≡ byte_times Qr (parity_factor k t j) byte
   entries_product all below inside byte fits =
       let place : 128 * k * (t / 4) + 128 * j + 32 * (t % 4) ≡ 128 * k * (t / 4) + (128 * j + 32 * (t % 4)) = omega arith in
       ap (λ (p : ℕ). nibble_sum tables p byte) place
@@ -141,15 +142,15 @@ added_shards_encode =
     record {
       none = λ k t size shards sums zeros column inside. zeros column inside ∙ sym (sum_below-zeros k);
       one_more = λ k t size j shards shard old new added then_added below long was is others same adds before column inside.
-          let term = λ (i : ℕ). erasure_product (parity_factor k t i) (shard_byte size shards i column) in
+          let term = λ (i : ℕ). byte_times Qr (parity_factor k t i) (shard_byte size shards i column) in
           adds column (omega (arith, inside, long))
-          ∙ ap₂ bit_xor (before column inside) (ap (erasure_product (parity_factor k t j)) (same column inside))
+          ∙ ap₂ bit_xor (before column inside) (ap (byte_times Qr (parity_factor k t j)) (same column inside))
           ∙ sym (sum_below-more k j (term j) (λ i. if added i then term i else 0) (λ i. if then_added i then term i else 0) below
           (ap (λ (b : Bool). if b then term j else 0) was) (ap (λ (b : Bool). if b then term j else 0) is)
           (λ i other. ap (λ (b : Bool). if b then term i else 0) (others i other)));
       all = λ k m size shards added fits bytes every sums.
           (matching_parity k m size shards fits bytes).0 (λ t column above below left inside.
           sym (get_or-drop ((k + t) * size) shards column 0) ∙ sums t below column inside
-          ∙ sum_below-same (λ j. if added j then erasure_product (parity_factor k t j) (shard_byte size shards j column) else 0) (λ j. erasure_product (parity_factor k t j) (shard_byte size shards j column)) k
-          (λ j less. ap (λ (b : Bool). if b then erasure_product (parity_factor k t j) (shard_byte size shards j column) else 0) (every j less)));
+          ∙ sum_below-same (λ j. if added j then byte_times Qr (parity_factor k t j) (shard_byte size shards j column) else 0) (λ j. byte_times Qr (parity_factor k t j) (shard_byte size shards j column)) k
+          (λ j less. ap (λ (b : Bool). if b then byte_times Qr (parity_factor k t j) (shard_byte size shards j column) else 0) (every j less)));
     }

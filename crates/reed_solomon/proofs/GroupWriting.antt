@@ -6,7 +6,8 @@ use Rattle.std.proofs.lemmas.List.{get_or-set_same, get_or-set_other, length-set
 use Rattle.std.proofs.lemmas.List.Sums.{count_by_more_yes, count_by_more_no}
 use Rattle.field_base.specs.Basis.{sum_below}
 use Rattle.field_base.specs.Interpolation.{lagrange}
-use Rattle.reed_solomon.specs.ErasureField.{erasure_product}
+use Rattle.reed_solomon.specs.ByteFields.{byte_times}
+use Rattle.reed_solomon.specs.declared.byte_field.ByteField.TheVariants.{Qr}
 use Rattle.reed_solomon.specs.Missing.{AreMissing}
 use Rattle.reed_solomon.specs.Samples.{symbol_at}
 use Rattle.reed_solomon.specs.Shards.{IsPresent, shard_byte}
@@ -52,21 +53,21 @@ rows_set factors factor row count old now few before new same others r below =
 
 pub row_symbol : (count size : ℕ) (place : ℕ → ℕ) (entries shards starts : List ℕ) (row column target : ℕ) → length starts ≡ count
     → ((j : ℕ) → j < count → get_or starts j 0 ≡ place j * size)
-    → HasRow (λ j. lagrange 8 erasure_product place count j target) entries row count → ((i : ℕ) → get_or shards i 0 < 256)
+    → HasRow (λ j. lagrange 8 (byte_times Qr) place count j target) entries row count → ((i : ℕ) → get_or shards i 0 < 256)
     → row_sum entries shards starts row column ≡ symbol_at count size place shards column target
 row_symbol count size place entries shards starts row column target counted begun set bytes =
     ap (sum_below (λ j. nibble_sum entries (128 * j + 32 * row) (get_or shards (get_or starts j 0 + column) 0))) counted
-    ∙ sum_below-same (λ j. nibble_sum entries (128 * j + 32 * row) (get_or shards (get_or starts j 0 + column) 0)) (λ j. erasure_product (lagrange 8 erasure_product place count j target) (shard_byte size shards (place j) column)) count
+    ∙ sum_below-same (λ j. nibble_sum entries (128 * j + 32 * row) (get_or shards (get_or starts j 0 + column) 0)) (λ j. byte_times Qr (lagrange 8 (byte_times Qr) place count j target) (shard_byte size shards (place j) column)) count
     (λ j below.
     ap (λ (p : ℕ). nibble_sum entries (128 * j + 32 * row) (get_or shards (p + column) 0)) (begun j below)
-    ∙ nibble_product (λ i. lagrange 8 erasure_product place count i target) entries row count j (shard_byte size shards (place j) column)
+    ∙ nibble_product (λ i. lagrange 8 (byte_times Qr) place count i target) entries row count j (shard_byte size shards (place j) column)
     set below (bytes (place j * size + column)))
 
 -- so rows that the tables give are the symbols of their shards
 pub group_symbols : (count size : ℕ) (place target : ℕ → ℕ) (entries shards starts : List ℕ) (given spot : ℕ → ℕ) (rows n : ℕ) (old now : List ℕ)
     → rows ≡ n → length starts ≡ count → ((j : ℕ) → j < count → get_or starts j 0 ≡ place j * size)
     → ((row : ℕ) → row < n → given row ≡ spot row)
-    → ((row : ℕ) → row < n → HasRow (λ j. lagrange 8 erasure_product place count j (target row)) entries row count)
+    → ((row : ℕ) → row < n → HasRow (λ j. lagrange 8 (byte_times Qr) place count j (target row)) entries row count)
     → ((i : ℕ) → get_or shards i 0 < 256) → AreWritten (row_sum entries shards starts) given rows size old now
     → AreWritten (λ row column. symbol_at count size place shards column (target row)) spot n size old now
 group_symbols count size place target entries shards starts given spot rows n old now rows_are counted begun spots set bytes all =

@@ -19,6 +19,7 @@ mod RowProducts
 mod StripWords
 mod SummedPlaces
 mod AddedShards
+pub mod ByteFields
 mod ByteTables
 mod Factors
 mod GroupWriting

@@ -4,7 +4,8 @@ use Rattle.std.proofs.lemmas.Bool.{cases_lt}
 use Rattle.std.proofs.lemmas.List.{length-take}
 use Rattle.std.proofs.lemmas.List.Sums.{count_by-le-length, count_by_more_yes, count_by_more_no}
 use Rattle.field_base.specs.Interpolation.{lagrange}
-use Rattle.reed_solomon.specs.ErasureField.{erasure_product}
+use Rattle.reed_solomon.specs.ByteFields.{byte_times}
+use Rattle.reed_solomon.specs.declared.byte_field.ByteField.TheVariants.{Qr}
 use Rattle.reed_solomon.specs.Missing.{AreMissing, HaveMissingTables}
 use Rattle.reed_solomon.specs.Samples.{IsSample}
 use Rattle.reed_solomon.specs.Shards.{present_count}
@@ -125,15 +126,15 @@ module _ (present : List Bool) (until total count all : ℕ) (places targets : L
 -- so the tables that were made by the one are those of the other
 pub tables_agree : (k total until missing : ℕ) (present : List Bool) (places targets tables : List ℕ) → until ≤ total
     → IsSample k present total places k → AreMissing present until targets missing → HaveMissingTables k total present tables
-    → HaveRows (λ t j. lagrange 8 erasure_product (λ i. get_or places i 0) k j (get_or targets t 0)) k missing tables
+    → HaveRows (λ t j. lagrange 8 (byte_times Qr) (λ i. get_or places i 0) k j (get_or targets t 0)) k missing tables
 tables_agree k total until missing present places targets tables fits sample list all t below =
-    row_factors (λ j. lagrange 8 erasure_product (λ i. get_or all.places i 0) k j (get_or all.targets t 0))
-    (λ j. lagrange 8 erasure_product (λ i. get_or places i 0) k j (get_or targets t 0)) (drop (128 * k * (t / 4)) tables) (t % 4) k
+    row_factors (λ j. lagrange 8 (byte_times Qr) (λ i. get_or all.places i 0) k j (get_or all.targets t 0))
+    (λ j. lagrange 8 (byte_times Qr) (λ i. get_or places i 0) k j (get_or targets t 0)) (drop (128 * k * (t / 4)) tables) (t % 4) k
     (all.rows t agrees.0)
     (λ j inside.
     lagrange-same k j (get_or all.targets t 0) (λ i. get_or all.places i 0) (λ i. get_or places i 0) inside
     (λ i within. sample_same k k k total present places all.places sample all.sample i within (omega arith))
-    ∙ ap (lagrange 8 erasure_product (λ i. get_or places i 0) k j) agrees.1)
+    ∙ ap (lagrange 8 (byte_times Qr) (λ i. get_or places i 0) k j) agrees.1)
   where
     agrees : (t < all.missing) × (get_or all.targets t 0 ≡ get_or targets t 0)
     agrees = missing_same present until total missing all.missing targets all.targets fits list all.lost t below

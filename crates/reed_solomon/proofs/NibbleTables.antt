@@ -8,9 +8,10 @@ use Rattle.std.proofs.lemmas.Simd.{Each1-get_or, get_or-chunk}
 use native.Mathlib.Nat.{mod-lt}
 use lib.Bits.{xor_zero_r}
 use Rattle.word_tables.specs.Nibbles.{entry_sum}
-use Rattle.reed_solomon.specs.ErasureField.{erasure_product}
+use Rattle.reed_solomon.specs.ByteFields.{byte_times}
+use Rattle.reed_solomon.specs.declared.byte_field.ByteField.TheVariants.{Qr}
 use Rattle.reed_solomon.specs.Tables.{HasRow, nibble_sum}
-use Rattle.reed_solomon.proofs.ByteTables.{erasure_field}
+use Rattle.reed_solomon.proofs.ByteFields.{erasure_field}
 
 -- ---- the look-ups
 
@@ -73,16 +74,16 @@ halves byte =
 
 -- the sum of the two entries of a byte is its product by the factor
 pub nibble_product : (factor : ℕ → ℕ) (entries : List ℕ) (row count j byte : ℕ) → HasRow factor entries row count → j < count → byte < 256
-    → nibble_sum entries (128 * j + 32 * row) byte ≡ erasure_product (factor j) byte
+    → nibble_sum entries (128 * j + 32 * row) byte ≡ byte_times Qr (factor j) byte
 nibble_product factor entries row count j byte set within fits =
     ap₂ bit_xor ((set j (byte % 16) within (omega arith)).low (mod-lt byte (lit< tt))) high
     ∙ sym (erasure_field.ring.over_sum (factor j) (byte % 16) (16 * (byte / 16)))
-    ∙ ap (erasure_product (factor j)) (halves byte)
+    ∙ ap (byte_times Qr (factor j)) (halves byte)
   where
-    high : get_or entries (128 * j + 32 * row + 16 + byte / 16) 0 ≡ erasure_product (factor j) (16 * (byte / 16))
+    high : get_or entries (128 * j + 32 * row + 16 + byte / 16) 0 ≡ byte_times Qr (factor j) (16 * (byte / 16))
     high =
         let place : 128 * j + 32 * row + 16 + byte / 16 ≡ 128 * j + 32 * row + (16 + byte / 16) = omega arith in
         let same : 16 + byte / 16 - 16 ≡ byte / 16 = omega arith in
         ap (λ (p : ℕ). get_or entries p 0) place
         ∙ (set j (16 + byte / 16) within (omega (arith, fits))).high (omega arith)
-        ∙ ap (λ (n : ℕ). erasure_product (factor j) (16 * n)) same
+        ∙ ap (λ (n : ℕ). byte_times Qr (factor j) (16 * n)) same

@@ -11,12 +11,13 @@ use Rattle.field_base.specs.Codewords.{IsCodeword}
 use Rattle.field_base.specs.Interpolation.{lagrange, other_factors}
 use Rattle.field_base.specs.PolynomialRoots.{AreDistinctBelow}
 use Rattle.field_base.proofs.Codewords.{codeword_exists, codeword_is_unique}
-use Rattle.reed_solomon.specs.ErasureField.{erasure_product}
+use Rattle.reed_solomon.specs.ByteFields.{byte_times}
+use Rattle.reed_solomon.specs.declared.byte_field.ByteField.TheVariants.{Qr}
 use Rattle.reed_solomon.specs.Parity.{MatchesParity, parity_factor, parity_symbol}
 use Rattle.reed_solomon.specs.Samples.{symbol_at}
 use Rattle.reed_solomon.specs.Shards.{AreCodewords, IsEncoded, shard_byte}
 use Rattle.reed_solomon.specs.Tables.{AreRows, HasRow, row_sum}
-use Rattle.reed_solomon.proofs.ByteTables.{erasure_field}
+use Rattle.reed_solomon.proofs.ByteFields.{erasure_field}
 use Rattle.reed_solomon.proofs.GroupWriting.{row_factors, row_symbol}
 use Rattle.reed_solomon.proofs.Strips.{row_sum-drop}
 
@@ -31,19 +32,19 @@ first_places k bound within =
     }
 
 -- products of equal factors
-product_below-same : (n : ℕ) (f g : ℕ → ℕ) → ((i : ℕ) → i < n → f i ≡ g i) → product_below erasure_product f n ≡ product_below erasure_product g n
+product_below-same : (n : ℕ) (f g : ℕ → ℕ) → ((i : ℕ) → i < n → f i ≡ g i) → product_below (byte_times Qr) f n ≡ product_below (byte_times Qr) g n
 unfolding product_below
 product_below-same zero f g same = refl
 product_below-same (suc n) f g same =
-    ap₂ erasure_product (product_below-same n f g (λ i below. same i (omega (arith, below)))) (same n (omega arith))
+    ap₂ (byte_times Qr) (product_below-same n f g (λ i below. same i (omega (arith, below)))) (same n (omega arith))
 
 -- Lagrange's factors read as many points as there are
 pub lagrange-same : (k own x : ℕ) (point other : ℕ → ℕ) → own < k → ((i : ℕ) → i < k → point i ≡ other i)
-    → lagrange 8 erasure_product point k own x ≡ lagrange 8 erasure_product other k own x
+    → lagrange 8 (byte_times Qr) point k own x ≡ lagrange 8 (byte_times Qr) other k own x
 lagrange-same k own x point other within same =
-    ap₂ (λ (a b : ℕ). erasure_product a (power 1 erasure_product b (2 ^ 8 - 2))) (factors x x refl) (factors (point own) (other own) (same own within))
+    ap₂ (λ (a b : ℕ). byte_times Qr a (power 1 (byte_times Qr) b (2 ^ 8 - 2))) (factors x x refl) (factors (point own) (other own) (same own within))
   where
-    factors : (a b : ℕ) → a ≡ b → other_factors erasure_product point own a k ≡ other_factors erasure_product other own b k
+    factors : (a b : ℕ) → a ≡ b → other_factors (byte_times Qr) point own a k ≡ other_factors (byte_times Qr) other own b k
     factors a b is =
         product_below-same k (λ i. if i == own then 1 else bit_xor a (point i)) (λ i. if i == own then 1 else bit_xor b (other i))
         (λ i below. ap (λ (z : ℕ). if i == own then 1 else z) (ap₂ bit_xor is (same i below)))
@@ -51,14 +52,14 @@ lagrange-same k own x point other within same =
 -- tables of a sample of the data are those of its shards of parity
 pub parity_row : (k first count row slot : ℕ) (places points entries : List ℕ) → row < count → ((j : ℕ) → j < k → get_or places j 0 ≡ j)
     → ((i : ℕ) → i < count → get_or points i 0 ≡ k + first + i)
-    → HasRow (λ j. lagrange 8 erasure_product (λ i. get_or places i 0) k j (get_or (take count points) row 0)) entries slot k
+    → HasRow (λ j. lagrange 8 (byte_times Qr) (λ i. get_or places i 0) k j (get_or (take count points) row 0)) entries slot k
     → HasRow (parity_factor k (first + row)) entries slot k
 parity_row k first count row slot places points entries within places_are points_are set =
-    row_factors (λ j. lagrange 8 erasure_product (λ i. get_or places i 0) k j (get_or (take count points) row 0)) (parity_factor k (first + row))
+    row_factors (λ j. lagrange 8 (byte_times Qr) (λ i. get_or places i 0) k j (get_or (take count points) row 0)) (parity_factor k (first + row))
     entries slot k set
     (λ j below.
     lagrange-same k j (get_or (take count points) row 0) (λ i. get_or places i 0) (λ i. i) below places_are
-    ∙ ap (lagrange 8 erasure_product (λ i. i) k j) (get_or-take count points row 0 within ∙ points_are row within ∙ point))
+    ∙ ap (lagrange 8 (byte_times Qr) (λ i. i) k j) (get_or-take count points row 0 within ∙ points_are row within ∙ point))
   where
     point : k + first + row ≡ k + (first + row)
     point = omega arith
@@ -141,16 +142,16 @@ parity_inside k m size until fits =
 
 module _ (k m size : ℕ) (source : List ℕ) (fits : k + m ≤ 256) (bytes : (i : ℕ) → get_or source i 0 < 256) where
   -- the symbols that the data give are a codeword, and those of data are the data's
-  data_word : (column : ℕ) → IsCodeword erasure_product k (k + m) (symbol_at k size (λ i. i) source column)
+  data_word : (column : ℕ) → IsCodeword (byte_times Qr) k (k + m) (symbol_at k size (λ i. i) source column)
       × ((j : ℕ) → j < k → symbol_at k size (λ i. i) source column j ≡ shard_byte size source j column)
   data_word column =
-      codeword_exists 8 erasure_product k (k + m) (λ i. i) (λ j. shard_byte size source j column) (lit< tt) erasure_field fits
+      codeword_exists 8 (byte_times Qr) k (k + m) (λ i. i) (λ j. shard_byte size source j column) (lit< tt) erasure_field fits
       (first_places k (k + m) (omega arith)) (λ j below. bytes (j * size + column))
 
   -- shards that have those symbols are codewords
   word_of : (shards : List ℕ) (column : ℕ) → ((j : ℕ) → j < k → shard_byte size shards j column ≡ shard_byte size source j column)
       → ((t : ℕ) → t < m → shard_byte size shards (k + t) column ≡ parity_symbol k size source t column)
-      → IsCodeword erasure_product k (k + m) (λ i. shard_byte size shards i column)
+      → IsCodeword (byte_times Qr) k (k + m) (λ i. shard_byte size shards i column)
   word_of shards column front behind =
       let given = data_word column in
       record {
@@ -199,7 +200,7 @@ module _ (k m size : ℕ) (source : List ℕ) (fits : k + m ≤ 256) (bytes : (i
     (λ matching column inside. word_of source column (λ j below. refl) (λ t below. matching t column (omega arith) below (omega arith) inside)),
     λ words t column above below left inside.
         let given = data_word column in
-        codeword_is_unique 8 erasure_product k (k + m) (λ i. i) (λ p. shard_byte size source p column) (symbol_at k size (λ i. i) source column)
+        codeword_is_unique 8 (byte_times Qr) k (k + m) (λ i. i) (λ p. shard_byte size source p column) (symbol_at k size (λ i. i) source column)
         (lit< tt) erasure_field fits (first_places k (k + m) (omega arith)) (words column inside) given.0
         (λ j j_below. sym (given.1 j j_below)) (k + t) (omega (arith, below)),
   )

@@ -3,10 +3,11 @@ use Rattle.std.proofs.Common.{◌≡◌, ◌⊎◌, ℕ, ◌+◌, ◌*◌, ◌<�
 use Rattle.field_base.specs.Codewords.{IsCodeword}
 use Rattle.field_base.specs.Interpolation.{lagrange}
 use Rattle.field_base.proofs.Codewords.{codeword_exists}
-use Rattle.reed_solomon.specs.ErasureField.{erasure_product}
+use Rattle.reed_solomon.specs.ByteFields.{byte_times}
+use Rattle.reed_solomon.specs.declared.byte_field.ByteField.TheVariants.{Qr}
 use Rattle.reed_solomon.specs.Samples.{IsSample, symbol_at}
 use Rattle.reed_solomon.specs.Shards.{IsPresent, IsAmongFirst, IsReconstructed, present_count, shard_byte}
-use Rattle.reed_solomon.proofs.ByteTables.{erasure_field}
+use Rattle.reed_solomon.proofs.ByteFields.{erasure_field}
 use Rattle.reed_solomon.proofs.Samples.{sample_distinct}
 use Rattle.field_base.proofs.BasisSums.{sum_below-same}
 
@@ -15,8 +16,8 @@ pub symbol_at-same : (count size : ℕ) (place : ℕ → ℕ) (old now : List �
     → ((j : ℕ) → j < count → shard_byte size now (place j) column ≡ shard_byte size old (place j) column)
     → symbol_at count size place now column x ≡ symbol_at count size place old column x
 symbol_at-same count size place old now column x same =
-    sum_below-same (λ j. erasure_product (lagrange 8 erasure_product place count j x) (shard_byte size now (place j) column)) (λ j. erasure_product (lagrange 8 erasure_product place count j x) (shard_byte size old (place j) column)) count
-    (λ j below. ap (erasure_product (lagrange 8 erasure_product place count j x)) (same j below))
+    sum_below-same (λ j. byte_times Qr (lagrange 8 (byte_times Qr) place count j x) (shard_byte size now (place j) column)) (λ j. byte_times Qr (lagrange 8 (byte_times Qr) place count j x) (shard_byte size old (place j) column)) count
+    (λ j below. ap (byte_times Qr (lagrange 8 (byte_times Qr) place count j x)) (same j below))
 
 -- the missing shards before shard `target` are written, and the others are as they were
 pub record RestoresBefore (total size count : ℕ) (place : ℕ → ℕ) (present : List Bool) (old : List ℕ) (target : ℕ) (now : List ℕ) : Type 0 where
@@ -29,11 +30,11 @@ pub record RestoresBefore (total size count : ℕ) (place : ℕ → ℕ) (presen
 -- what the sample gives is a codeword
 pub sample_word : (total size count : ℕ) (present : List Bool) (places shards : List ℕ) (column : ℕ)
     → total ≤ 256 → IsSample count present total places count → ((i : ℕ) → get_or shards i 0 < 256)
-    → IsCodeword erasure_product count total (symbol_at count size (λ j. get_or places j 0) shards column)
+    → IsCodeword (byte_times Qr) count total (symbol_at count size (λ j. get_or places j 0) shards column)
     × ((j : ℕ) → j < count → symbol_at count size (λ j. get_or places j 0) shards column (get_or places j 0)
     ≡ shard_byte size shards (get_or places j 0) column)
 sample_word total size count present places shards column fits sample bytes =
-    codeword_exists 8 erasure_product count total (λ j. get_or places j 0) (λ j. shard_byte size shards (get_or places j 0) column)
+    codeword_exists 8 (byte_times Qr) count total (λ j. get_or places j 0) (λ j. shard_byte size shards (get_or places j 0) column)
     (lit< tt) erasure_field fits (sample_distinct count present total places count total sample (omega arith))
     (λ j below. bytes (get_or places j 0 * size + column))
 

@@ -6,11 +6,12 @@ use Rattle.std.proofs.lemmas.Nat.{div-add-mod', div_below}
 use Rattle.std.proofs.Math.Seq.{take-length}
 use native.Mathlib.Nat.{mod-lt}
 use Rattle.field_base.proofs.Codewords.{codeword_is_unique}
-use Rattle.reed_solomon.specs.ErasureField.{erasure_product}
+use Rattle.reed_solomon.specs.ByteFields.{byte_times}
+use Rattle.reed_solomon.specs.declared.byte_field.ByteField.TheVariants.{Qr}
 use Rattle.reed_solomon.specs.RoundTrip.{ChangesAreSeen, LostShardsReturn}
 use Rattle.reed_solomon.specs.Samples.{IsSample}
 use Rattle.reed_solomon.specs.Shards.{present_count, shard_byte}
-use Rattle.reed_solomon.proofs.ByteTables.{erasure_field}
+use Rattle.reed_solomon.proofs.ByteFields.{erasure_field}
 use Rattle.reed_solomon.proofs.Samples.{no_sample, sample-absent, sample-full, sample-taken, sample_distinct}
 
 -- the first `seen` flags have a sample, with room for the next place
@@ -113,7 +114,7 @@ lost_shards_return k total size present whole damaged restored fits flags enough
         elim (cases_Bool (get_or present i false)) [
           | inl here ↦ done.keeps i column within inside (inl here) ∙ agree i column within inside here
           | inr absent ↦ (done.restores column inside).missing i within (λ here. absurd (true≢false (sym here ∙ absent)))
-              ∙ codeword_is_unique 8 erasure_product k total (λ j. get_or s.places j 0) (done.restores column inside).word
+              ∙ codeword_is_unique 8 (byte_times Qr) k total (λ j. get_or s.places j 0) (done.restores column inside).word
               (λ p. shard_byte size whole p column) (lit< tt) erasure_field fits
               (sample_distinct k present total s.places k total sample (omega arith)) (done.restores column inside).is_codeword (words column inside)
               (λ j below.

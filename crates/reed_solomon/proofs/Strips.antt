@@ -4,7 +4,8 @@ use Rattle.std.proofs.lemmas.Bool.{cases_lt}
 use Rattle.std.proofs.lemmas.List.{ext_get_or, get_or-append-add, get_or_append_left, get_or-drop, get_or-take, length-append, length-drop, length-take-le}
 use Rattle.reed_solomon.specs.Tables.{AreApart, AreRows, AreWritten, HasRow, nibble_sum, row_sum}
 use Rattle.reed_solomon.specs.Samples.{symbol_at}
-use Rattle.reed_solomon.specs.ErasureField.{erasure_product}
+use Rattle.reed_solomon.specs.ByteFields.{byte_times}
+use Rattle.reed_solomon.specs.declared.byte_field.ByteField.TheVariants.{Qr}
 use Rattle.field_base.specs.Interpolation.{lagrange}
 use Rattle.reed_solomon.proofs.GroupWriting.{apart_places, columns_apart, row_symbol}
 use Rattle.reed_solomon.proofs.RowWriting.{columns_written, row_written, still_read, written_at, written_by}
@@ -107,7 +108,7 @@ row_sum-drop entries shards starts row columns c =
 pub column_symbols : (count size : ℕ) (place target : ℕ → ℕ) (entries shards part starts : List ℕ) (given spot : ℕ → ℕ)
     (rows n column width : ℕ) (old now : List ℕ) → part ≡ drop column shards → rows ≡ n → length starts ≡ count
     → ((j : ℕ) → j < count → get_or starts j 0 ≡ place j * size) → ((row : ℕ) → row < n → given row ≡ spot row)
-    → ((row : ℕ) → row < n → HasRow (λ j. lagrange 8 erasure_product place count j (target row)) entries row count)
+    → ((row : ℕ) → row < n → HasRow (λ j. lagrange 8 (byte_times Qr) place count j (target row)) entries row count)
     → ((i : ℕ) → get_or shards i 0 < 256) → AreWritten (row_sum entries part starts) given rows width old now
     → AreWritten (λ row c. symbol_at count size place shards (column + c) (target row)) spot n width old now
 column_symbols count size place target entries shards part starts given spot rows n column width old now part_is rows_are counted begun spots set bytes

@@ -3,7 +3,8 @@
 use Rattle.std.specs.Prelude.{◌≡◌, ◌≢◌, ℕ, ◌+◌, ◌*◌, ◌<◌, ◌≤◌, Bool, true, false, List, length, slice_index, drop, if◌then◌else◌, bit_xor}
 use Rattle.field_base.specs.Basis.{sum_below}
 use Rattle.field_base.specs.Codewords.{IsCodeword}
-use Rattle.reed_solomon.specs.ErasureField.{erasure_product}
+use Rattle.reed_solomon.specs.ByteFields.{byte_times}
+use Rattle.reed_solomon.specs.declared.byte_field.ByteField.TheVariants.{Qr}
 use Rattle.reed_solomon.specs.Parity.{parity_factor}
 use Rattle.reed_solomon.specs.Shards.{AreCodewords, IsAmongFirst, shard_byte}
 
@@ -11,26 +12,26 @@ use Rattle.reed_solomon.specs.Shards.{AreCodewords, IsAmongFirst, shard_byte}
 abbrev pub AddsShard : ℕ → ℕ → ℕ → List ℕ → List ℕ → List ℕ → Type 0
 AddsShard k t j shard old new =
     (column : ℕ) → column < length old
-    → slice_index new column ≡ bit_xor (slice_index old column) (erasure_product (parity_factor k t j) (slice_index shard column))
+    → slice_index new column ≡ bit_xor (slice_index old column) (byte_times Qr (parity_factor k t j) (slice_index shard column))
 
 -- to each byte the product of the byte at its place by a factor is added
 abbrev pub AddsMultiple : ℕ → List ℕ → List ℕ → List ℕ → Type 0
 AddsMultiple factor shard old new =
     (column : ℕ) → column < length old
-    → slice_index new column ≡ bit_xor (slice_index old column) (erasure_product factor (slice_index shard column))
+    → slice_index new column ≡ bit_xor (slice_index old column) (byte_times Qr factor (slice_index shard column))
 
 -- the factors by which the shards at hand, of k of data and others of parity, `total` in all, make shard `shard`: in each column its symbol is
 -- the sum of their products, and those of shards that are not among the first k at hand are 0
 pub record MakeShard (k total : ℕ) (present : List Bool) (shard : ℕ) (factors : List ℕ) : Type 0 where
   pub others : (i : ℕ) → (IsAmongFirst k present i → ⊥) → slice_index factors i ≡ 0
-  pub sums : (symbol : ℕ → ℕ) → IsCodeword erasure_product k total symbol → ((i : ℕ) → i < total → symbol i < 256)
-      → symbol shard ≡ sum_below (λ i. erasure_product (slice_index factors i) (symbol i)) total
+  pub sums : (symbol : ℕ → ℕ) → IsCodeword (byte_times Qr) k total symbol → ((i : ℕ) → i < total → symbol i < 256)
+      → symbol shard ≡ sum_below (λ i. byte_times Qr (slice_index factors i) (symbol i)) total
 
 -- in each column `sums` has the sum of the products of those shards of data that were added, for shard t of the parity
 abbrev pub HasAdded : ℕ → ℕ → ℕ → List ℕ → (ℕ → Bool) → List ℕ → Type 0
 HasAdded k t size shards added sums =
     (column : ℕ) → column < size → slice_index sums column
-    ≡ sum_below (λ j. if added j then erasure_product (parity_factor k t j) (shard_byte size shards j column) else 0) k
+    ≡ sum_below (λ j. if added j then byte_times Qr (parity_factor k t j) (shard_byte size shards j column) else 0) k
 
 -- zeros are the sum of none; a shard that was not added yet may be, in any order; and where each shard of the parity has the sum of all, the
 -- columns are codewords

@@ -9,7 +9,7 @@ pub mod Locators
 pub mod Restoring
 pub mod TransformSizes
 pub mod Adding
-pub mod ErasureField
+pub mod ByteFields
 pub mod Missing
 pub mod Parity
 pub mod RoundTrip

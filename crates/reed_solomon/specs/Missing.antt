@@ -1,7 +1,8 @@
 -- The shards that are to be written: the missing ones before one of them, and the tables by which they are made of those at hand.
 use Rattle.std.specs.Prelude.{◌≡◌, ◌⊎◌, ℕ, ◌+◌, ◌/◌, ◌<◌, ◌≤◌, Bool, List, length, slice_index, take}
 use Rattle.field_base.specs.Interpolation.{lagrange}
-use Rattle.reed_solomon.specs.ErasureField.{erasure_product}
+use Rattle.reed_solomon.specs.ByteFields.{byte_times}
+use Rattle.reed_solomon.specs.declared.byte_field.ByteField.TheVariants.{Qr}
 use Rattle.reed_solomon.specs.Samples.{IsSample}
 use Rattle.reed_solomon.specs.Shards.{IsPresent, IsReconstructed, present_count, shard_byte}
 use Rattle.reed_solomon.specs.Tables.{HaveRows}
@@ -21,7 +22,7 @@ pub record HaveMissingTables (k total : ℕ) (present : List Bool) (tables : Lis
   pub missing : ℕ
   pub sample : IsSample k present total places k
   pub lost : AreMissing present total targets missing
-  pub rows : HaveRows (λ t j. lagrange 8 erasure_product (slice_index places) k j (slice_index targets t)) k missing tables
+  pub rows : HaveRows (λ t j. lagrange 8 (byte_times Qr) (slice_index places) k j (slice_index targets t)) k missing tables
 
 -- shards after the missing ones before shard `until` were written by tables: they are reconstructed where these are the tables of the missing
 -- shards. Shards at hand and those from shard `until` on stay by any tables

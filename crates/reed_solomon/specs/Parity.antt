@@ -1,14 +1,15 @@
 -- Parity by the shards of data alone, the sample whose places are 0, 1, .., k - 1, and the tables of its factors that are kept.
 use Rattle.std.specs.Prelude.{◌≡◌, ℕ, ◌+◌, ◌*◌, ◌/◌, ◌<◌, ◌≤◌, List, length}
 use Rattle.field_base.specs.Interpolation.{lagrange}
-use Rattle.reed_solomon.specs.ErasureField.{erasure_product}
+use Rattle.reed_solomon.specs.ByteFields.{byte_times}
+use Rattle.reed_solomon.specs.declared.byte_field.ByteField.TheVariants.{Qr}
 use Rattle.reed_solomon.specs.Samples.{symbol_at}
 use Rattle.reed_solomon.specs.Shards.{shard_byte}
 use Rattle.reed_solomon.specs.Tables.{HaveRows}
 
 -- the factor of data shard j in shard t of the parity of k shards of data
 abbrev pub parity_factor : ℕ → ℕ → ℕ → ℕ
-parity_factor k t j = lagrange 8 erasure_product (λ i. i) k j (k + t)
+parity_factor k t j = lagrange 8 (byte_times Qr) (λ i. i) k j (k + t)
 
 -- the symbol of shard t of the parity in one column
 abbrev pub parity_symbol : ℕ → ℕ → List ℕ → ℕ → ℕ → ℕ

@@ -1,7 +1,8 @@
 -- The sample of shards that the missing ones are computed from: the first k that are at hand.
 use Rattle.std.specs.Prelude.{◌≡◌, ℕ, ◌<◌, ◌≤◌, Bool, List, slice_index, take}
 use Rattle.field_base.specs.Interpolation.{interpolated, other_factors}
-use Rattle.reed_solomon.specs.ErasureField.{erasure_product}
+use Rattle.reed_solomon.specs.ByteFields.{byte_times}
+use Rattle.reed_solomon.specs.declared.byte_field.ByteField.TheVariants.{Qr}
 use Rattle.reed_solomon.specs.Shards.{IsPresent, IsAmongFirst, present_count, shard_byte}
 
 -- the first `count` entries of `places` are the places before `seen` of the first k shards at hand, or of all where these are
@@ -19,10 +20,10 @@ pub record IsSample (k : ℕ) (present : List Bool) (seen : ℕ) (places : List 
 -- the symbol of shard x in one column by the shards at `count` places
 abbrev pub symbol_at : ℕ → ℕ → (ℕ → ℕ) → List ℕ → ℕ → ℕ → ℕ
 symbol_at count size place shards column x =
-    interpolated 8 erasure_product place (λ j. shard_byte size shards (place j) column) count x
+    interpolated 8 (byte_times Qr) place (λ j. shard_byte size shards (place j) column) count x
 
 -- the weight of each of `count` points: the inverse of the product of its differences to the others (J.-P. Berrut and
 -- L. N. Trefethen, Barycentric Lagrange interpolation, 2004)
 abbrev pub AreWeights : (ℕ → ℕ) → ℕ → (ℕ → ℕ) → Type 0
 AreWeights point count weight =
-    (j : ℕ) → j < count → erasure_product (other_factors erasure_product point j (point j) count) (weight j) ≡ 1
+    (j : ℕ) → j < count → byte_times Qr (other_factors (byte_times Qr) point j (point j) count) (weight j) ≡ 1

@@ -4,7 +4,8 @@
 use Rattle.std.specs.Prelude.{◌≡◌, ◌⊎◌, ℕ, ◌+◌, ◌*◌, ◌/◌, ◌<◌, ◌≤◌, Bool, true, false, List, length, slice_index, slice_index_or, take}
 use Rattle.std.specs.List.{count_by}
 use Rattle.field_base.specs.Codewords.{IsCodeword}
-use Rattle.reed_solomon.specs.ErasureField.{erasure_product}
+use Rattle.reed_solomon.specs.ByteFields.{byte_times}
+use Rattle.reed_solomon.specs.declared.byte_field.ByteField.TheVariants.{Qr}
 
 -- byte `column` of shard i
 abbrev pub shard_byte : ℕ → List ℕ → ℕ → ℕ → ℕ
@@ -13,7 +14,7 @@ shard_byte size shards i column = slice_index shards (i * size + column)
 -- each column is a codeword of k symbols of data
 abbrev pub AreCodewords : ℕ → ℕ → ℕ → List ℕ → Type 0
 AreCodewords k total size shards =
-    (column : ℕ) → column < size → IsCodeword erasure_product k total (λ i. shard_byte size shards i column)
+    (column : ℕ) → column < size → IsCodeword (byte_times Qr) k total (λ i. shard_byte size shards i column)
 
 -- the first k shards are as they were, and each column is a codeword: the parity is that of the data
 pub record IsEncoded (k total size : ℕ) (before after : List ℕ) : Type 0 where
@@ -35,7 +36,7 @@ IsAmongFirst k present i = IsPresent present i × (present_count (take i present
 -- in one column, the missing shards before shard `until` have the symbols of a codeword that agrees with the first k at hand
 pub record RestoresColumn (k total size until : ℕ) (present : List Bool) (before after : List ℕ) (column : ℕ) : Type 0 where
   pub word : ℕ → ℕ
-  pub is_codeword : IsCodeword erasure_product k total word
+  pub is_codeword : IsCodeword (byte_times Qr) k total word
   pub agrees : (i : ℕ) → i < total → IsAmongFirst k present i → shard_byte size before i column ≡ word i
   pub missing : (i : ℕ) → i < until → (IsPresent present i → ⊥) → shard_byte size after i column ≡ word i
 

@@ -2,12 +2,13 @@
 -- Screaming fast Galois field arithmetic using Intel SIMD instructions, 2013).
 use Rattle.std.specs.Prelude.{◌≡◌, ◌⊎◌, ℕ, ◌+◌, ◌-◌, ◌*◌, ◌/◌, ◌%◌, ◌<◌, ◌≤◌, List, length, drop, slice_index, bit_xor}
 use Rattle.field_base.specs.Basis.{sum_below}
-use Rattle.reed_solomon.specs.ErasureField.{erasure_product}
+use Rattle.reed_solomon.specs.ByteFields.{byte_times}
+use Rattle.reed_solomon.specs.declared.byte_field.ByteField.TheVariants.{Qr}
 
 -- entry n of a factor's 32 entries: its products by 0, .., 15, and then by 0, 16, .., 240
 pub record IsEntry (factor n entry : ℕ) : Type 0 where
-  pub low : n < 16 → entry ≡ erasure_product factor n
-  pub high : 16 ≤ n → entry ≡ erasure_product factor (16 * (n - 16))
+  pub low : n < 16 → entry ≡ byte_times Qr factor n
+  pub high : 16 ≤ n → entry ≡ byte_times Qr factor (16 * (n - 16))
 
 -- row `row` of four has the entries of the factors of `count` shards
 abbrev pub HasRow : (ℕ → ℕ) → List ℕ → ℕ → ℕ → Type 0

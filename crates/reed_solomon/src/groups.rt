@@ -1,7 +1,8 @@
 // Shards that are computed from a sample of others, up to four at once. Shards of one size stand one after the other in a slice.
 ghost use Rattle.std.specs.Prelude.{◌≡◌, ◌≢◌, ◌+◌, ◌*◌, ◌^◌, ◌<◌, ◌≤◌, ◌↔◌, ℕ, length, min, slice_index, IsTrue};
 ghost use Rattle.field_base.specs.Interpolation.{lagrange};
-ghost use Rattle.reed_solomon.specs.ErasureField.{erasure_product};
+ghost use Rattle.reed_solomon.specs.ByteFields.{byte_times};
+ghost use Rattle.reed_solomon.specs.declared.byte_field.ByteField.TheVariants.{Qr};
 ghost use Rattle.reed_solomon.specs.Samples.{symbol_at};
 ghost use Rattle.reed_solomon.specs.Tables.{AreApart, AreRows, AreWritten, HasRow, row_sum};
 
@@ -73,7 +74,7 @@ pub(crate) fn set_rows(entries: &mut [u8], sample: &Sample, points: &[u8])
     requires apart { (j row : ℕ) → j < sample.now.count → row < length points.now
         → slice_index sample.now.places j ≢ slice_index points.now row }
     ensures set { (row : ℕ) → row < length points.now → HasRow
-        (λ j. lagrange 8 erasure_product (slice_index sample.now.places) sample.now.count j (slice_index points.now row))
+        (λ j. lagrange 8 (byte_times Qr) (slice_index sample.now.places) sample.now.count j (slice_index points.now row))
         entries.new row sample.now.count }
     ensures long { length entries.new ≡ length entries.old }
 {

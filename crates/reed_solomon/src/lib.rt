@@ -13,7 +13,7 @@
 
 mod adding;
 mod blocks;
-mod byte_field;
+pub mod byte_field;
 mod codec;
 mod columns;
 mod comparing;

@@ -1,7 +1,8 @@
 // Missing shards that are restored by tables that are made once, for all stripes that lack the same shards.
 ghost use Rattle.std.specs.Prelude.{◌≡◌, ◌≢◌, ◌⊎◌, ◌↔◌, ◌+◌, ◌-◌, ◌*◌, ◌<◌, ◌≤◌, ℕ, length, slice_index, IsOk, IfErr, OnErr};
 ghost use Rattle.field_base.specs.Interpolation.{lagrange};
-ghost use Rattle.reed_solomon.specs.ErasureField.{erasure_product};
+ghost use Rattle.reed_solomon.specs.ByteFields.{byte_times};
+ghost use Rattle.reed_solomon.specs.declared.byte_field.ByteField.TheVariants.{Qr};
 ghost use Rattle.reed_solomon.specs.Missing.{AreReconstructedBy, HaveMissingTables, IsReconstructedBy};
 ghost use Rattle.reed_solomon.specs.Parity.{tables_length};
 ghost use Rattle.reed_solomon.specs.Samples.{IsSample, symbol_at};
@@ -174,7 +175,7 @@ fn restore_prepared(
     ensures others { (i : ℕ)
         → ((t : ℕ) → t < count → (i < slice_index targets.now t * size) ⊎ (slice_index targets.now t * size + size ≤ i))
         → slice_index shards.new i ≡ slice_index shards.old i }
-    ensures restored { HaveRows (λ t j. lagrange 8 erasure_product (slice_index places.now) k j (slice_index targets.now t))
+    ensures restored { HaveRows (λ t j. lagrange 8 (byte_times Qr) (slice_index places.now) k j (slice_index targets.now t))
         k count tables.now
         → AreWritten (λ t column. symbol_at k size (slice_index places.now) shards.old column (slice_index targets.now t))
         (λ t. slice_index targets.now t * size) count size shards.old shards.new }

@@ -1,7 +1,8 @@
 // Codes whose tables are made once, in memory of the caller or of an allocator.
 ghost use Rattle.std.specs.Prelude.{◌≡◌, ◌≢◌, ℕ, ◌+◌, ◌*◌, ◌/◌, ◌<◌, ◌≤◌, ◌↔◌, ◌++◌, length, slice_index, take, IsOk, IsTrue, IfOk, IfErr, OnErr};
 ghost use Rattle.field_base.specs.Interpolation.{lagrange};
-ghost use Rattle.reed_solomon.specs.ErasureField.{erasure_product};
+ghost use Rattle.reed_solomon.specs.ByteFields.{byte_times};
+ghost use Rattle.reed_solomon.specs.declared.byte_field.ByteField.TheVariants.{Qr};
 ghost use Rattle.reed_solomon.specs.Parity.{HaveParityTables, MatchesParity, parity_symbol, tables_length};
 ghost use Rattle.reed_solomon.specs.Shards.{AreCodewords, IsEncoded};
 ghost use Rattle.reed_solomon.specs.Sizes.{HasShardSize, ShardSizeError};
@@ -130,7 +131,7 @@ pub(crate) fn write_tables(tables: &mut [u8], sample: &Sample, points: &[u8])
         → slice_index sample.now.places j ≢ slice_index points.now t }
     ensures long { length tables.new ≡ length tables.old }
     ensures set { HaveRows
-        (λ t j. lagrange 8 erasure_product (slice_index sample.now.places) sample.now.count j (slice_index points.now t))
+        (λ t j. lagrange 8 (byte_times Qr) (slice_index sample.now.places) sample.now.count j (slice_index points.now t))
         sample.now.count (length points.now) tables.new }
 {
     let (k, m) = (sample.count, points.len());

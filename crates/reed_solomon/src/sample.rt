@@ -3,10 +3,11 @@ ghost use Rattle.std.specs.Prelude.{◌≡◌, ◌≢◌, ◌+◌, ◌<◌, ◌�
 ghost use Rattle.field_base.specs.Basis.{product_below};
 ghost use Rattle.field_base.specs.Interpolation.{lagrange, other_factors};
 ghost use Rattle.field_base.specs.PolynomialRoots.{AreDistinctBelow};
-ghost use Rattle.reed_solomon.specs.ErasureField.{erasure_product};
+ghost use Rattle.reed_solomon.specs.ByteFields.{byte_times};
+ghost use Rattle.reed_solomon.specs.declared.byte_field.ByteField.TheVariants.{Qr};
 ghost use Rattle.reed_solomon.specs.Samples.{AreWeights, IsSample};
 
-use crate::byte_field::{invert, multiply};
+use crate::byte_field::{ByteField, invert, multiply};
 use crate::groups::bytes_fit;
 
 // The first `count` entries of `places` are the places of shards. The place of a shard is its point too. The weight of a shard is
@@ -55,25 +56,29 @@ impl Sample {
     pub(crate) fn factors(&self, x: u8) -> [u8; 256]
         requires apart { (j : ℕ) → j < self.now.count → slice_index self.now.places j ≢ x }
         ensures { (j : ℕ) → j < self.now.count
-            → slice_index result j ≡ lagrange 8 erasure_product (slice_index self.now.places) self.now.count j x }
+            → slice_index result j ≡ lagrange 8 (byte_times Qr) (slice_index self.now.places) self.now.count j x }
     {
         bytes_fit(&self.weights);
         let all = self.differences(x);
         let mut factors = [0; 256];
         for j in 0..self.count {
-            let others = multiply(all, invert(x ^ self.places[j]));
-            factors[j] = multiply(others, self.weights[j]);
+            let others = multiply(
+                ByteField::Qr,
+                all,
+                invert(ByteField::Qr, x ^ self.places[j]),
+            );
+            factors[j] = multiply(ByteField::Qr, others, self.weights[j]);
         }
         factors
     }
 
     // The product of x - p over all places p.
     fn differences(&self, x: u8) -> u8
-        ensures { result ≡ product_below erasure_product (λ i. bit_xor x (slice_index self.now.places i)) self.now.count }
+        ensures { result ≡ product_below (byte_times Qr) (λ i. bit_xor x (slice_index self.now.places i)) self.now.count }
     {
         let mut product = 1;
         for i in 0..self.count {
-            product = multiply(product, x ^ self.places[i]);
+            product = multiply(ByteField::Qr, product, x ^ self.places[i]);
         }
         product
     }
@@ -117,7 +122,7 @@ fn weights_of(places: &[u8; 256], count: usize) -> [u8; 256]
 {
     let mut weights = [0; 256];
     for own in 0..count {
-        weights[own] = invert(other_differences(places, count, own));
+        weights[own] = invert(ByteField::Qr, other_differences(places, count, own));
     }
     weights
 }
@@ -127,14 +132,14 @@ fn other_differences(places: &[u8; 256], count: usize, own: usize) -> u8
     requires few { count ≤ 256 }
     requires within { own < count }
     requires distinct { AreDistinctBelow count (2 ^ 8) (slice_index places.now) }
-    ensures product { result ≡ other_factors erasure_product (slice_index places.now) own (slice_index places.now own) count }
+    ensures product { result ≡ other_factors (byte_times Qr) (slice_index places.now) own (slice_index places.now own) count }
     ensures invertible { result ≢ 0 }
 {
     let own_place = places[own];
     let mut product = 1;
     for i in 0..count {
         if i != own {
-            product = multiply(product, own_place ^ places[i]);
+            product = multiply(ByteField::Qr, product, own_place ^ places[i]);
         }
     }
     product

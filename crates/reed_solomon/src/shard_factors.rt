@@ -2,7 +2,8 @@
 ghost use Rattle.std.specs.Prelude.{◌≡◌, ◌≢◌, ◌↔◌, ◌+◌, ◌<◌, ◌≤◌, ℕ, IfSome, IsSome, length, slice_index};
 ghost use Rattle.field_base.specs.Basis.{sum_below};
 ghost use Rattle.reed_solomon.specs.Adding.{MakeShard};
-ghost use Rattle.reed_solomon.specs.ErasureField.{erasure_product};
+ghost use Rattle.reed_solomon.specs.ByteFields.{byte_times};
+ghost use Rattle.reed_solomon.specs.declared.byte_field.ByteField.TheVariants.{Qr};
 ghost use Rattle.reed_solomon.specs.Shards.{IsPresent, present_count};
 
 use crate::ReedSolomon;
@@ -32,8 +33,8 @@ impl ReedSolomon {
 fn at_places(sample: &Sample, factors: &[u8; 256]) -> [u8; 256]
     ensures others { (i : ℕ) → ((j : ℕ) → j < sample.now.count → slice_index sample.now.places j ≢ i) → slice_index result i ≡ 0 }
     ensures sums { (total : ℕ) (symbol : ℕ → ℕ) → ((j : ℕ) → j < sample.now.count → slice_index sample.now.places j < total)
-        → sum_below (λ i. erasure_product (slice_index result i) (symbol i)) total
-        ≡ sum_below (λ j. erasure_product (slice_index factors.now j) (symbol (slice_index sample.now.places j))) sample.now.count }
+        → sum_below (λ i. byte_times Qr (slice_index result i) (symbol i)) total
+        ≡ sum_below (λ j. byte_times Qr (slice_index factors.now j) (symbol (slice_index sample.now.places j))) sample.now.count }
 {
     bytes_fit(&sample.places);
     let mut placed = [0; 256];

@@ -4,12 +4,12 @@ use Rattle.std.specs.Prelude.{cond, slice_index}
 use Rattle.std.proofs.lemmas.List.{append-nil}
 use native.Mathlib.Numerals.{add-one}
 use Rattle.field_base.specs.Powers.{value_of}
-use Rattle.error_codes.specs.Fields.{product_in}
+use Rattle.reed_solomon.specs.ByteFields.{byte_times}
 use Rattle.error_codes.specs.Refusals.{AreShares}
 use Rattle.error_codes.specs.Wrong.{AreNearPolynomials, is_wrong_share}
-use Rattle.error_codes.specs.declared.field.ShareField.{ShareField}
+use Rattle.reed_solomon.specs.declared.byte_field.ByteField.{ByteField}
 use Rattle.secret.specs.Combining.{IsSecretOf, entries_at}
-use Rattle.secret.specs.Records.{number_of}
+use Rattle.secret.specs.Records.{IsNumber}
 
 pub no-entries : (marked : ℕ → Bool) (entries : List ℕ) → [] ≡ entries_at marked entries 0
 unfolding entries_at
@@ -45,10 +45,10 @@ entries-same a b entries (suc n) same =
 -- ---- a secret of shares
 
 -- what is combined is it
-pub is-secret : (field : ShareField) (first indexes shares secret : List ℕ) (size : ℕ) (marked : ℕ → Bool)
-    → number_of field ≡ slice_index first 0 → length secret ≡ size → AreShares (slice_index first 1) indexes size (length shares)
+pub is-secret : (field : ByteField) (first indexes shares secret : List ℕ) (size : ℕ) (marked : ℕ → Bool)
+    → IsNumber field (slice_index first 0) → length secret ≡ size → AreShares (slice_index first 1) indexes size (length shares)
     → (polynomials : ℕ → List ℕ) → AreNearPolynomials field (slice_index first 1) indexes size shares polynomials
-    → ((j : ℕ) → j < size → slice_index secret j ≡ value_of 1 (product_in field) (λ c. c) (polynomials j) 0)
+    → ((j : ℕ) → j < size → slice_index secret j ≡ value_of 1 (byte_times field) (λ c. c) (polynomials j) 0)
     → ((i : ℕ) → i < length indexes → marked i ≡ is_wrong_share field indexes size shares polynomials i)
     → IsSecretOf first indexes shares secret (entries_at marked indexes (length indexes))
 is-secret field first indexes shares secret size marked number long are polynomials near at_zero named = record {

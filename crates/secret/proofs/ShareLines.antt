@@ -12,15 +12,15 @@ use Rattle.sha2.specs.Sha256.{sha256}
 use Rattle.secret.specs.Records.{IsEnd, check_sum, line_of, lines_of, record_of, row_of, SaysRecord}
 use Rattle.secret.specs.declared.lines.LineFault.{LineFault}
 use Rattle.secret.specs.declared.lines.LineFault.TheVariants.{Memory}
-use Rattle.error_codes.specs.declared.field.ShareField.{ShareField}
+use Rattle.reed_solomon.specs.declared.byte_field.ByteField.{ByteField}
 
-pub no_lines : (field : ShareField) (needed : ℕ) (identity : List ℕ) (size : ℕ) (shares text : List ℕ) → text ≡ []
+pub no_lines : (field : ByteField) (needed : ℕ) (identity : List ℕ) (size : ℕ) (shares text : List ℕ) → text ≡ []
     → text ≡ lines_of field needed identity size shares 0
 unfolding lines_of
 no_lines field needed identity size shares text none = none
 
 -- one line more
-pub more_lines : (field : ShareField) (needed : ℕ) (identity : List ℕ) (size : ℕ) (shares : List ℕ) (i : ℕ)
+pub more_lines : (field : ByteField) (needed : ℕ) (identity : List ℕ) (size : ℕ) (shares : List ℕ) (i : ℕ)
     (text next bytes entry share : List ℕ) → text ≡ lines_of field needed identity size shares i
     → next ≡ text ++ (line_of bytes ++ 10 ∷ []) → bytes ≡ entry → entry ≡ record_of field needed (i + 1) identity share
     → share ≡ row_of size shares i → next ≡ lines_of field needed identity size shares (i + 1)

@@ -149,8 +149,11 @@ one-set text secret wrong is = record {
     named : (entry : List ℕ) → AreOfSet is.first entry → HasField entry
     named entry of = (
       is.combined.field,
-      is.combined.number ∙ sym (get_or-take 2 is.first 0 0 (omega arith)) ∙ ap (λ (l : List ℕ). slice_index l 0) of.same_head
-          ∙ get_or-take 2 entry 0 0 (omega arith),
+      (
+        is.combined.number.0 ∙ sym (get_or-take 2 is.first 0 0 (omega arith)) ∙ ap (λ (l : List ℕ). slice_index l 0) of.same_head
+            ∙ get_or-take 2 entry 0 0 (omega arith),
+        is.combined.number.1,
+      ),
     )
 
 -- as many bytes are gathered as the records have in their shares

@@ -1,21 +1,26 @@
 -- A share as bytes, its record, and as a line of text.
-use Rattle.std.specs.Prelude.{◌≡◌, ℕ, zero, suc, ◌+◌, ◌*◌, ◌<◌, List, [], ◌∷◌, ◌++◌, Ok, codes, drop, length, slice_index, take}
+use Rattle.std.specs.Prelude.{◌≡◌, ◌≢◌, ℕ, zero, suc, ◌+◌, ◌*◌, ◌<◌, List, [], ◌∷◌, ◌++◌, Ok, codes, drop, length, slice_index, take}
 use Rattle.hex.specs.Hex.{decode_of, encode_lower}
 use Rattle.sha2.specs.Sha256.{sha256}
-use Rattle.error_codes.specs.declared.field.ShareField.{ShareField}
-use Rattle.error_codes.specs.declared.field.ShareField.TheVariants.{Gfshare, Rijndael}
+use Rattle.reed_solomon.specs.declared.byte_field.ByteField.{ByteField}
+use Rattle.reed_solomon.specs.declared.byte_field.ByteField.TheVariants.{Ccsds, Qr, Rijndael}
 
 -- the number of a field: the low byte of its modulus
-abbrev pub number_of : ShareField → ℕ
+abbrev pub number_of : ByteField → ℕ
 number_of Rijndael = 0x1b
-number_of Gfshare = 0x1d
+number_of Qr = 0x1d
+number_of Ccsds = 0x87
+
+-- the number by which a record names a field over which secrets are shared: those of AES and of libgfshare
+abbrev pub IsNumber : ByteField → ℕ → Type 0
+IsNumber field number = (number_of field ≡ number) × (field ≢ Ccsds)
 
 -- a record names a field that there is
 abbrev pub HasField : List ℕ → Type 0
-HasField entry = (field : ShareField) × (number_of field ≡ slice_index entry 0)
+HasField entry = (field : ByteField) × IsNumber field (slice_index entry 0)
 
 -- the record: the number of the field, how many shares are needed, the index, 8 bytes of the set, and the share
-abbrev pub record_of : ShareField → ℕ → ℕ → List ℕ → List ℕ → List ℕ
+abbrev pub record_of : ByteField → ℕ → ℕ → List ℕ → List ℕ → List ℕ
 record_of field needed index identity share = number_of field ∷ needed ∷ index ∷ (identity ++ share)
 
 -- the first 8 bytes of the SHA-256 of a record
@@ -44,7 +49,7 @@ abbrev pub row_of : ℕ → List ℕ → ℕ → List ℕ
 row_of size rows i = take size (drop (i * size) rows)
 
 -- the lines of the first n shares, each with a line feed
-unfoldable pub lines_of : ShareField → ℕ → List ℕ → ℕ → List ℕ → ℕ → List ℕ
+unfoldable pub lines_of : ByteField → ℕ → List ℕ → ℕ → List ℕ → ℕ → List ℕ
 lines_of field needed identity size shares zero = []
 lines_of field needed identity size shares (suc n) =
     lines_of field needed identity size shares n

@@ -5,7 +5,7 @@ ghost use Rattle.hex.specs.declared.error.FromHexError.TheVariants.{OutOfMemory}
 ghost use Rattle.secret.specs.Records.{check_sum, line_of, number_of, record_of, IsEnd, SaysRecord};
 ghost use Rattle.secret.specs.declared.lines.LineFault.TheVariants.{Memory};
 
-use error_codes::ShareField;
+use error_codes::ByteField;
 use hex::FromHexError;
 use sha2::{Digest, Sha256};
 use std::alloc::{AllocError, Global};
@@ -31,19 +31,20 @@ pub(crate) enum LineFault {
 }
 
 /// The low byte of the modulus of a field, by which a record names it.
-pub(crate) fn number_of(field: ShareField) -> u8
+pub(crate) fn number_of(field: ByteField) -> u8
     ensures { result ≡ number_of field }
 {
     match field {
-        ShareField::Rijndael => 0x1b,
-        ShareField::Gfshare => 0x1d,
+        ByteField::Rijndael => 0x1b,
+        ByteField::Qr => 0x1d,
+        ByteField::Ccsds => 0x87,
     }
 }
 
 /// The record of a share.
 pub(crate) fn record_of(
     alloc: Global,
-    field: ShareField,
+    field: ByteField,
     needed: u8,
     index: u8,
     identity: &[u8; 8],

@@ -3,13 +3,13 @@ ghost use Rattle.std.specs.Prelude.{◌≡◌};
 
 use crate::bytes::{overwrite, wipe};
 use anyhow::{Context, Result};
-use error_codes::ShareField;
+use error_codes::ByteField;
 use std::random::RandomSource;
 
 /// What is chosen: the field, how many shares there are, and how many are needed.
 #[derive(Clone, Copy, Drop)]
 pub(crate) struct Choice {
-    pub(crate) field: ShareField,
+    pub(crate) field: ByteField,
     pub(crate) needed: u8,
     pub(crate) count: u8,
 }

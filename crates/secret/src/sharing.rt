@@ -3,20 +3,20 @@ ghost use Rattle.std.specs.Prelude.{◌≡◌, ◌≢◌, ◌⊎◌, ◌↔◌, 
 ghost use Rattle.std.specs.Prelude.{string_bytes, IfErr, IfOk, IsTrue, MatchOption, OnOk};
 ghost use Rattle.error_codes.specs.Filling.{is_marked};
 ghost use Rattle.secret.specs.Combining.{entries_at, IsSecretOf};
-ghost use Rattle.secret.specs.Records.{HasField, lines_of, number_of};
+ghost use Rattle.secret.specs.Records.{HasField, lines_of, IsNumber};
 ghost use Rattle.secret.specs.Texts.{AreGathered, AreOfSet, AreOneSet, CutsLine, IsSecretOfText, TextSays};
 ghost use Rattle.secret.specs.declared.fault.Fault.TheVariants.{Memory, Mistyped, NoShare, Sharing};
 ghost use Rattle.secret.specs.declared.lines.LineFault.TheVariants as line_fault;
 ghost use Rattle.error_codes.specs.Refusals.{RefusesSplit};
 ghost use Rattle.error_codes.specs.declared.sharing_error.SharingError.{SharingError};
 ghost use Rattle.error_codes.specs.Sharing.{AreSplit};
-ghost use Rattle.error_codes.specs.declared.field.ShareField.{ShareField};
+ghost use Rattle.reed_solomon.specs.declared.byte_field.ByteField.{ByteField};
 
 use crate::bytes::wipe;
 use crate::fault::Fault;
 use crate::lines::{HEAD, LineFault, push_line, read_record, record_of};
 use crate::sets::{Choice, Drawn};
-use error_codes::{ShareField, combine_correcting, split};
+use error_codes::{ByteField, combine_correcting, split};
 use memchr::memchr;
 use std::alloc::{AllocError, Global};
 
@@ -222,13 +222,13 @@ fn is_of_set(first: &[u8], entry: &[u8]) -> bool
         && &first[3..HEAD] == &entry[3..HEAD]
 }
 
-// The field with that number.
-fn field_of(number: u8) -> Option<ShareField>
-    ensures { MatchOption result ((field : ShareField) → number_of field ≢ number) (λ field. number_of field ≡ number) }
+// The field with that number, if secrets are shared over it.
+fn field_of(number: u8) -> Option<ByteField>
+    ensures { MatchOption result ((field : ByteField) → ¬ IsNumber field number) (λ field. IsNumber field number) }
 {
     match number {
-        0x1b => Some(ShareField::Rijndael),
-        0x1d => Some(ShareField::Gfshare),
+        0x1b => Some(ByteField::Rijndael),
+        0x1d => Some(ByteField::Qr),
         _ => None,
     }
 }

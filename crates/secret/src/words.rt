@@ -1,6 +1,6 @@
 // The words of the command line.
 use crate::sets::Choice;
-use error_codes::ShareField;
+use error_codes::ByteField;
 
 /// What is to be done.
 #[derive(Clone, Copy, Drop)]
@@ -35,7 +35,7 @@ fn options_of(words: &[String]) -> Option<Task> {
         return None;
     }
     let mut choice = Choice {
-        field: ShareField::Rijndael,
+        field: ByteField::Rijndael,
         needed: 0,
         count: 0,
     };
@@ -55,10 +55,10 @@ fn options_of(words: &[String]) -> Option<Task> {
 }
 
 // The field of that name.
-fn field_named(name: &str) -> Option<ShareField> {
+fn field_named(name: &str) -> Option<ByteField> {
     match name {
-        "aes" => Some(ShareField::Rijndael),
-        "gfshare" => Some(ShareField::Gfshare),
+        "aes" => Some(ByteField::Rijndael),
+        "gfshare" => Some(ByteField::Qr),
         _ => None,
     }
 }

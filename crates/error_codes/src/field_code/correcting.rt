@@ -44,8 +44,15 @@ fn are_zeros(values: &[u16]) -> bool
 }
 
 impl<F: SymbolField> FieldCode<F> {
-    // Marks besides the places that are marked those whose points are roots of the reverse of a register, which is given by its coefficients.
-    fn suspect(&self, points: &[u16], register: &[u16], values: &mut [u16], marks: &mut [bool])
+    // Chien search: also marks each place whose point is a root of the error locator, the reverse of a register, which is given by its
+    // coefficients.
+    fn locate_errors(
+        &self,
+        points: &[u16],
+        register: &[u16],
+        values: &mut [u16],
+        marks: &mut [bool],
+    )
         requires points { AreFallingPoints (F.product self.now.field) self.now.root self.now.word_length points.now }
         requires whole { length points.now ≡ self.now.word_length }
         requires values { length values.old ≡ self.now.word_length }
@@ -65,39 +72,33 @@ impl<F: SymbolField> FieldCode<F> {
         }
     }
 
-    // Writes the only word that can be meant, where at most `most` symbols are wrong besides the erased, and tells whether there can be one.
-    fn find(
+    // Decodes into `symbols`: the one code word that differs at no more than `most` places outside the erasures, and tells whether there
+    // can be one. The points and the syndromes of the word are given.
+    fn decode(
         &self,
+        points: &[u16],
+        syndromes: &[u16],
         word: &[u16],
         erased: &[bool],
         most: usize,
-        points: &[u16],
-        syndromes: &mut [u16],
-        sums: &mut [u16],
-        coefficients: &mut [u16],
-        older: &mut [u16],
-        spare: &mut [u16],
+        scratch: &mut [u16],
         suspected: &mut [bool],
         symbols: &mut [u16],
     ) -> bool
         requires points { AreFallingPoints (F.product self.now.field) self.now.root self.now.word_length points.now }
         requires whole { length points.now ≡ self.now.word_length }
+        requires given { length syndromes.now ≡ self.now.word_length - self.now.dimension }
+        requires values { (m : ℕ) → m < self.now.word_length - self.now.dimension
+            → slice_index syndromes.now m ≡ code_value (F.product self.now.field) (length word.now) (slice_index word.now)
+            (power 1 (F.product self.now.field) self.now.root (self.now.first_root + m)) }
         requires long { length word.now ≡ self.now.word_length }
         requires elements { AreSymbols (F.width self.now.field) self.now.word_length word.now }
         requires erased { length erased.now ≡ self.now.word_length }
-        requires given { length syndromes.old ≡ self.now.word_length - self.now.dimension }
-        requires sums { length sums.old ≡ self.now.word_length - self.now.dimension }
-        requires coefficients { length coefficients.old ≡ self.now.word_length - self.now.dimension + 1 }
-        requires older { length older.old ≡ self.now.word_length - self.now.dimension + 1 }
-        requires spare { length spare.old ≡ self.now.word_length - self.now.dimension + 1 }
+        requires scratch { length scratch.old ≡ 4 * (self.now.word_length - self.now.dimension) + 3 }
         requires suspected { length suspected.old ≡ self.now.word_length }
         requires symbols { length symbols.old ≡ self.now.word_length }
         requires few { 2 * most + marked_below (is_marked erased.now) self.now.word_length
             ≤ self.now.word_length - self.now.dimension }
-        ensures given { length syndromes.new ≡ length syndromes.old }
-        ensures values { (m : ℕ) → m < self.now.word_length - self.now.dimension
-            → slice_index syndromes.new m ≡ code_value (F.product self.now.field) self.now.word_length (slice_index word.now)
-            (power 1 (F.product self.now.field) self.now.root (self.now.first_root + m)) }
         ensures marks { length suspected.new ≡ length suspected.old }
         ensures room { length symbols.new ≡ length symbols.old }
         ensures found { let times = F.product self.now.field in let n = self.now.word_length in (sent : ℕ → ℕ)
@@ -105,26 +106,29 @@ impl<F: SymbolField> FieldCode<F> {
             (falling_scale times self.now.root self.now.first_root n) (slice_index word.now) (is_marked erased.now) sent
             → IsTrue result × ((i : ℕ) → i < n → slice_index symbols.new i ≡ sent i) }
     {
-        self.syndromes(word, syndromes);
+        let checks = self.word_length - self.dimension;
+        let (sums, rows) = scratch.split_at_mut(checks);
+        let (coefficients, behind_coefficients) = rows.split_at_mut(checks + 1);
+        let (older, spare) = behind_coefficients.split_at_mut(checks + 1);
         sums.copy_from_slice(syndromes);
-        let left = self.sift(points, sums, erased, self.word_length);
+        let left = self.modified_syndromes(points, sums, erased, self.word_length);
         let size = write_register(self.field, sums, left, coefficients, older, spare);
         if size > most {
             return false;
         }
         suspected.copy_from_slice(erased);
-        self.suspect(points, &coefficients[..size + 1], symbols, suspected);
+        self.locate_errors(points, &coefficients[..size + 1], symbols, suspected);
         let count = count_marks(suspected, self.word_length);
-        if count > self.word_length - self.dimension {
+        if count > checks {
             return false;
         }
-        self.fill(points, syndromes, sums, word, suspected, symbols);
+        self.fill_erasures(points, syndromes, sums, word, suspected, symbols);
         true
     }
 
-    // Takes another word in place of the received one, if it is a code word and differs at no more than `most` places besides the erased. The
-    // places where they differ are marked, and it is returned how many they are. The values of the received word are given.
-    fn accept(
+    // Takes the decoded word in place of the received one, if it is a code word and differs at no more than `most` places besides the
+    // erased. The places where they differ are marked, and it is returned how many they are. The values of the received word are given.
+    fn check_decoded(
         &self,
         points: &[u16],
         word: &mut [u16],
@@ -173,70 +177,6 @@ impl<F: SymbolField> FieldCode<F> {
         Ok(count_marks(changed, self.word_length))
     }
 
-    // Corrects a word as `correct` does, in these parts of the room.
-    fn correct_in(
-        &self,
-        word: &mut [u16],
-        erasures: &[usize],
-        erased: &mut [bool],
-        changed: &mut [bool],
-        points: &mut [u16],
-        symbols: &mut [u16],
-        syndromes: &mut [u16],
-        sums: &mut [u16],
-        coefficients: &mut [u16],
-        older: &mut [u16],
-        spare: &mut [u16],
-    ) -> Result<usize, TooManyErrors>
-        requires long { length word.old ≡ self.now.word_length }
-        requires elements { AreSymbols (F.width self.now.field) self.now.word_length word.old }
-        requires erased { length erased.old ≡ self.now.word_length }
-        requires changed { length changed.old ≡ self.now.word_length }
-        requires points { length points.old ≡ self.now.word_length }
-        requires symbols { length symbols.old ≡ self.now.word_length }
-        requires given { length syndromes.old ≡ self.now.word_length - self.now.dimension }
-        requires sums { length sums.old ≡ self.now.word_length - self.now.dimension }
-        requires coefficients { length coefficients.old ≡ self.now.word_length - self.now.dimension + 1 }
-        requires older { length older.old ≡ self.now.word_length - self.now.dimension + 1 }
-        requires spare { length spare.old ≡ self.now.word_length - self.now.dimension + 1 }
-        ensures long { length word.new ≡ length word.old }
-        ensures room { length changed.new ≡ length changed.old }
-        ensures found { (sent : List ℕ) → IsMeantIn (F.width self.now.field) (F.product self.now.field) self.now.root self.now.first_root
-            self.now.word_length (self.now.word_length - self.now.dimension) word.old erasures.now sent
-            → IsOk result × (word.new ≡ sent) }
-        ensures right { OnOk result (IsMeantIn (F.width self.now.field) (F.product self.now.field) self.now.root self.now.first_root
-            self.now.word_length (self.now.word_length - self.now.dimension) word.old erasures.now word.new) }
-        ensures kept { OnErr result (word.new ≡ word.old) }
-        ensures within { IfOk result (λ count. (i : ℕ) → i < self.now.word_length
-            → is_marked changed.new i ≡ not (nat_eq (slice_index word.old i) (slice_index word.new i))) }
-        ensures count { IfOk result (λ count. count ≡ marked_below (is_marked changed.new) self.now.word_length) }
-    {
-        mark_listed(erasures, erased);
-        let count = count_marks(erased, self.word_length);
-        let checks = self.word_length - self.dimension;
-        if count > checks {
-            return Err(TooManyErrors);
-        }
-        let most = (checks - count) / 2;
-        self.write_points(points);
-        if !self.find(
-            word,
-            erased,
-            most,
-            points,
-            syndromes,
-            sums,
-            coefficients,
-            older,
-            spare,
-            changed,
-            symbols,
-        ) {
-            return Err(TooManyErrors);
-        }
-        self.accept(points, word, erased, most, symbols, syndromes, changed)
-    }
-
     /// How many numbers `correct` needs room for: two for each symbol of a word, five for each root, and three.
     pub fn room(&self) -> usize
         ensures { result ≡ 2 * self.now.word_length + 5 * (self.now.word_length - self.now.dimension) + 3 }
@@ -276,25 +216,23 @@ impl<F: SymbolField> FieldCode<F> {
             → is_marked changed.new i ≡ not (nat_eq (slice_index word.old i) (slice_index word.new i))) }
         ensures count { IfOk result (λ count. count ≡ marked_below (is_marked changed.new) self.now.word_length) }
     {
+        mark_listed(erasures, erased);
+        let count = count_marks(erased, self.word_length);
         let checks = self.word_length - self.dimension;
+        if count > checks {
+            return Err(TooManyErrors);
+        }
+        let most = (checks - count) / 2;
         let (points, behind_points) = room.split_at_mut(self.word_length);
         let (symbols, behind_symbols) = behind_points.split_at_mut(self.word_length);
-        let (syndromes, behind_syndromes) = behind_symbols.split_at_mut(checks);
-        let (sums, rows) = behind_syndromes.split_at_mut(checks);
-        let (coefficients, behind_coefficients) = rows.split_at_mut(checks + 1);
-        let (older, spare) = behind_coefficients.split_at_mut(checks + 1);
-        self.correct_in(
-            word,
-            erasures,
-            erased,
-            changed,
-            points,
-            symbols,
-            syndromes,
-            sums,
-            coefficients,
-            older,
-            spare,
-        )
+        let (syndromes, scratch) = behind_symbols.split_at_mut(checks);
+        self.write_points(points);
+        self.syndromes(word, syndromes);
+        if !self.decode(
+            points, syndromes, word, erased, most, scratch, changed, symbols,
+        ) {
+            return Err(TooManyErrors);
+        }
+        self.check_decoded(points, word, erased, most, symbols, syndromes, changed)
     }
 }

@@ -43,7 +43,7 @@ impl<F: SymbolField> FieldCode<F> {
 
     // The sums for the polynomial 1, which are the syndromes, become those for the product of x + p over the points p of
     // all marked places but `skipped`. How many are left is returned.
-    pub(crate) fn sift(
+    pub(crate) fn modified_syndromes(
         &self,
         points: &[u16],
         sums: &mut [u16],
@@ -128,13 +128,13 @@ impl<F: SymbolField> FieldCode<F> {
             → bit_xor (word place) result ≡ sent place }
     {
         sums.copy_from_slice(syndromes);
-        let _left = self.sift(points, sums, marked, place);
+        let _left = self.modified_syndromes(points, sums, marked, place);
         let inverse = self.field.invert(self.denominator(points, marked, place));
         self.field.multiply(sums[0], inverse)
     }
 
     // Writes the code word that has the symbols of a word at all places that are not marked, where there is one.
-    pub(crate) fn fill(
+    pub(crate) fn fill_erasures(
         &self,
         points: &[u16],
         syndromes: &[u16],

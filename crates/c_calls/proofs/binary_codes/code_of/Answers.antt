@@ -1,6 +1,6 @@
 use Rattle.std.proofs.Common.{ap, refl, sym, subst, ◌∙◌}
 use Rattle.std.proofs.lemmas.Bool.{false≢true}
-use Rattle.error_codes.specs.declared.byte_field.ByteField.{ByteField}
+use Rattle.reed_solomon.specs.declared.byte_field.ByteField.{ByteField}
 use Rattle.c_calls.specs.BinaryCodes.{IsBinaryCode}
 use Rattle.c_calls.specs.Codes.{code_root}
 use Rattle.c_calls.proofs.BinaryCalls.{one-field}

@@ -1,7 +1,7 @@
 use Rattle.std.proofs.Common.{◌-◌, take, refl, sym, ◌∙◌, arith}
 use Rattle.std.specs.Prelude.{nat_eq, not, slice_index}
 use Rattle.std.proofs.lemmas.Bool.{false≢true}
-use Rattle.error_codes.specs.ByteFields.{byte_times}
+use Rattle.reed_solomon.specs.ByteFields.{byte_times}
 use Rattle.error_codes.specs.Filling.{is_marked}
 use Rattle.error_codes.proofs.Meanings.{marks-same}
 use Rattle.c_calls.proofs.FlaggedPlaces.{marks-fit, meant-again}

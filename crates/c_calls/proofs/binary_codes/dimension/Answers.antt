@@ -1,5 +1,5 @@
 use Rattle.std.proofs.Common.{◌≡◌, ℕ, ◌-◌, refl}
-use Rattle.error_codes.specs.ByteFields.{byte_times}
+use Rattle.reed_solomon.specs.ByteFields.{byte_times}
 use Rattle.c_calls.specs.BinaryCodes.{HasData}
 use Rattle.c_calls.specs.declared.status.TheConstants.{OK}
 use Rattle.c_calls.proofs.BinaryCalls.{data-counted, over-binary, over-no-binary}

@@ -1,5 +1,5 @@
 use Rattle.std.proofs.Common.{◌≡◌, ◌-◌, length, slice_index}
-use Rattle.error_codes.specs.ByteFields.{byte_times}
+use Rattle.reed_solomon.specs.ByteFields.{byte_times}
 use Rattle.c_calls.specs.BinaryCodes.{IsMeantBitsBy}
 use Rattle.c_calls.specs.Codes.{IsCorrectedTo, nth_word}
 use Rattle.c_calls.proofs.ManyWords.{WordsChanged}

@@ -1,6 +1,6 @@
 use Rattle.std.proofs.Common.{ℕ, ◌-◌, ◌/◌, ◌<◌, List, length, subst}
 use Rattle.error_codes.specs.BinaryBch.{AreBinary}
-use Rattle.error_codes.specs.ByteFields.{byte_times}
+use Rattle.reed_solomon.specs.ByteFields.{byte_times}
 use Rattle.c_calls.specs.Codes.{IsEncodedWord}
 use Rattle.c_calls.proofs.CodeCalls.{data-waits}
 use Rattle.c_calls.proofs.ManyWords.{word_inside, words-lent}

@@ -2,7 +2,7 @@ use Rattle.std.proofs.Common.{◌+◌, ◌-◌, ◌*◌, ◌/◌, ◌<◌, ℕ, 
 use Rattle.std.specs.Prelude.{slice_index}
 use Rattle.std.proofs.lemmas.List.{get_or-set_other, get_or-set_same, length-set}
 use borrow.Rule.Slice.PartMut.{mid_of}
-use Rattle.error_codes.specs.ByteFields.{byte_times}
+use Rattle.reed_solomon.specs.ByteFields.{byte_times}
 use Rattle.c_calls.specs.Codes.{IsCorrectedWord, nth_word}
 use Rattle.c_calls.proofs.FlaggedPlaces.{flags_word}
 use Rattle.c_calls.proofs.ManyWords.{word_inside, words-lent, words-mapped}

@@ -1,5 +1,5 @@
 use Rattle.std.proofs.Common.{ℕ, ◌-◌, ◌/◌, ◌<◌, length, subst}
-use Rattle.error_codes.specs.ByteFields.{byte_times}
+use Rattle.reed_solomon.specs.ByteFields.{byte_times}
 use Rattle.c_calls.specs.Codes.{IsEncodedWord}
 use Rattle.c_calls.proofs.ManyWords.{word_inside, words-lent}
 use Rattle.c_calls.proofs.codes.encode_words.Goals as goal

@@ -1,5 +1,5 @@
 use Rattle.std.proofs.Common.{◌-◌}
-use Rattle.error_codes.specs.ByteFields.{byte_times}
+use Rattle.reed_solomon.specs.ByteFields.{byte_times}
 use Rattle.c_calls.specs.Codes.{IsEncodedWord}
 use Rattle.c_calls.proofs.ManyWords.{WordsChanged}
 use Rattle.c_calls.proofs.codes.encode_words.Given as goal

@@ -1,6 +1,6 @@
 use Rattle.std.proofs.Common.{◌+◌, ◌-◌, ◌*◌, ◌/◌, ◌<◌, ℕ, List, length, arith}
 use borrow.Rule.Slice.PartMut.{mid_of}
-use Rattle.error_codes.specs.ByteFields.{byte_times}
+use Rattle.reed_solomon.specs.ByteFields.{byte_times}
 use Rattle.error_codes.specs.Correcting.{HasRoots}
 use Rattle.c_calls.specs.Codes.{nth_word}
 use Rattle.c_calls.proofs.ManyWords.{answers-more, told, word-long, word_read}

@@ -1,7 +1,7 @@
 use Rattle.std.proofs.Common.{◌≡◌, ◌+◌, ◌-◌, ◌/◌, ◌<◌, ℕ, length, slice_index, take, subst, sym, ◌∙◌, arith}
 use lib.Seq.{length-take-le}
 use Rattle.field_base.specs.Powers.{power}
-use Rattle.error_codes.specs.ByteFields.{byte_times}
+use Rattle.reed_solomon.specs.ByteFields.{byte_times}
 use Rattle.error_codes.specs.Correcting.{code_value}
 use Rattle.c_calls.specs.Codes.{nth_word}
 use Rattle.c_calls.proofs.ManyWords.{values-read, word_before, word-long, word_read, words-written}

@@ -1,5 +1,5 @@
 use Rattle.std.proofs.Common.{◌-◌, take, ◌∙◌}
-use Rattle.error_codes.specs.ByteFields.{byte_times}
+use Rattle.reed_solomon.specs.ByteFields.{byte_times}
 use Rattle.c_calls.proofs.InterleavedWords.{words-settled}
 use Rattle.c_calls.proofs.interleaved_codes.correct_words.Goals as goal
 

@@ -14,8 +14,8 @@ returns-in-Ok c =
     let said = c.in-Ok.ensures.accepted.0 refl in
     let same : length c.args.wrong.now ≡ length c.args.indexes.now = omega arith in
     call_corrected c.in-Some.field c.args.modulus c.args.needed c.args.indexes.now c.args.shares.now c.args.secret.now
-    c.combine_correcting.new.secret c.in-Some.ensures said.0 c.args.wrong.now c.write_marks.new.flags same
-    (c.in-Some.field, c.in-Some.ensures, said.1, said.2) (c.in-Ok.ensures.combined refl)
+    c.combine_correcting.new.secret c.in-Some.ensures.0 c.in-Some.ensures.1 said.0 c.args.wrong.now c.write_marks.new.flags same
+    (c.in-Some.field, c.in-Some.ensures.0, said.1, said.2) (c.in-Ok.ensures.combined refl)
     (λ polynomials near i below.
     c.write_marks.ensures.flags i (omega (arith, below, same)) ∙ ap (λ (b : Bool). cond b 1 0) (c.in-Ok.ensures.named polynomials near i below))
     c.in-Ok.ensures.long c.write_marks.ensures.long
@@ -25,7 +25,7 @@ returns-in-Err-WrongShare c =
     let whole = c.in-Err-WrongShare.ensures.unlike c.in-Err-WrongShare.field-0-is in
     let same : length c.args.wrong.now ≡ length c.args.indexes.now = omega arith in
     call_lost c.in-Some.field c.args.modulus c.args.needed c.args.indexes.now c.args.shares.now c.args.secret.now
-    c.combine_correcting.new.secret c.in-Some.ensures whole c.args.wrong.now c.args.wrong.now same
+    c.combine_correcting.new.secret c.in-Some.ensures.0 c.in-Some.ensures.1 whole c.args.wrong.now c.args.wrong.now same
     (λ polynomials near.
     let none : false ≡ true = c.in-Err-WrongShare.ensures.accepted.1 (whole, polynomials, near) in absurd (cc))
     c.in-Err-WrongShare.ensures.same refl

@@ -1,9 +1,9 @@
 use Rattle.std.proofs.Common.{◌∙◌, sym, arith}
 use Rattle.std.proofs.lemmas.List.{length-set}
 use Rattle.field_base.proofs.PowerLemmas.{repeated_square-none}
-use Rattle.error_codes.specs.ByteFields.{byte_times}
+use Rattle.reed_solomon.specs.ByteFields.{byte_times}
 use Rattle.error_codes.proofs.BinaryCodes.{squaring-marked, squarings-none, squared-next}
-use Rattle.error_codes.specs.lemmas.ByteField.{bytes_are_fields}
+use Rattle.reed_solomon.proofs.ByteFields.{bytes_are_fields}
 use Rattle.error_codes.proofs.binary_bch.mark_squarings.Goals as goal
 
 pub loop-init : goal.loop-init

@@ -2,7 +2,7 @@ use Rattle.std.proofs.Common.{◌≡◌, ◌⊎◌, ◌<◌, ℕ, true, length}
 use Rattle.std.specs.Prelude.{◌↔◌}
 use Rattle.field_base.specs.Powers.{repeated_square}
 use Rattle.error_codes.specs.BinaryBch.{IsSquaring}
-use Rattle.error_codes.specs.ByteFields.{byte_times}
+use Rattle.reed_solomon.specs.ByteFields.{byte_times}
 use Rattle.error_codes.specs.Filling.{is_marked}
 use Rattle.error_codes.proofs.binary_bch.mark_squarings.Given as goal
 

@@ -1,10 +1,10 @@
 use Rattle.std.proofs.Common.{◌≡◌, ◌⊎◌, ◌↔◌, ℕ, ◌+◌, ◌<◌, true, subst, ◌∙◌, ap}
 use Rattle.field_base.specs.Powers.{power}
 use Rattle.error_codes.specs.BinaryBch.{IsSquaring}
-use Rattle.error_codes.specs.ByteFields.{byte_times}
+use Rattle.reed_solomon.specs.ByteFields.{byte_times}
 use Rattle.error_codes.specs.Filling.{is_marked}
 use Rattle.error_codes.proofs.BinaryCodes.{conjugates-more, conjugates-none}
-use Rattle.error_codes.specs.lemmas.ByteField.{bytes_are_fields}
+use Rattle.reed_solomon.proofs.ByteFields.{bytes_are_fields}
 use Rattle.error_codes.proofs.binary_bch.marked_conjugates.Goals as goal
 
 pub loop-m-init : goal.loop-m-init

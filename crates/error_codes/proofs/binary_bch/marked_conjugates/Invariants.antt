@@ -1,5 +1,5 @@
 use Rattle.error_codes.specs.BinaryBch.{MarkConjugates}
-use Rattle.error_codes.specs.ByteFields.{byte_times}
+use Rattle.reed_solomon.specs.ByteFields.{byte_times}
 use Rattle.error_codes.specs.Filling.{is_marked}
 use Rattle.error_codes.proofs.binary_bch.marked_conjugates.Given as goal
 

@@ -1,8 +1,8 @@
 use Rattle.std.proofs.Common.{refl, sym, arith}
 use Rattle.field_base.specs.Powers.{power}
 use Rattle.field_base.proofs.PowerLemmas.{times-one}
-use Rattle.error_codes.specs.ByteFields.{byte_times}
-use Rattle.error_codes.specs.lemmas.ByteField.{bytes_are_fields}
+use Rattle.reed_solomon.specs.ByteFields.{byte_times}
+use Rattle.reed_solomon.proofs.ByteFields.{bytes_are_fields}
 use Rattle.error_codes.proofs.CodeValues.{entry-more, next-product}
 use Rattle.error_codes.proofs.code.rising_powers.Goals as goal
 

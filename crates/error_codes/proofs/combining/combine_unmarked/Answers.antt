@@ -71,7 +71,7 @@ returns-clause-combined c = λ e j cs inside through.
     let all = unmarked.ensures.places.all in
     c.restore.ensures.restored j inside
     ∙ sym
-    (is_through c.args.field c.is_field.ensures c.args.needed count (slice_index unmarked.result.indexes)
+    (is_through c.args.field c.args.needed count (slice_index unmarked.result.indexes)
     (listed_share size c.args.shares.now unmarked.result.places j) (omega (arith, all, c.requires.enough))
     (unmarked-distinct marked n count unmarked.result.places unmarked.result.indexes c.args.indexes.now unmarked.ensures.places
     unmarked.ensures.indexes c.requires.checked.distinct)

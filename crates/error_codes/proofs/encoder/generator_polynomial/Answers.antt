@@ -1,8 +1,8 @@
 use Rattle.std.proofs.Common.{slice_index, ◌∙◌, arith, lit<}
 use Rattle.std.proofs.Common.{replicate}
 use Rattle.std.proofs.lemmas.List.{get_or-set_other, get_or-set_same}
-use Rattle.error_codes.specs.ByteFields.{byte_times}
-use Rattle.error_codes.specs.lemmas.ByteField.{bytes_are_fields}
+use Rattle.reed_solomon.specs.ByteFields.{byte_times}
+use Rattle.reed_solomon.proofs.ByteFields.{bytes_are_fields}
 use Rattle.error_codes.proofs.CodeValues.{zeros-at}
 use Rattle.error_codes.proofs.Encoding.{generator-more}
 use Rattle.error_codes.proofs.encoder.generator_polynomial.Goals as goal

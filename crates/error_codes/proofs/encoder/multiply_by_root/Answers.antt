@@ -4,8 +4,8 @@ use Rattle.std.proofs.lemmas.Bool.{cases_lt}
 use Rattle.std.proofs.lemmas.List.{get_or-set_other}
 use lib.Bits.{xor_zero_r}
 use Rattle.field_base.proofs.RingLemmas.{times-zero}
-use Rattle.error_codes.specs.ByteFields.{byte_times}
-use Rattle.error_codes.specs.lemmas.ByteField.{bytes_are_fields}
+use Rattle.reed_solomon.specs.ByteFields.{byte_times}
+use Rattle.reed_solomon.proofs.ByteFields.{bytes_are_fields}
 use Rattle.error_codes.proofs.CodeValues.{next-entry}
 use Rattle.error_codes.proofs.encoder.multiply_by_root.Goals as goal
 

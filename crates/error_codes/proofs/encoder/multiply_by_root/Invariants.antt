@@ -1,6 +1,6 @@
 use Rattle.std.proofs.Common.{◌≡◌, ◌<◌, ◌≤◌, ◌+◌, ℕ, length, slice_index}
 use Rattle.std.specs.Prelude.{bit_xor}
-use Rattle.error_codes.specs.ByteFields.{byte_times}
+use Rattle.reed_solomon.specs.ByteFields.{byte_times}
 use Rattle.error_codes.proofs.encoder.multiply_by_root.Given as goal
 
 abbrev pub invariant-loop-j : goal.invariant-loop-j

@@ -1,8 +1,8 @@
 use Rattle.std.proofs.Common.{◌*◌, ◌+◌, ◌-◌, ◌≡◌, ◌<◌, ℕ, List, length, slice_index, sym, subst, ◌∙◌, ap, arith, lit<}
 use Rattle.field_base.specs.Basis.{sum_below}
-use Rattle.error_codes.specs.ByteFields.{byte_times}
+use Rattle.reed_solomon.specs.ByteFields.{byte_times}
 use Rattle.error_codes.specs.Correcting.{code_value}
-use Rattle.error_codes.specs.lemmas.ByteField.{bytes_are_fields}
+use Rattle.reed_solomon.proofs.ByteFields.{bytes_are_fields}
 use Rattle.error_codes.proofs.CodeValues.{horner-more, value-lt, zeros-at}
 use Rattle.error_codes.proofs.Encoding.{value-same}
 use Rattle.error_codes.proofs.WordColumns.{part-at, word-at}

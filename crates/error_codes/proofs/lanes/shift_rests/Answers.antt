@@ -4,8 +4,8 @@ use Rattle.std.specs.Simd.Lanes.{chunk}
 use Rattle.std.proofs.lemmas.Nat.{xor_lt}
 use Rattle.std.proofs.lemmas.Simd.{Each1-get_or, get_or-chunk, get_or-zip2, length-chunk}
 use Rattle.word_tables.specs.Nibbles.{entry_sum}
-use Rattle.error_codes.specs.ByteFields.{byte_times}
-use Rattle.error_codes.specs.lemmas.ByteField.{bytes_are_fields}
+use Rattle.reed_solomon.specs.ByteFields.{byte_times}
+use Rattle.reed_solomon.proofs.ByteFields.{bytes_are_fields}
 use Rattle.error_codes.proofs.LaneRegisters.{RowsWritten, product-looked_up, rows-more, rows-none}
 use Rattle.error_codes.proofs.lanes.shift_rests.Goals as goal
 

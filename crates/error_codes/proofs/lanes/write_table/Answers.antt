@@ -1,5 +1,5 @@
 use Rattle.std.proofs.Common.{arith}
-use Rattle.error_codes.specs.ByteFields.{byte_times}
+use Rattle.reed_solomon.specs.ByteFields.{byte_times}
 use Rattle.error_codes.proofs.LaneRegisters.{table-more, table-none}
 use Rattle.error_codes.proofs.lanes.write_table.Goals as goal
 

@@ -1,4 +1,4 @@
-use Rattle.error_codes.specs.ByteFields.{byte_times}
+use Rattle.reed_solomon.specs.ByteFields.{byte_times}
 use Rattle.error_codes.proofs.LaneRegisters.{TableWritten}
 use Rattle.error_codes.proofs.lanes.write_table.Given as goal
 

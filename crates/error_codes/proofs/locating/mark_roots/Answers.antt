@@ -3,7 +3,7 @@ use Rattle.std.specs.Prelude.{nat_eq, ◌||◌}
 use Rattle.error_codes.specs.Correcting.{code_value}
 use Rattle.error_codes.specs.Filling.{is_marked}
 use Rattle.error_codes.proofs.Marking.{IsWritten, mark-left, mark-set, root-left, root-marked}
-use Rattle.error_codes.specs.Fields.{product_in}
+use Rattle.reed_solomon.specs.ByteFields.{byte_times}
 use Rattle.error_codes.proofs.locating.mark_roots.Goals as goal
 use Rattle.error_codes.proofs.locating.mark_roots.Goals.{then-value-eq0, else-value-eq0}
 
@@ -26,7 +26,7 @@ loop-i-preserved c =
     ]
   where
     root_value : ℕ → ℕ
-    root_value j = code_value (product_in c.args.field) (c.args.register.now.size + 1) (slice_index c.args.register.now.coefficients)
+    root_value j = code_value (byte_times c.args.field) (c.args.register.now.size + 1) (slice_index c.args.register.now.coefficients)
         (slice_index c.args.indexes.now j)
 
     before : ℕ → Bool

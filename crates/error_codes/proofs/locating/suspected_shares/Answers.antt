@@ -1,11 +1,11 @@
-use Rattle.std.proofs.Common.{◌≡◌, ◌+◌, ◌*◌, ◌-◌, ◌∙◌, ℕ, Bool, length, slice_index, sym, ap, ap₂, subst, arith}
+use Rattle.std.proofs.Common.{◌≡◌, ◌+◌, ◌*◌, ◌∙◌, ℕ, Bool, length, slice_index, sym, ap, ap₂, arith}
 use Rattle.std.specs.Prelude.{nat_eq, not, ◌||◌}
 use Rattle.field_slices.specs.Marks.{marked_below}
 use Rattle.error_codes.specs.Filling.{is_marked}
-use Rattle.error_codes.specs.Registers.{IsShortest}
 use Rattle.error_codes.proofs.Marking.{count-none}
 use Rattle.error_codes.proofs.Meanings.{marks-same}
-use Rattle.error_codes.specs.Fields.{product_in}
+use Rattle.reed_solomon.specs.ByteFields.{byte_times}
+use Rattle.reed_solomon.proofs.ByteFields.{bytes_are_fields}
 use Rattle.error_codes.specs.Sharing.{share_at}
 use Rattle.error_codes.specs.Wrong.{is_wrong_byte, is_wrong_share}
 use Rattle.error_codes.proofs.Located.{register-counts, roots-wrong, some-more}
@@ -30,13 +30,12 @@ returns-then-register-checks-clause-found c = λ polynomials near.
     let register = c.shortest_register-register in
     let few = few-wrong field c.args.needed c.args.indexes.now c.args.size c.args.shares.now polynomials near j c.loop-j-test.true in
     let counts =
-    register-counts (product_in field) c.is_field.ensures c.args.needed n (slice_index c.args.indexes.now)
+    register-counts (byte_times field) (bytes_are_fields c.args.field) c.args.needed n (slice_index c.args.indexes.now)
     (share_at c.args.size c.args.shares.now j) (slice_index c.scales_of-scales.result) (polynomials j)
     (near.coefficient_count j c.loop-j-test.true) (omega (arith, checked.two)) checked.enough checked.distinct
     (λ i. (c.type_inv.shares (i * c.args.size + j)).fits) c.scales_of-scales.ensures few (slice_index c.syndromes_of-sums.result)
     c.syndromes_of-sums.ensures register.result.size (slice_index register.result.coefficients)
-    (subst (λ (times : ℕ → ℕ → ℕ). IsShortest times (slice_index c.syndromes_of-sums.result) register.result.size (n - c.args.needed)
-    (slice_index register.result.coefficients)) c.byte_field.ensures register.ensures) in
+    register.ensures in
     absurd (omega (arith, counts, few, c.if-register-checks.true, checked.enough))
 
 pub loop-j-preserved : goal.loop-j-preserved
@@ -51,15 +50,14 @@ loop-j-preserved c =
           c.mark_roots.ensures.marked i below
           ∙ ap₂ (λ (a b : Bool). a || b) (c.loop-j.invariant.0 polynomials near i below)
           (sym
-          (roots-wrong (product_in field) c.is_field.ensures c.args.needed n (slice_index c.args.indexes.now)
+          (roots-wrong (byte_times field) (bytes_are_fields c.args.field) c.args.needed n (slice_index c.args.indexes.now)
           (share_at c.args.size c.args.shares.now j) (slice_index c.scales_of-scales.result) (polynomials j)
           (near.coefficient_count j c.loop-j-test.true) (omega (arith, checked.two)) checked.enough checked.distinct
           (λ i. (c.type_inv.shares (i * c.args.size + j)).fits) c.scales_of-scales.ensures
           (few-wrong field c.args.needed c.args.indexes.now c.args.size c.args.shares.now polynomials near j c.loop-j-test.true)
           (slice_index c.syndromes_of-sums.result) c.syndromes_of-sums.ensures register.result.size
           (slice_index register.result.coefficients)
-          (subst (λ (times : ℕ → ℕ → ℕ). IsShortest times (slice_index c.syndromes_of-sums.result) register.result.size (n - c.args.needed)
-          (slice_index register.result.coefficients)) c.byte_field.ensures register.ensures) i below))
+          register.ensures i below))
           ∙ sym (some-more wrong j),
       λ i above. c.mark_roots.ensures.behind i above ∙ c.loop-j.invariant.1 i above,
     )

@@ -3,7 +3,7 @@ use Rattle.std.proofs.lemmas.List.{get_or-set_other, get_or-set_same, length-set
 use Rattle.field_base.specs.Powers.{power}
 use Rattle.error_codes.specs.Checks.{syndrome}
 use Rattle.error_codes.proofs.Moments.{sum-same}
-use Rattle.error_codes.specs.Fields.{product_in}
+use Rattle.reed_solomon.specs.ByteFields.{byte_times}
 use Rattle.error_codes.specs.Sharing.{share_at}
 use Rattle.error_codes.proofs.Loops.{first-term, next-term}
 use Rattle.error_codes.proofs.locating.syndromes_of.Goals as goal
@@ -19,9 +19,9 @@ loop-m-init c = (
 
 pub loop-m-preserved : goal.loop-m-preserved
 loop-m-preserved c =
-    let times = product_in c.args.field in
+    let times = byte_times c.args.field in
     let n : ℕ = length c.args.indexes.now in
-    let term = λ (i : ℕ). product_in c.args.field (slice_index c.args.scales.now i) (share_at c.args.size c.args.shares.now c.args.j i) in (
+    let term = λ (i : ℕ). byte_times c.args.field (slice_index c.args.scales.now i) (share_at c.args.size c.args.shares.now c.args.j i) in (
       length-set c.loop-m.sums _ _ ∙ c.loop-m.invariant.0,
       below_more
           (λ m. slice_index (set c.loop-m.sums c.loop-m.m c.next_sum.result) m

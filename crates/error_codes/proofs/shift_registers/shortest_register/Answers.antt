@@ -1,5 +1,5 @@
 use Rattle.std.proofs.Common.{◌<◌, ◌^◌, ℕ, List, slice_index, sym, subst}
-use Rattle.error_codes.specs.ByteFields.{byte_times}
+use Rattle.reed_solomon.specs.ByteFields.{byte_times}
 use Rattle.error_codes.specs.Registers.{IsShortest}
 use Rattle.error_codes.proofs.shift_registers.shortest_register.Goals as goal
 

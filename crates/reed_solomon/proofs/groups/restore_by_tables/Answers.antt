@@ -1,7 +1,8 @@
 use Rattle.std.proofs.Common.{◌≡◌, ◌+◌, ◌-◌, ◌*◌, ◌<◌, ◌≤◌, ℕ, length, take, drop, slice_index, refl, sym, ◌∙◌, ap, subst, arith}
 use Rattle.std.proofs.lemmas.List.{get_or-take, length-take-le}
 use Rattle.field_base.specs.Interpolation.{lagrange}
-use Rattle.reed_solomon.specs.ErasureField.{erasure_product}
+use Rattle.reed_solomon.specs.ByteFields.{byte_times}
+use Rattle.reed_solomon.specs.declared.byte_field.ByteField.TheVariants.{Qr}
 use Rattle.reed_solomon.specs.Tables.{AreApart, HasRow}
 use Rattle.reed_solomon.proofs.GroupWriting.{apart_places, group_symbols, group_written}
 use Rattle.reed_solomon.proofs.Strips.{part_at, part_length}
@@ -55,7 +56,7 @@ loop-done-preserved c =
           (λ j below. get_or-take count starts j 0 below ∙ c.starts_of-starts.ensures.starts j below)
           (λ row below. ap (λ (p : ℕ). p * size) (part_at done gap group row c.args.targets.now same below))
           (λ row below.
-          subst (λ (x : ℕ). HasRow (λ j. lagrange 8 erasure_product place count j x) c.set_rows.new.entries row count)
+          subst (λ (x : ℕ). HasRow (λ j. lagrange 8 (byte_times Qr) place count j x) c.set_rows.new.entries row count)
           (part_at done gap group row c.args.targets.now same below) (c.set_rows.ensures.set row (omega (arith, below, points))))
           c.bytes_fit.ensures c.restore_group.ensures),
     )

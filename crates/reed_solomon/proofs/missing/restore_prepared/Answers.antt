@@ -1,7 +1,8 @@
 use Rattle.std.proofs.Common.{◌≡◌, ◌⊎◌, ◌+◌, ◌-◌, ◌*◌, ◌<◌, ◌≤◌, ℕ, length, take, drop, slice_index, sym, ◌∙◌, ap, subst, arith}
 use Rattle.std.proofs.lemmas.List.{get_or-take, length-take-le}
 use Rattle.field_base.specs.Interpolation.{lagrange}
-use Rattle.reed_solomon.specs.ErasureField.{erasure_product}
+use Rattle.reed_solomon.specs.ByteFields.{byte_times}
+use Rattle.reed_solomon.specs.declared.byte_field.ByteField.TheVariants.{Qr}
 use Rattle.reed_solomon.specs.Samples.{symbol_at}
 use Rattle.reed_solomon.specs.Tables.{AreApart, AreWritten}
 use Rattle.reed_solomon.proofs.GroupWriting.{apart_places, group_symbols, group_written}
@@ -63,7 +64,7 @@ loop-group-preserved c =
           (length-take-le k starts (omega (arith, c.requires.sample, c.starts_of-starts.ensures.long)))
           (λ j below. get_or-take k starts j 0 below ∙ c.starts_of-starts.ensures.starts j below)
           (λ row below. ap (λ (p : ℕ). p * size) (part_at done gap n row targets same below))
-          (group_tables (λ t j. lagrange 8 erasure_product place k j (target t)) k c.args.count group n c.args.tables.now all c.group_size.ensures)
+          (group_tables (λ t j. lagrange 8 (byte_times Qr) place k j (target t)) k c.args.count group n c.args.tables.now all c.group_size.ensures)
           c.bytes_fit.ensures c.restore_group.ensures),
     )
 

@@ -1,7 +1,8 @@
 use Rattle.std.proofs.Common.{◌-◌, ◌*◌, ◌/◌, ◌%◌, ◌<◌, ◌≤◌, ℕ, length, drop, slice_index, sym, ◌∙◌, subst, arith}
 use Rattle.std.proofs.lemmas.List.{get_or-take, length-take-le}
 use Rattle.field_base.specs.Interpolation.{lagrange}
-use Rattle.reed_solomon.specs.ErasureField.{erasure_product}
+use Rattle.reed_solomon.specs.ByteFields.{byte_times}
+use Rattle.reed_solomon.specs.declared.byte_field.ByteField.TheVariants.{Qr}
 use Rattle.reed_solomon.specs.Parity.{tables_length}
 use Rattle.reed_solomon.specs.Shards.{IsPresent}
 use Rattle.reed_solomon.specs.Tables.{HasRow}
@@ -45,7 +46,7 @@ returns-clause-prepared c =
       lost = c.missing_places-missing.ensures.missing;
       rows = λ t below.
           subst
-          (λ (x : ℕ). HasRow (λ j. lagrange 8 erasure_product (slice_index c.args.sample.now.places) k j x)
+          (λ (x : ℕ). HasRow (λ j. lagrange 8 (byte_times Qr) (slice_index c.args.sample.now.places) k j x)
           (drop (128 * k * (t / 4)) c.write_tables.new.tables) (t % 4) k)
           (get_or-take missing targets t 0 below) (c.write_tables.ensures.set t (omega (arith, below, listed)));
     }

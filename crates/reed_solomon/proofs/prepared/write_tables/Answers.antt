@@ -2,7 +2,8 @@ use Rattle.std.proofs.Common.{◌≡◌, ◌+◌, ◌-◌, ◌*◌, ◌≤◌, �
 use Rattle.std.proofs.lemmas.List.{length-take-le}
 use Rattle.std.proofs.lemmas.Slice.{take-put_mid}
 use Rattle.field_base.specs.Interpolation.{lagrange}
-use Rattle.reed_solomon.specs.ErasureField.{erasure_product}
+use Rattle.reed_solomon.specs.ByteFields.{byte_times}
+use Rattle.reed_solomon.specs.declared.byte_field.ByteField.TheVariants.{Qr}
 use Rattle.reed_solomon.specs.Tables.{HasRow}
 use Rattle.reed_solomon.proofs.PreparedTables.{AreTablesBefore, no_tables, rows_room, tables_more, tables_whole}
 use Rattle.reed_solomon.proofs.Strips.{part_at, part_length}
@@ -26,7 +27,7 @@ loop-group-preserved c =
     let same : gap ≡ count = omega arith in
     let inside : 4 * group + count ≤ m = omega (arith, c.group_size.ensures, c.loop-group-test.true) in
     let listed = part_length (4 * group) gap count points same inside in
-    let factor = λ (t j : ℕ). lagrange 8 erasure_product (slice_index c.args.sample.now.places) k j (slice_index points t) in
+    let factor = λ (t j : ℕ). lagrange 8 (byte_times Qr) (slice_index c.args.sample.now.places) k j (slice_index points t) in
     let room = rows_room k m group c.loop-group.tables (omega (arith, c.loop-group.auto.tables, c.requires.room)) c.loop-group-test.true in
     let long : 128 * k ≤ length entries = omega (arith, c.args.sample.now.few, c.set_rows.ensures.long) in
     subst (AreTablesBefore factor k m (group + 1))
@@ -35,7 +36,7 @@ loop-group-preserved c =
     (tables_more factor k m group count (take start c.loop-group.tables) entries _ c.loop-group.invariant c.loop-group-test.true
     c.copy_from_slice.ensures.after long c.group_size.ensures
     (λ row below.
-    subst (λ (x : ℕ). HasRow (λ j. lagrange 8 erasure_product (slice_index c.args.sample.now.places) k j x) entries row k)
+    subst (λ (x : ℕ). HasRow (λ j. lagrange 8 (byte_times Qr) (slice_index c.args.sample.now.places) k j x) entries row k)
     (part_at (4 * group) gap count row points same below) (c.set_rows.ensures.set row (omega (arith, below, listed)))))
 
 pub returns-clause-set : goal.returns-clause-set

@@ -1,6 +1,7 @@
 use Rattle.std.proofs.Common.{◌≡◌, refl, slice_index, ◌∙◌, ap, arith}
 use Rattle.field_base.specs.Interpolation.{other_factors}
-use Rattle.reed_solomon.specs.ErasureField.{erasure_product}
+use Rattle.reed_solomon.specs.ByteFields.{byte_times}
+use Rattle.reed_solomon.specs.declared.byte_field.ByteField.TheVariants.{Qr}
 use Rattle.reed_solomon.proofs.Factors.{no_factors, factor_step, factor_skipped, denominator-nonzero}
 use Rattle.reed_solomon.proofs.sample.other_differences.Goals as goal
 use Rattle.reed_solomon.proofs.sample.other_differences.Goals.{then-i-own, else-i-own}
@@ -30,7 +31,7 @@ pub returns-clause-product : goal.returns-clause-product
 returns-clause-product c =
     let point = slice_index c.args.places.now in
     let end : c.loop-i.i ≡ c.args.count = omega arith in
-    c.loop-i.invariant.0 ∙ ap (other_factors erasure_product point c.args.own (point c.args.own)) end
+    c.loop-i.invariant.0 ∙ ap (other_factors (byte_times Qr) point c.args.own (point c.args.own)) end
 
 pub returns-clause-invertible : goal.returns-clause-invertible
 returns-clause-invertible c =

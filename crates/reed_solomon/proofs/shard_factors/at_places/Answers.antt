@@ -1,7 +1,8 @@
 use Rattle.std.proofs.Common.{◌≡◌, ◌<◌, slice_index, refl, sym, ap, ◌∙◌, arith}
 use Rattle.std.proofs.lemmas.List.{length-set, get_or-set_other}
 use Rattle.field_base.specs.Basis.{sum_below}
-use Rattle.reed_solomon.specs.ErasureField.{erasure_product}
+use Rattle.reed_solomon.specs.ByteFields.{byte_times}
+use Rattle.reed_solomon.specs.declared.byte_field.ByteField.TheVariants.{Qr}
 use Rattle.reed_solomon.proofs.MissingFactors.{no_factor_placed, zeros_have_no_factor, factor_placed}
 use Rattle.reed_solomon.proofs.shard_factors.at_places.Goals as goal
 
@@ -40,4 +41,4 @@ returns-clause-sums c = λ total symbol inside.
     let sample = c.args.sample.now in
     let end : c.loop-j.j ≡ sample.count = omega arith in
     c.loop-j.invariant.2 total symbol (λ j below. inside j (omega (arith, below)))
-    ∙ ap (sum_below (λ j. erasure_product (slice_index c.args.factors.now j) (symbol (slice_index sample.places j)))) end
+    ∙ ap (sum_below (λ j. byte_times Qr (slice_index c.args.factors.now j) (symbol (slice_index sample.places j)))) end

@@ -1,10 +1,10 @@
 use Rattle.std.proofs.Common.{◌≡◌, inl, inr, ◌+◌, ◌-◌, ◌<◌, ℕ, length, slice_index, replicate, refl, sym, subst, ◌∙◌, ap, arith, lit<}
 use Rattle.std.proofs.lemmas.Bool.{cases_lt}
 use Rattle.field_base.specs.Powers.{power}
-use Rattle.error_codes.specs.ByteFields.{byte_times}
+use Rattle.reed_solomon.specs.ByteFields.{byte_times}
 use Rattle.error_codes.specs.Correcting.{code_value}
 use Rattle.error_codes.proofs.BinaryCodes.{bits-shifted}
-use Rattle.error_codes.specs.lemmas.ByteField.{bytes_are_fields}
+use Rattle.reed_solomon.proofs.ByteFields.{bytes_are_fields}
 use Rattle.error_codes.proofs.CodeValues.{entry-behind, zeros-at}
 use Rattle.error_codes.proofs.Encoding.{rest-completes, rest-more, rest-starts}
 use Rattle.error_codes.proofs.binary_bch.BinaryBch.encode.Goals as goal

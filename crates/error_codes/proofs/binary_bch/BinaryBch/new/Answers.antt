@@ -1,6 +1,6 @@
 use Rattle.std.proofs.Common.{◌≡◌, ◌-◌, ◌*◌, refl, sym, arith}
 use Rattle.field_base.specs.Powers.{power}
-use Rattle.error_codes.specs.ByteFields.{byte_generator, byte_times}
+use Rattle.reed_solomon.specs.ByteFields.{byte_generator, byte_times}
 use Rattle.error_codes.proofs.BinaryCodes.{few-read}
 use Rattle.error_codes.proofs.binary_bch.BinaryBch.new.Goals as goal
 

@@ -1,9 +1,9 @@
 use Rattle.std.proofs.Common.{◌-◌, ◌∙◌, arith}
 use Rattle.std.specs.Prelude.{slice_index}
-use Rattle.error_codes.specs.ByteFields.{byte_times}
+use Rattle.reed_solomon.specs.ByteFields.{byte_times}
 use Rattle.error_codes.specs.Filling.{is_marked}
 use Rattle.error_codes.proofs.BinaryCodes.{generator-bits, generator-zeros, marks-agree}
-use Rattle.error_codes.specs.lemmas.ByteField.{bytes_are_fields}
+use Rattle.reed_solomon.proofs.ByteFields.{bytes_are_fields}
 use Rattle.error_codes.proofs.binary_bch.BinaryBch.of_code.Goals as goal
 
 pub invariant_of-result : goal.invariant_of-result

@@ -1,6 +1,6 @@
 use Rattle.std.proofs.Common.{◌≡◌, ◌-◌, ◌<◌, ℕ, length, slice_index}
 use Rattle.std.specs.Prelude.{nat_eq}
-use Rattle.error_codes.specs.ByteFields.{byte_times}
+use Rattle.reed_solomon.specs.ByteFields.{byte_times}
 use Rattle.error_codes.specs.Interleaved.{IsSettled}
 use Rattle.error_codes.proofs.WordColumns.{ColumnsChanged}
 use Rattle.error_codes.proofs.code.CorrectingCode.correct_interleaved.Given as goal

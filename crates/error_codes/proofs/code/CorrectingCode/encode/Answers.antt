@@ -1,8 +1,8 @@
 use Rattle.std.proofs.Common.{◌≡◌, ◌+◌, ◌-◌, ℕ, length, slice_index, replicate, refl, sym, ◌∙◌, ap, arith, lit<}
 use Rattle.field_base.specs.Powers.{power}
-use Rattle.error_codes.specs.ByteFields.{byte_times}
+use Rattle.reed_solomon.specs.ByteFields.{byte_times}
 use Rattle.error_codes.specs.Correcting.{code_value}
-use Rattle.error_codes.specs.lemmas.ByteField.{bytes_are_fields}
+use Rattle.reed_solomon.proofs.ByteFields.{bytes_are_fields}
 use Rattle.error_codes.proofs.CodeValues.{entry-behind, zeros-at}
 use Rattle.error_codes.proofs.Encoding.{rest-completes, rest-more, rest-starts}
 use Rattle.error_codes.proofs.code.CorrectingCode.encode.Goals as goal

@@ -2,10 +2,10 @@ use Rattle.std.proofs.Common.{◌≡◌, inl, inr, ◌<◌, ◌≤◌, ◌+◌, 
 use Rattle.std.specs.Prelude.{bit_xor}
 use Rattle.std.proofs.lemmas.List.{length-replicate}
 use Rattle.field_base.specs.Powers.{power}
-use Rattle.error_codes.specs.ByteFields.{byte_times}
+use Rattle.reed_solomon.specs.ByteFields.{byte_times}
 use Rattle.error_codes.specs.Correcting.{code_value}
 use Rattle.error_codes.specs.Interleaved.{interleaved_word}
-use Rattle.error_codes.specs.lemmas.ByteField.{bytes_are_fields}
+use Rattle.reed_solomon.proofs.ByteFields.{bytes_are_fields}
 use Rattle.error_codes.proofs.CodeValues.{zeros-at}
 use Rattle.error_codes.proofs.Encoding.{rest-completes, rest-more, rest-starts}
 use Rattle.error_codes.proofs.LaneRegisters.{written-more, written-none}

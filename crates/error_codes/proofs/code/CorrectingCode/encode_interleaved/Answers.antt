@@ -1,5 +1,5 @@
 use Rattle.std.proofs.Common.{◌≡◌, ◌-◌, ◌<◌, ℕ, slice_index, arith}
-use Rattle.error_codes.specs.ByteFields.{byte_times}
+use Rattle.reed_solomon.specs.ByteFields.{byte_times}
 use Rattle.error_codes.specs.Correcting.{HasRoots}
 use Rattle.error_codes.proofs.WordColumns.{columns-more}
 use Rattle.error_codes.proofs.code.CorrectingCode.encode_interleaved.Goals as goal

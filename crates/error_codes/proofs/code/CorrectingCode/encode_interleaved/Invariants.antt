@@ -1,5 +1,5 @@
 use Rattle.std.proofs.Common.{◌≡◌, ◌-◌, ◌<◌, ℕ, slice_index}
-use Rattle.error_codes.specs.ByteFields.{byte_times}
+use Rattle.reed_solomon.specs.ByteFields.{byte_times}
 use Rattle.error_codes.specs.Correcting.{HasRoots}
 use Rattle.error_codes.proofs.WordColumns.{ColumnsChanged}
 use Rattle.error_codes.proofs.code.CorrectingCode.encode_interleaved.Given as goal

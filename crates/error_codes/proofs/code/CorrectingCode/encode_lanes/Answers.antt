@@ -1,5 +1,5 @@
 use Rattle.std.proofs.Common.{◌-◌, List, ℕ, refl, sym, ◌∙◌, arith}
-use Rattle.error_codes.specs.ByteFields.{byte_times}
+use Rattle.reed_solomon.specs.ByteFields.{byte_times}
 use Rattle.error_codes.specs.Correcting.{HasRoots}
 use Rattle.error_codes.proofs.LaneRegisters.{words-joined}
 use Rattle.error_codes.proofs.WordColumns.{word-at}

@@ -1,8 +1,8 @@
 use Rattle.std.proofs.Common.{◌≡◌, ◌≢◌, ℕ, slice_index, refl, sym, ◌∙◌, ap, subst, arith, lit<}
 use Rattle.field_base.specs.Powers.{power}
-use Rattle.error_codes.specs.ByteFields.{byte_generator, byte_times}
+use Rattle.reed_solomon.specs.ByteFields.{byte_generator, byte_times}
 use Rattle.error_codes.specs.Correcting.{HasOrder}
-use Rattle.error_codes.specs.lemmas.ByteField.{bytes_are_fields, generator-fits, generator-nonzero}
+use Rattle.reed_solomon.proofs.ByteFields.{bytes_are_fields, generator-fits, generator-nonzero}
 use Rattle.error_codes.proofs.CodeValues.{order-scaled, root-power}
 use Rattle.error_codes.proofs.Generators.{power-nonzero}
 use Rattle.error_codes.proofs.code.CorrectingCode.new.Goals as goal

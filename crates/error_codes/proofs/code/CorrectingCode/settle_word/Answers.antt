@@ -1,7 +1,7 @@
 use Rattle.std.proofs.Common.{◌-◌, ◌*◌, ◌+◌, ◌<◌, ℕ, subst, sym, arith}
-use Rattle.error_codes.specs.ByteFields.{byte_times}
+use Rattle.reed_solomon.specs.ByteFields.{byte_times}
 use Rattle.error_codes.specs.Interleaved.{interleaved_word}
-use Rattle.error_codes.specs.lemmas.ByteField.{bytes_are_fields}
+use Rattle.reed_solomon.proofs.ByteFields.{bytes_are_fields}
 use Rattle.error_codes.proofs.CleanWords.{clean-settled}
 use Rattle.error_codes.proofs.WordColumns.{word-at, word-length}
 use Rattle.error_codes.proofs.code.CorrectingCode.settle_word.Goals as goal

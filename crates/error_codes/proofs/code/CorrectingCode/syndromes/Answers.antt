@@ -1,7 +1,7 @@
 use Rattle.std.proofs.Common.{◌≡◌, ◌-◌, ◌<◌, ◌^◌, ℕ, List, length, replicate, slice_index, sym, ◌∙◌, ap, ap₂, subst, arith, lit<}
 use Rattle.std.proofs.lemmas.List.{get_or-take, length-take-le}
-use Rattle.error_codes.specs.lemmas.ByteField.{bytes_are_fields}
-use Rattle.error_codes.specs.ByteFields.{byte_times}
+use Rattle.reed_solomon.proofs.ByteFields.{bytes_are_fields}
+use Rattle.reed_solomon.specs.ByteFields.{byte_times}
 use Rattle.error_codes.specs.Correcting.{code_value}
 use Rattle.error_codes.proofs.ByteWords.{behind-left, front-written}
 use Rattle.error_codes.proofs.CodeValues.{value-lt}

@@ -1,7 +1,7 @@
 use Rattle.std.proofs.Common.{◌*◌, ◌+◌, ◌-◌, ◌≡◌, ◌<◌, ℕ, length, slice_index, ◌∙◌, ap, arith}
 use borrow.Rule.Slice.PartMut.{mid_of}
 use Rattle.field_base.specs.Powers.{power}
-use Rattle.error_codes.specs.ByteFields.{byte_times}
+use Rattle.reed_solomon.specs.ByteFields.{byte_times}
 use Rattle.error_codes.specs.Correcting.{code_value}
 use Rattle.error_codes.specs.Interleaved.{interleaved_word}
 use Rattle.error_codes.proofs.WordColumns.{part-length, row-more, row_inside, word-at}

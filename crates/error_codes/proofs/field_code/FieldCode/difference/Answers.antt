@@ -6,8 +6,8 @@ use Rattle.error_codes.proofs.Differences.{difference-right, difference-sums, sc
 use Rattle.error_codes.proofs.Moments.{without-one}
 use Rattle.error_codes.proofs.field_code.FieldCode.difference.Goals as goal
 
-pub sift-left-requires : goal.sift-left-requires
-sift-left-requires g c =
+pub modified_syndromes-left-requires : goal.modified_syndromes-left-requires
+modified_syndromes-left-requires g c =
     let fewer = without-one (is_marked c.args.marked.now) c.args.self.now.word_length c.args.place c.requires.inside
     c.requires.chosen in
     omega (arith, fewer, c.requires.few)
@@ -28,14 +28,14 @@ returns-clause-difference g c = λ word sent syndromes_are fits checked same.
     ≤ marked_below (is_marked c.args.marked.now) n = without-one (is_marked c.args.marked.now) n c.args.place
     c.requires.inside c.requires.chosen in
     difference-right width times wide field checks n point scale scaled word sent fits checked
-    (is_marked c.args.marked.now) same c.args.place c.requires.inside (slice_index c.sift-left.new.sums 0)
+    (is_marked c.args.marked.now) same c.args.place c.requires.inside (slice_index c.modified_syndromes-left.new.sums 0)
     c.denominator.result c.invert-inverse.result c.multiply.result
-    (c.sift-left.ensures.sums
+    (c.modified_syndromes-left.ensures.sums
     (scaled_difference width times wide field checks n point scale scaled word sent fits checked)
     (λ m below.
     ap (λ (s : List ℕ). slice_index s m) c.copy_from_slice.ensures.after
     ∙ difference-sums width times wide field checks n point scale scaled word sent fits checked m
     (slice_index c.args.syndromes.now m) below (syndromes_are m below)) 0
-    (omega (arith, fewer, c.requires.few, c.sift-left.ensures.left)))
+    (omega (arith, fewer, c.requires.few, c.modified_syndromes-left.ensures.left)))
     c.denominator.ensures (c.invert-inverse.ensures (subst (λ (z : ℕ). z < 2 ^ width) (sym c.denominator.ensures)
     (field.ring.below (scale c.args.place) _))) c.multiply.ensures

@@ -1,7 +1,7 @@
 use Rattle.std.proofs.Common.{◌≡◌, ◌*◌, ◌%◌, false, true, refl, ◌∙◌, arith}
 use Rattle.field_base.specs.Powers.{power}
-use Rattle.error_codes.specs.ByteFields.{byte_times}
-use Rattle.error_codes.specs.declared.byte_field.ByteField.TheVariants.{Qr}
+use Rattle.reed_solomon.specs.ByteFields.{byte_times}
+use Rattle.reed_solomon.specs.declared.byte_field.ByteField.TheVariants.{Qr}
 use Rattle.error_codes.proofs.NibbleCalls.{order-lowered, order-raised}
 use Rattle.error_codes.proofs.NibbleFields.{root-raised}
 use Rattle.error_codes.proofs.nibble_code.NibbleCode.new.Goals as goal

@@ -1,7 +1,8 @@
 use Rattle.std.proofs.Common.{◌≡◌, ◌+◌, ◌*◌, ◌/◌, ◌%◌, ◌<◌, ◌≤◌, ℕ, length, take, drop, slice_index, sym, ◌∙◌, subst, arith}
 use Rattle.std.proofs.lemmas.List.{get_or-take, length-take-le}
 use Rattle.field_base.specs.Interpolation.{lagrange}
-use Rattle.reed_solomon.specs.ErasureField.{erasure_product}
+use Rattle.reed_solomon.specs.ByteFields.{byte_times}
+use Rattle.reed_solomon.specs.declared.byte_field.ByteField.TheVariants.{Qr}
 use Rattle.reed_solomon.specs.Parity.{parity_factor, tables_length}
 use Rattle.reed_solomon.specs.Tables.{HasRow, HaveRows}
 use Rattle.reed_solomon.proofs.ParityWords.{parity_row}
@@ -47,7 +48,7 @@ returns c =
           (parity_row k 0 m t (t % 4) c.of_first-sample.result.places points (drop (128 * k * (t / 4)) tables) below
           c.of_first-sample.ensures.places (λ i inside. c.places_from-points.ensures i inside ∙ further k i)
           (subst
-          (λ (n : ℕ). HaveRows (λ t j. lagrange 8 erasure_product (slice_index c.of_first-sample.result.places) n j (slice_index (take m points) t)) n
+          (λ (n : ℕ). HaveRows (λ t j. lagrange 8 (byte_times Qr) (slice_index c.of_first-sample.result.places) n j (slice_index (take m points) t)) n
           (length (take m points)) tables)
           c.of_first-sample.ensures.count c.write_tables.ensures.set t (omega (arith, below, listed))));
     }

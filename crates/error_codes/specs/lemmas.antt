@@ -1,2 +1,0 @@
--- What proofs of impls cite of these definitions: no contract names it.
-pub mod ByteField
