@@ -161,7 +161,7 @@ pub fn commit<F: ShortElement, H: ByteHasher32, A: Allocator + Copy>(
 /// which ascend. The challenger may grind 16 bits: over a field of 24 bits or more. In a transcript that has not failed it fails only if
 /// no witness is found, or if memory was refused.
 pub fn grind_places<
-    F: ShortElement,
+    F: Copy,
     C: CanObserve<F> + CanSample<F> + GrindingChallenger<Witness = F> + CanSampleUniformBits<F>,
     A: Allocator + Copy,
 >(
@@ -190,7 +190,7 @@ pub fn grind_places<
 /// so that a witness is tried on its digest and not on what is sent. In a transcript that has not failed it fails only if memory was
 /// refused.
 pub fn draw_places<
-    F: ShortElement,
+    F: Copy,
     C: CanObserve<F> + CanSample<F> + GrindingChallenger<Witness = F> + CanSampleUniformBits<F>,
     A: Allocator + Copy,
 >(

@@ -145,7 +145,7 @@ fn combine<F: Field, A: Allocator + Copy>(
 }
 
 // The row of a table's columns' values at the first coordinates.
-fn row_of_values<F: ShortElement, A: Allocator + Copy>(
+fn row_of_values<F: Field, A: Allocator + Copy>(
     alloc: A,
     parameters: &Parameters,
     held: &TableColumns<F, A>,
@@ -177,7 +177,7 @@ fn value_of_row<F: Field>(parameters: &Parameters, row: &[F], point: &[F]) -> F
 }
 
 // The rows of tables, each as `row_of_values` has it.
-fn rows_of_tables<F: ShortElement, A: Allocator + Copy>(
+fn rows_of_tables<F: Field, A: Allocator + Copy>(
     alloc: A,
     parameters: &Parameters,
     tables: &[&TableColumns<F, A>],
@@ -223,7 +223,7 @@ fn values_of_rows<F: Field, A: Allocator>(
 }
 
 // The columns of tables at places, and the nodes that open their bytes.
-fn open_each<F: ShortElement, A: Allocator + Copy>(
+fn open_each<F: Field, A: Allocator + Copy>(
     alloc: A,
     parameters: &Parameters,
     tables: &[&TableColumns<F, A>],
@@ -235,8 +235,8 @@ fn open_each<F: ShortElement, A: Allocator + Copy>(
     requires places { AreAscending (2 ^ word_levels parameters.now.queries parameters.now.variables) places.now }
     ensures columns { IfOk result (λ opened. length opened.0.items ≡ length tables.now) }
     ensures nodes { IfOk result (λ opened. length opened.1.items ≡ length tables.now) }
-    ensures each { IfOk result (λ opened. EachBelow (length tables.now) tables.now (λ i held. IsHonestOpening F.repr F.NUM_BYTES F.width
-        F.product (λ i. F.basis (F.cantor i)) (matrix_rows parameters.now.queries parameters.now.variables) held.now.tree
+    ensures each { IfOk result (λ opened. EachBelow (length tables.now) tables.now (λ i held. (size : ℕ) (vector : ℕ → ℕ)
+        → IsHonestOpening F.repr size F.width F.product vector (matrix_rows parameters.now.queries parameters.now.variables) held.now.tree
         held.now.columns.items places.now (get_or (map (λ list. list.items) opened.0.items) i [])
         (get_or (map (λ list. list.items) opened.1.items) i []))) }
 {
@@ -257,7 +257,7 @@ fn open_each<F: ShortElement, A: Allocator + Copy>(
 /// point is drawn behind them. A verifier in a transcript of the same state accepts what is sent, and is then in the same state
 /// (`laws::table_verdicts_agree`). In a transcript that has not failed it fails only if no witness is found, or if memory was refused.
 pub fn open_tables<
-    F: ShortElement,
+    F: Field,
     C: CanObserve<F> + CanSample<F> + GrindingChallenger<Witness = F> + CanSampleUniformBits<F>,
     A: Allocator + Copy,
 >(
@@ -273,9 +273,9 @@ pub fn open_tables<
     requires depth { All (λ held. held.now.tree.depth ≡ word_levels parameters.now.queries parameters.now.variables) tables.now }
     requires count { All (λ held. length held.now.columns.items ≡ 2 ^ 2 * 2 ^ row_levels parameters.now.queries parameters.now.variables
         * 2 ^ matrix_rows parameters.now.queries parameters.now.variables) tables.now }
-    ensures honest { IfOk result (λ opened. IsHonestOpeningOf C.observes C.gives C.passing C.checks C.gives_bits F.repr F.NUM_BYTES F.width
-        F.product (λ i. F.basis (F.cantor i)) parameters.now.queries parameters.now.variables
-        (map (λ held. (held.now.columns.items, held.now.tree)) tables.now) point.now
+    ensures honest { IfOk result (λ opened. (size : ℕ) (vector : ℕ → ℕ)
+        → IsHonestOpeningOf C.observes C.gives C.passing C.checks C.gives_bits F.repr size F.width F.product vector
+        parameters.now.queries parameters.now.variables (map (λ held. (held.now.columns.items, held.now.tree)) tables.now) point.now
         (sent_tables opened.values.items opened.row.items (C.number opened.witness) (map (λ list. list.items) opened.columns.items)
         (map (λ list. list.items) opened.nodes.items)) challenger.old challenger.new) }
     ensures error { C.has_failed challenger.old ≡ false → IfErr result (StopsOpening C.passing C.witness_bits) }

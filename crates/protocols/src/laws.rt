@@ -1,13 +1,13 @@
 // Soundness of protocols, for every prover, as contracts of functions that compute nothing: of tables of which columns are opened,
 // whatever columns a prover has chosen. It passes on the laws of sum-checks.
-ghost use Rattle.std.specs.Prelude.{◌*◌, ◌^◌, ◌<◌};
+ghost use Rattle.std.specs.Prelude.{◌*◌, ◌^◌, ◌<◌, ℕ};
 ghost use Rattle.protocols.specs.CodeDistances.{CodeWordsHaveDistance, FewQuarterRateCheats, QuarterRateGap};
 ghost use Rattle.protocols.specs.JointTables.{FewTablesCheat, OpenedTablesNeedLuck, TableVerdictsAgree, TablesAreBound};
 ghost use Rattle.protocols.specs.OpenedTables.{OpenedRowsNeedLuck, OpenedValuesNeedLuck, TableIsOne};
 ghost use Rattle.protocols.specs.RootColumns.{RootsHoldColumns};
 ghost use Rattle.protocols.specs.SoundnessErrors.{FewRunsSave};
 
-use field_bytes::ShortElement;
+use field_base::traits::Field;
 pub use sum_checks::laws::{
     false_claims_need_luck, false_zeros_need_luck, few_challenges_save, honest_reduces,
     lines_have_one_root, zero_check_evaluates, zero_needs_root, zeros_reduce,
@@ -79,11 +79,11 @@ pub fn table_is_one()
 /// one table to which the columns of each root commit, or a challenge or a coordinate of the point is one of few, or the places are; or two of
 /// them have two inputs of the hash function that differ and have one digest, under one of the roots. One root has no challenges.
 pub fn tables_are_bound<
-    F: ShortElement,
+    F: Field,
     C: CanObserve<F> + CanSample<F> + GrindingChallenger<Witness = F> + CanSampleUniformBits<F>,
 >()
-    ensures { TablesAreBound C.observes C.gives C.passing C.checks C.gives_bits F.repr F.NUM_BYTES F.width F.product
-        (λ i. F.basis (F.cantor i)) }
+    ensures { (size : ℕ) (vector : ℕ → ℕ)
+        → TablesAreBound C.observes C.gives C.passing C.checks C.gives_bits F.repr size F.width F.product vector }
 {
     opened_tables_need_luck();
     roots_hold_columns();
@@ -93,11 +93,11 @@ pub fn tables_are_bound<
 /// challenger and the hash function are, the verdict on one opening is the same, and leads to the same state. So a verifier accepts what a
 /// prover has opened, and may go on.
 pub fn table_verdicts_agree<
-    F: ShortElement,
+    F: Field,
     C: CanObserve<F> + CanSample<F> + GrindingChallenger<Witness = F> + CanSampleUniformBits<F>,
 >()
-    ensures { TableVerdictsAgree C.state C.observes C.gives C.passing C.checks C.gives_bits F.repr F.NUM_BYTES F.width F.product
-        (λ i. F.basis (F.cantor i)) }
+    ensures { (size : ℕ) (vector : ℕ → ℕ)
+        → TableVerdictsAgree C.state C.observes C.gives C.passing C.checks C.gives_bits F.repr size F.width F.product vector }
 {}
 
 /// States the soundness error of an opening as a number of bits over every field of 2^128 elements: of all challenges that combine tables, of

@@ -162,7 +162,7 @@ pub fn columns_at<F: Field, A: Allocator>(
 /// Opens a committed table, of columns of 2^rows elements each, rows at most 40, at places that ascend, none twice, and are below 2^depth:
 /// the columns there, and the nodes that open their bytes. With the row of the columns' values at any point (`column_values`),
 /// `verify_columns` accepts it. It fails if memory was refused.
-pub fn open_columns<F: ShortElement, A: Allocator + Copy>(
+pub fn open_columns<F: Field, A: Allocator + Copy>(
     alloc: A,
     table: &TableColumns<F, A>,
     rows: usize,
@@ -173,7 +173,7 @@ pub fn open_columns<F: ShortElement, A: Allocator + Copy>(
     requires places { AreAscending (2 ^ table.now.tree.depth) places.now }
     ensures columns { IfOk result (λ opened. AreColumnsAt (2 ^ rows) table.now.columns.items places.now opened.columns.items) }
     ensures nodes { IfOk result (λ opened. OpensPlaces table.now.tree places.now opened.nodes.items) }
-    ensures accepted { IfOk result (λ opened. IsHonestOpening F.repr F.NUM_BYTES F.width F.product (λ i. F.basis (F.cantor i)) rows
+    ensures accepted { IfOk result (λ opened. (size : ℕ) (vector : ℕ → ℕ) → IsHonestOpening F.repr size F.width F.product vector rows
         table.now.tree table.now.columns.items places.now opened.columns.items opened.nodes.items) }
 {
     let height = power_of_two(rows);

@@ -420,8 +420,8 @@ module _ {C F : Type 0} (observes gives : C → F → C → Type 0) (passing : C
     abbrev sent_of : ℕ → SentColumns
     sent_of c = value_columns repr m n (columns (opening c)) (get_or (opening c).sent.packed.nodes 0 []) (opening c).verdict.opened.places
 
-    abbrev Held : (ℕ → List ℕ) → Type 0
-    Held column = AreColumnsOf width (2 ^ 2 * 2 ^ row_levels m n) column × HasSent count sent_of column
+    abbrev Held : Type 0
+    Held = (column : ℕ → List ℕ) × AreColumnsOf width (2 ^ 2 * 2 ^ row_levels m n) column × HasSent count sent_of column
 
     abbrev Each : Type 0
     Each = (column : ℕ → List ℕ) → AreColumnsOf width (2 ^ 2 * 2 ^ row_levels m n) column → HasSent count sent_of column → (c : ℕ) → c < count
@@ -441,13 +441,14 @@ module _ {C F : Type 0} (observes gives : C → F → C → Type 0) (passing : C
         (opening c).verdict.opened.places) (column i)))
         × Shown)
         ⊎ ((i : ℕ) × (i < 1) × Other i)
-        → (((column : ℕ → List ℕ) × Held column) × Each) ⊎ Other 0
+        → (Held × Each) ⊎ Other 0
     packed-show (inr collision) =
         let first : collision.0 ≡ 0 = omega (arith, collision.1) in
         inr (subst Other first collision.2)
     packed-show (inl held) =
+        let own = held.0.1 0 (omega arith) in
         inl (
-          (held.0.0 0, held.0.1 0 (omega arith)),
+          (held.0.0 0, own.0, own.1),
           λ column fits has c below. shows-packed column fits (opening c) (λ q inside. has c q below inside),
         )
 

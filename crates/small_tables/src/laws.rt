@@ -1,8 +1,9 @@
 // Laws of tables of small elements and of openings of their values, for every prover, as contracts of functions that compute nothing.
+ghost use Rattle.std.specs.Prelude.{ℕ};
 ghost use Rattle.small_tables.specs.SmallOpenings.{SmallValuesAreBound, SmallVerdictsAgree};
 ghost use Rattle.small_tables.specs.SmallTables.{FalsePartsNeedRoot, MixedSumsAreParts, SmallValuesAreWeighted};
 
-use field_bytes::ShortElement;
+use field_base::traits::Field;
 use protocols::laws::{opened_values_need_luck, tables_are_bound};
 use protocols::tables::column_values_evaluate;
 use sum_checks::laws::{false_claims_need_luck, zero_needs_root};
@@ -34,11 +35,11 @@ pub fn false_parts_need_root()
 /// root of a line that is not 0, or a challenge of the sum-check saves its claim, or the coordinates where it ends, or the places, are few
 /// that are lucky; or two openings have two inputs of the hash function that differ and have one digest.
 pub fn small_values_are_bound<
-    F: ShortElement,
+    F: Field,
     C: CanObserve<F> + CanSample<F> + GrindingChallenger<Witness = F> + CanSampleUniformBits<F>,
 >()
-    ensures { SmallValuesAreBound C.observes C.gives C.passing C.checks C.gives_bits F.repr F.NUM_BYTES F.width F.product
-        (λ i. F.basis (F.cantor i)) }
+    ensures { (size : ℕ) (vector : ℕ → ℕ)
+        → SmallValuesAreBound C.observes C.gives C.passing C.checks C.gives_bits F.repr size F.width F.product vector }
 {
     small_values_are_weighted();
     mixed_sums_are_parts();
@@ -51,9 +52,9 @@ pub fn small_values_are_bound<
 /// States completeness of openings of tables of small elements with what `open_small` says: in transcripts of the same state
 /// the verdict on one opening is the same. So a verifier accepts what a prover has opened.
 pub fn small_verdicts_agree<
-    F: ShortElement,
+    F: Field,
     C: CanObserve<F> + CanSample<F> + GrindingChallenger<Witness = F> + CanSampleUniformBits<F>,
 >()
-    ensures { SmallVerdictsAgree C.state C.observes C.gives C.passing C.checks C.gives_bits F.repr F.NUM_BYTES F.width F.product
-        (λ i. F.basis (F.cantor i)) }
+    ensures { (size : ℕ) (vector : ℕ → ℕ)
+        → SmallVerdictsAgree C.state C.observes C.gives C.passing C.checks C.gives_bits F.repr size F.width F.product vector }
 {}

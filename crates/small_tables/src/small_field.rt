@@ -7,7 +7,7 @@ ghost use Rattle.field_slices.specs.Multilinear.{multilinear_value};
 ghost use Rattle.small_tables.specs.SmallTables.{IsSpaceOver, mixed, mixed_sum, mixed_weights};
 
 use field_base::Unsigned;
-use field_base::traits::PrimeCharacteristicRing;
+use field_base::traits::{Field, PrimeCharacteristicRing};
 use field_bytes::ShortElement;
 use field_space::BasedVectorSpace;
 use std::alloc::{AllocError, Allocator};
@@ -16,7 +16,7 @@ use transcripts::merkle_paths::power_of_two;
 
 /// A small field inside `F`, by whose elements those of `F` have coefficients: the chunks of their representations, the lowest first.
 #[derive(Drop)]
-pub struct SmallField<F: ShortElement> {
+pub struct SmallField<F: Field> {
     /// The bits of a small element.
     pub width: usize,
     /// The logarithm of how many of them an element of `F` packs.

@@ -54,7 +54,7 @@ fn sent_elements<F: Field, A: Allocator>(
 }
 
 // Observes the point, the value and its parts, samples a point of `levels` coordinates, and returns its scalars.
-fn draw_scalars<F: ShortElement, C: CanObserve<F> + CanSample<F>, A: Allocator + Copy>(
+fn draw_scalars<F: Field, C: CanObserve<F> + CanSample<F>, A: Allocator + Copy>(
     alloc: A,
     challenger: &mut C,
     levels: usize,

@@ -35,7 +35,7 @@ pub(crate) fn drawn<F: ByteLevel>(
 }
 
 // Adds 1 to the element at a place, if there is one.
-pub(crate) fn increment<F: ByteLevel>(elements: &mut [F], place: usize) {
+fn increment<F: ByteLevel>(elements: &mut [F], place: usize) {
     if let Some(element) = elements.get_mut(place) {
         *element = *element + F::ONE;
     }

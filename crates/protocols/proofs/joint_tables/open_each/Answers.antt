@@ -42,8 +42,8 @@ tables-preserved g c =
     let index = c.tables.index in
     let honest : ℕ → _ → List _ → List (List ℕ) → Type 0 =
     λ (h : ℕ) (held : _) (cs : List _) (ns : List (List ℕ)).
-    IsHonestOpening field.repr g.F.RawDataSerializable.NUM_BYTES field.width field.product
-    (λ (b : ℕ). g.F.TowerLevel.basis (g.F.TowerLevel.cantor b)) h held.now.tree held.now.columns.items c.args.places.now cs ns in
+    (size : ℕ) (vector : ℕ → ℕ)
+    → IsHonestOpening field.repr size field.width field.product vector h held.now.tree held.now.columns.items c.args.places.now cs ns in
     let h = matrix_rows sizes.queries sizes.variables in
     let pushed = c.in_ok-push.ensures.items in
     let also = c.in_ok-push-2.ensures.items in

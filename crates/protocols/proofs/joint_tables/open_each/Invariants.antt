@@ -9,8 +9,7 @@ abbrev pub invariant-tables : goal.invariant-tables
 invariant-tables g l = record {
   columns : length l.columns.items ≡ l.index;
   nodes : length l.nodes.items ≡ l.index;
-  each : EachBelow l.index l.tables (λ i held. IsHonestOpening g.F.Represented.repr g.F.RawDataSerializable.NUM_BYTES g.F.Represented.width
-      g.F.Represented.product (λ (b : ℕ). g.F.TowerLevel.basis (g.F.TowerLevel.cantor b))
-      (matrix_rows l.parameters.queries l.parameters.variables) held.now.tree held.now.columns.items l.places
+  each : EachBelow l.index l.tables (λ i held. (size : ℕ) (vector : ℕ → ℕ)
+      → IsHonestOpening g.F.Represented.repr size g.F.Represented.width g.F.Represented.product vector (matrix_rows l.parameters.queries l.parameters.variables) held.now.tree held.now.columns.items l.places
       (get_or (map (λ list. list.items) l.columns.items) i []) (get_or (map (λ list. list.items) l.nodes.items) i []));
 }

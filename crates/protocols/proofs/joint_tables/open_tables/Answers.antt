@@ -49,17 +49,15 @@ open_each-requires-clause-places g c =
     c.in_ok-witness.ensures.ascending
 
 pub returns-clause-honest : goal.returns-clause-honest
-returns-clause-honest g c = λ hash tables holds.
+returns-clause-honest g c = λ bytes vector hash tables holds.
     let sizes = c.args.parameters.now in
     let m = sizes.queries in
     let n = sizes.variables in
     let k = row_levels m n in
     let field = g.F.Represented in
     let repr = field.repr in
-    let bytes = g.F.RawDataSerializable.NUM_BYTES in
     let ring = g.met.F.Field.field_law.ring in
     let wide = g.met.F.Field.wide_law in
-    let vector : ℕ → ℕ = λ (i : ℕ). g.F.TowerLevel.basis (g.F.TowerLevel.cantor i) in
     let point = c.args.point.now in
     let held = c.args.tables.now in
     let coordinates = c.requires.coordinates in
@@ -98,7 +96,8 @@ returns-clause-honest g c = λ hash tables holds.
     t.now.columns.items places (get_or columns i []) (get_or nodes i [])) =
     subst
     (λ (ps : List ℕ). EachBelow (length held) held (λ i t. IsHonestOpening repr bytes field.width field.product vector (matrix_rows m n) t.now.tree
-    t.now.columns.items ps (get_or columns i []) (get_or nodes i []))) c.as_slice-3.ensures.value c.in_ok-columns.ensures.each in
+    t.now.columns.items ps (get_or columns i []) (get_or nodes i []))) c.as_slice-3.ensures.value
+    (λ i t below is. c.in_ok-columns.ensures.each i t below is bytes vector) in
     let combined : AreTablesCombined g.C.CanObserve.observes g.C.CanSample.gives (length roots) (point ++ values) c.args.challenger.now challenges
     between =
     subst (λ (count : ℕ). AreTablesCombined g.C.CanObserve.observes g.C.CanSample.gives count (point ++ values) c.args.challenger.now challenges between)

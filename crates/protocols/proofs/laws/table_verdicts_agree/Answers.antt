@@ -3,10 +3,9 @@ use Rattle.protocols.proofs.SchemeTurns.{table_verdicts_agree}
 use Rattle.protocols.proofs.laws.table_verdicts_agree.Goals as goal
 
 pub returns : goal.returns
-returns g c =
+returns g c = λ size vector.
     let field = g.F.Represented in
-    let level = g.F.TowerLevel in
     table_verdicts_agree g.C.Transcript.state g.C.CanObserve.observes g.C.CanSample.gives g.C.GrindingChallenger.passing
     g.C.GrindingChallenger.checks g.C.CanSampleBits.gives_bits g.met.C.CanObserve.observes_law g.met.C.CanSample.gives_law
     g.met.C.GrindingChallenger.passing_law g.met.C.GrindingChallenger.checks_law g.met.C.CanSampleBits.gives_bits_law field.repr
-    g.F.RawDataSerializable.NUM_BYTES field.width field.product (λ (i : ℕ). level.basis (level.cantor i))
+    size field.width field.product vector

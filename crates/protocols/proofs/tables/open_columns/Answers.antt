@@ -27,8 +27,7 @@ returns g c =
     record {
       columns = at;
       nodes = c.in_ok-nodes.ensures;
-      accepted =
-          honest-opening ring.repr ring.width ring.product (λ (i : ℕ). g.F.TowerLevel.basis (g.F.TowerLevel.cantor i)) law.wide_law law.field_law.ring
-          held.columns.items g.F.RawDataSerializable.NUM_BYTES c.args.rows held.tree c.args.places.now opened c.in_ok-nodes.nodes.items
-          c.requires.places at.0 at.1 c.in_ok-nodes.ensures;
+      accepted = λ size vector.
+          honest-opening ring.repr ring.width ring.product vector law.wide_law law.field_law.ring held.columns.items size c.args.rows held.tree
+          c.args.places.now opened c.in_ok-nodes.nodes.items c.requires.places at.0 at.1 c.in_ok-nodes.ensures;
     }

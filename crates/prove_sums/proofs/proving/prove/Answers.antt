@@ -66,7 +66,7 @@ returns-clause-honest g c =
           ((left.held.columns.items, left.held.tree) ∷ (right.held.columns.items, right.held.tree) ∷ []) point
           (sent_tables opened.values.items opened.row.items (g.C.GrindingChallenger.number opened.witness) columns openers)
           c.prove_sum.new.challenger c.open_tables.new.challenger) c.sizes-sizes.ensures.queries c.sizes-sizes.ensures.variables c.as_slice-point.ensures.value
-          c.in_ok-opened.ensures.honest;
+          (c.in_ok-opened.ensures.honest g.F.RawDataSerializable.NUM_BYTES (λ (i : ℕ). g.F.TowerLevel.basis (g.F.TowerLevel.cantor i)));
       written =
           elements-listed summed.sum opened.witness c.new-elements.ensures.items c.in_ok-push.ensures.items c.in_ok-extend_from_slice.ensures.items
           c.as_slice.ensures.value c.in_ok-extend_from_slice-2.ensures.items c.as_slice-2.ensures.value c.in_ok-push-2.ensures.items

@@ -143,7 +143,7 @@ returns-clause-honest g c =
     field.repr g.F.RawDataSerializable.NUM_BYTES field.width field.product vector m n ((held.columns.items, held.tree) ∷ []) l
     (sent_tables packed.values.items packed.row.items (g.C.GrindingChallenger.number packed.witness) (map (λ list. list.items) packed.columns.items)
     (map (λ list. list.items) packed.nodes.items)) c.prove_sum.new.challenger c.open_tables.new.challenger)
-    c.as_slice-2.ensures.value c.in_ok-packed.ensures.honest)
+    c.as_slice-2.ensures.value (c.in_ok-packed.ensures.honest g.F.RawDataSerializable.NUM_BYTES vector))
 
 pub returns-in_err-scalars-clause-error : goal.returns-in_err-scalars-clause-error
 returns-in_err-scalars-clause-error g c going =
