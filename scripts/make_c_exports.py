@@ -19,8 +19,7 @@ WORDS = {"u128": "Wide", "u192": "Cubic", "ghash_state": "HashState", "polyval_s
 # The stored words of kernels that are no integers of Rust, by those of the table.
 STORED = {"u192": "Triple"}
 
-# The function over any field that a call goes to, the word of its contract, and the operation that it applies. Those without a path are over
-# the fields of `Many` and a type of vectors.
+# The function over any field that a call goes to, the word of its contract, and the operation that it applies.
 CALL_ROWS = [row.split() for row in """\
 add            slices::write_each_of_two  Adds          Sum
 multiply       multiply                   Multiplies
@@ -55,8 +54,8 @@ WITH_WIDTH = {
 # Calls whose loops may take two elements in a turn.
 IN_TURNS = {"square", "square_root"}
 
-# The function whose loops may, and the field of an operation that a parameter goes into.
-MAY_TAKE_TURNS, OPERANDS = "slices::write_each", {"Power": "exponent"}
+# The function whose loops may, and the one over kernels alone.
+MAY_TAKE_TURNS, OF_KERNELS = "slices::write_each", "slices::generator"
 
 # The functions of no field and of the stages: the file, the function of c_calls, and the contract.
 OTHER_CALLS = {row.split()[0]: row.split(maxsplit=3)[1:] for row in """\
@@ -331,11 +330,10 @@ def field_clause(contract, field, parameters, is_in_place=False):
     return " ".join([contract, named, *reads, *writes, "result"])
 
 
-def function(name, parameters, text, called, clause, more=(), inside=(), first=()):
-    """An exported function: what it computes, its signature, its contract and its call, with arguments before its own and behind them, which are
-    all but those that lie inside one of the others."""
+def function(name, parameters, text, called, clause, more=(), first=()):
+    """An exported function: what it computes, its signature, its contract and its call, with arguments before its own and behind them."""
     typed = [(kind, it, WORDS.get(word, word)) for kind, it, word in parameters]
-    arguments = [f"*{it}" if kind == "scalar" and word in WORDS.values() else it for kind, it, word in typed if it not in inside]
+    arguments = [f"*{it}" if kind == "scalar" and word in WORDS.values() else it for kind, it, word in typed]
     shown = [parameter(*it) for it in typed]
     signature = f'pub extern "C" fn bf_{name}({", ".join(shown)}) -> u32'
     if len(signature) > COLUMNS:
@@ -347,8 +345,8 @@ def function(name, parameters, text, called, clause, more=(), inside=(), first=(
     passed = [*first, *arguments, *more]
     body = f"    {called}({', '.join(passed)})"
     if len(body) > COLUMNS or len(", ".join(passed)) > ARGUMENT_COLUMNS:
-        # Short arguments share their lines.
-        lines = [", ".join(passed)] if all(len(it) <= SHORT for it in passed) else passed
+        # Short arguments that are no calls share their lines.
+        lines = [", ".join(passed)] if all(len(it) <= SHORT and "(" not in it for it in passed) else passed
         rows = "".join(f"        {it},\n" for it in lines)
         body = f"    {called}(\n{rows}    )"
     return "\n".join([
@@ -381,35 +379,36 @@ def of_width(call, vector):
     return f"c_calls::{name}::<{types.replace('>', ', ')}{vector}>"
 
 
-def called_on_many(field, name, vector):
-    """The call of a function over the fields of `Many`, in vectors of that type."""
-    return called_over(field, f"c_calls::{CALLS[name][0]}", f", {vector}")
+def words_of(field):
+    """The arithmetic of a field on its words, by the name that a file gives its type."""
+    return f"{field.name.capitalize()}::new()"
+
+
+def called_on_words(name):
+    """The call of a function over words of any field."""
+    call = CALLS[name][0]
+    return call if "::" in call else f"c_calls::{call}"
 
 
 def field_function(field, name, parameters, text):
     """A function of a field."""
     (call, contract), operation = CALLS[name], OPERATIONS.get(name)
-    inside = [OPERANDS[operation]] if operation in OPERANDS else []
-    if operation:
-        called, more = called_over(field, call, ", _"), [f"&{operation} {{ {inside[0]} }}" if inside else f"&{operation}"]
-    elif "::" in call:
-        called, more = called_over(field, call), []
-    else:
-        called, more = called_on_many(field, name, NARROW), []
+    called, first, more = called_on_words(name), [words_of(field)], [f"&{operation}"] if operation else []
+    if call == OF_KERNELS:
+        called, first = called_over(field, call), []
     if call == MAY_TAKE_TURNS:
         more.append(str(name in IN_TURNS and field.is_looked_up).lower())
     typed = c_library.typed(parameters, field.word)
     words = [(kind, it, WORDS.get(of, of)) for kind, it, of in typed]
     clause = field_clause(contract, field.contract, words, name.endswith("_in_place"))
-    return function(f"{field.name}_{name}", typed, text, called, clause, more, inside)
+    return function(f"{field.name}_{name}", typed, text, called, clause, more, first=first)
 
 
 def matrix_function(field, name, parameters, text, vector=NARROW):
     """A function of matrices over a field, whose rows are added in vectors of that type."""
     own = name.removesuffix("_wide")
-    words = f"{called_over(field, 'Words', f', {vector}')}::new()"
     named = f"({field.contract})" if " " in field.contract else field.contract
-    called, first = f"c_calls::matrices::{own.removeprefix('matrix_')}", [words]
+    called, first = f"c_calls::matrices::{own.removeprefix('matrix_')}", [words_of(field)]
     if own == "matrix_multiply" and field.bits == 8:
         called, first = f"c_calls::byte_matrices::multiply::<{field.kernel}, {vector}>", []
     return function(f"{field.name}_{name}", parameters, text, called, MATRIX_CALLS[own].format(named), first=first)
@@ -445,7 +444,8 @@ def wide_function(name, second, parameters):
     else:
         field = fields.field_named(field_name)
         typed = [(kind, it, WORDS.get(word, word)) for kind, it, word in parameters]
-        called, clause = called_on_many(field, own, WIDE), field_clause(CALLS[own][1], field.contract, typed, own.endswith("_in_place"))
+        clause = field_clause(CALLS[own][1], field.contract, typed, own.endswith("_in_place"))
+        return function(second, parameters, f"the same as `bf_{name}`", called_on_words(own), clause, first=[words_of(field)])
     return function(second, parameters, f"the same as `bf_{name}`", called, clause)
 
 
@@ -479,8 +479,8 @@ def import_of(names):
 def used(bodies):
     """The line that brings in what bodies and signatures name without a path."""
     operations = sorted({it for it in OPERATIONS.values() if re.search(rf"&{it}\b", bodies)})
-    parameters = " ".join(re.findall(r"::<([^(]+)>(?:::new)?\(", bodies))
-    named = {"Words"} if "Words::<" in bodies else set()
+    parameters = " ".join(" ".join(it) for it in re.findall(r"::<([^(]+)>\(|Words<(.+)>;", bodies))
+    named = {"Words"} if " Words<" in bodies else set()
     named |= set(re.findall(r"(?<![:\w])[A-Z]\w+", parameters)) | set(re.findall(r"(?<![:\w])(slices|in_place)::", bodies))
     named |= {it for it in [*WORDS.values(), *STORED.values()] if re.search(rf"\b{it}\b", bodies)}
     lines = [f"use c_calls::operations::{{{', '.join(operations)}}};"] if operations else []
@@ -490,11 +490,20 @@ def used(bodies):
     return [*lines, ""] if lines else []
 
 
+def types_of_words(text, vector):
+    """The types of the arithmetic of fields that functions name, in vectors of that type."""
+    for it in fields.FIELDS:
+        if words_of(it) in text:
+            yield f"type {it.name.capitalize()} = {called_over(it, 'Words', f', {vector}').replace('::', '')};"
+            yield ""
+
+
 def write(name, about, functions):
     """Writes a file."""
     text = "\n".join(functions)
     clauses = "\n".join(re.findall(r"    ensures \{ (.*?) \}\n\{", text, re.DOTALL))
-    lines = [f"// {about}", f"// {files.generated('make_c_exports.py')}", *brought_in(clauses), "", *used(text)]
+    types = list(types_of_words(text, WIDE if name == "wide" else NARROW))
+    lines = [f"// {about}", f"// {files.generated('make_c_exports.py')}", *brought_in(clauses), "", *used("\n".join([*types, text])), *types]
     files.keep(f"crates/binary_field_c/src/{name}.rt", "\n".join([*lines, text]))
 
 

@@ -10,12 +10,14 @@ use c_calls::operations::{Square, SquareRoot, Sum};
 use c_calls::{GhashKernel, Wide, Words, in_place, slices};
 use std::simd::prelude::*;
 
+type G128 = Words<u128, Wide, GhashKernel, u64x2>;
+
 /// The sum of the elements at each place.
 #[unsafe(no_mangle)]
 pub extern "C" fn bf_g128_add(left: &[Wide], right: &[Wide], sums: &mut [Wide]) -> u32
     ensures { Adds ghash_field left.now right.now sums.old sums.new result }
 {
-    slices::write_each_of_two::<u128, Wide, GhashKernel, _>(left, right, sums, &Sum)
+    slices::write_each_of_two(G128::new(), left, right, sums, &Sum)
 }
 
 /// The product of the elements at each place.
@@ -23,7 +25,7 @@ pub extern "C" fn bf_g128_add(left: &[Wide], right: &[Wide], sums: &mut [Wide]) 
 pub extern "C" fn bf_g128_multiply(left: &[Wide], right: &[Wide], products: &mut [Wide]) -> u32
     ensures { Multiplies ghash_field left.now right.now products.old products.new result }
 {
-    c_calls::multiply::<u128, Wide, GhashKernel, u64x2>(left, right, products)
+    c_calls::multiply(G128::new(), left, right, products)
 }
 
 /// The product of each element and the scalar.
@@ -31,7 +33,7 @@ pub extern "C" fn bf_g128_multiply(left: &[Wide], right: &[Wide], products: &mut
 pub extern "C" fn bf_g128_multiply_by(values: &[Wide], scalar: &Wide, products: &mut [Wide]) -> u32
     ensures { MultipliesBy ghash_field scalar.now values.now products.old products.new result }
 {
-    c_calls::multiply_by::<u128, Wide, GhashKernel, u64x2>(values, *scalar, products)
+    c_calls::multiply_by(G128::new(), values, *scalar, products)
 }
 
 /// Adds to each element of sums the scalar times the value at its place.
@@ -39,7 +41,7 @@ pub extern "C" fn bf_g128_multiply_by(values: &[Wide], scalar: &Wide, products: 
 pub extern "C" fn bf_g128_add_scaled(sums: &mut [Wide], scalar: &Wide, values: &[Wide]) -> u32
     ensures { AddsScaled ghash_field scalar.now values.now sums.old sums.new result }
 {
-    c_calls::add_scaled::<u128, Wide, GhashKernel, u64x2>(sums, *scalar, values)
+    c_calls::add_scaled(G128::new(), sums, *scalar, values)
 }
 
 /// The square of each element.
@@ -47,7 +49,7 @@ pub extern "C" fn bf_g128_add_scaled(sums: &mut [Wide], scalar: &Wide, values: &
 pub extern "C" fn bf_g128_square(values: &[Wide], squares: &mut [Wide]) -> u32
     ensures { Squares ghash_field values.now squares.old squares.new result }
 {
-    slices::write_each::<u128, Wide, GhashKernel, _>(values, squares, &Square, false)
+    slices::write_each(G128::new(), values, squares, &Square, false)
 }
 
 /// The inverse of each element, and 0 for 0.
@@ -55,7 +57,7 @@ pub extern "C" fn bf_g128_square(values: &[Wide], squares: &mut [Wide]) -> u32
 pub extern "C" fn bf_g128_inverse(values: &[Wide], inverses: &mut [Wide]) -> u32
     ensures { Inverts ghash_field values.now inverses.old inverses.new result }
 {
-    c_calls::invert::<u128, Wide, GhashKernel, u64x2>(values, inverses)
+    c_calls::invert(G128::new(), values, inverses)
 }
 
 /// The same as inverse.
@@ -63,7 +65,7 @@ pub extern "C" fn bf_g128_inverse(values: &[Wide], inverses: &mut [Wide]) -> u32
 pub extern "C" fn bf_g128_batch_inverse(values: &[Wide], inverses: &mut [Wide]) -> u32
     ensures { Inverts ghash_field values.now inverses.old inverses.new result }
 {
-    c_calls::batch_invert::<u128, Wide, GhashKernel, u64x2>(values, inverses)
+    c_calls::batch_invert(G128::new(), values, inverses)
 }
 
 /// The square root of each element.
@@ -71,7 +73,7 @@ pub extern "C" fn bf_g128_batch_inverse(values: &[Wide], inverses: &mut [Wide]) 
 pub extern "C" fn bf_g128_square_root(values: &[Wide], roots: &mut [Wide]) -> u32
     ensures { TakesRoots ghash_field values.now roots.old roots.new result }
 {
-    slices::write_each::<u128, Wide, GhashKernel, _>(values, roots, &SquareRoot, false)
+    slices::write_each(G128::new(), values, roots, &SquareRoot, false)
 }
 
 /// Each element to the power of the exponent; to the power 0 it is 1.
@@ -79,7 +81,7 @@ pub extern "C" fn bf_g128_square_root(values: &[Wide], roots: &mut [Wide]) -> u3
 pub extern "C" fn bf_g128_power(values: &[Wide], exponent: u64, powers: &mut [Wide]) -> u32
     ensures { RaisesTo ghash_field exponent values.now powers.old powers.new result }
 {
-    c_calls::raise::<u128, Wide, GhashKernel, u64x2>(values, exponent, powers)
+    c_calls::raise(G128::new(), values, exponent, powers)
 }
 
 /// The product of all elements, 1 of none.
@@ -87,7 +89,7 @@ pub extern "C" fn bf_g128_power(values: &[Wide], exponent: u64, powers: &mut [Wi
 pub extern "C" fn bf_g128_product(values: &[Wide], product: &mut Wide) -> u32
     ensures { TakesProduct ghash_field values.now product.old product.new result }
 {
-    slices::product::<u128, Wide, GhashKernel>(values, product)
+    slices::product(G128::new(), values, product)
 }
 
 /// The sum of the products at each place, 0 of none.
@@ -95,7 +97,7 @@ pub extern "C" fn bf_g128_product(values: &[Wide], product: &mut Wide) -> u32
 pub extern "C" fn bf_g128_dot_product(left: &[Wide], right: &[Wide], sum: &mut Wide) -> u32
     ensures { TakesDotProduct ghash_field left.now right.now sum.old sum.new result }
 {
-    c_calls::dot_product::<u128, Wide, GhashKernel, u64x2>(left, right, sum)
+    c_calls::dot_product(G128::new(), left, right, sum)
 }
 
 /// The value at each point of the polynomial with these coefficients, the constant one first; any number of coefficients.
@@ -107,7 +109,7 @@ pub extern "C" fn bf_g128_evaluate(
 ) -> u32
     ensures { Evaluates ghash_field coefficients.now points.now values.old values.new result }
 {
-    c_calls::evaluate::<u128, Wide, GhashKernel, u64x2>(coefficients, points, values)
+    c_calls::evaluate(G128::new(), coefficients, points, values)
 }
 
 /// Adds to each element of sums the value at its place.
@@ -115,7 +117,7 @@ pub extern "C" fn bf_g128_evaluate(
 pub extern "C" fn bf_g128_add_in_place(sums: &mut [Wide], values: &[Wide]) -> u32
     ensures { Adds ghash_field sums.old values.now sums.old sums.new result }
 {
-    in_place::change_each_by::<u128, Wide, GhashKernel, _>(sums, values, &Sum)
+    in_place::change_each_by(G128::new(), sums, values, &Sum)
 }
 
 /// Multiplies each element of products by the value at its place.
@@ -123,7 +125,7 @@ pub extern "C" fn bf_g128_add_in_place(sums: &mut [Wide], values: &[Wide]) -> u3
 pub extern "C" fn bf_g128_multiply_in_place(products: &mut [Wide], values: &[Wide]) -> u32
     ensures { Multiplies ghash_field products.old values.now products.old products.new result }
 {
-    c_calls::multiply_in_place::<u128, Wide, GhashKernel, u64x2>(products, values)
+    c_calls::multiply_in_place(G128::new(), products, values)
 }
 
 /// Multiplies each element by the scalar.
@@ -131,7 +133,7 @@ pub extern "C" fn bf_g128_multiply_in_place(products: &mut [Wide], values: &[Wid
 pub extern "C" fn bf_g128_multiply_by_in_place(values: &mut [Wide], scalar: &Wide) -> u32
     ensures { MultipliesBy ghash_field scalar.now values.old values.old values.new result }
 {
-    c_calls::multiply_by_in_place::<u128, Wide, GhashKernel, u64x2>(values, *scalar)
+    c_calls::multiply_by_in_place(G128::new(), values, *scalar)
 }
 
 /// Squares each element.
@@ -139,7 +141,7 @@ pub extern "C" fn bf_g128_multiply_by_in_place(values: &mut [Wide], scalar: &Wid
 pub extern "C" fn bf_g128_square_in_place(values: &mut [Wide]) -> u32
     ensures { Squares ghash_field values.old values.old values.new result }
 {
-    in_place::change_each::<u128, Wide, GhashKernel, _>(values, &Square)
+    in_place::change_each(G128::new(), values, &Square)
 }
 
 /// Leaves the inverse of each element, and 0 of 0.
@@ -147,7 +149,7 @@ pub extern "C" fn bf_g128_square_in_place(values: &mut [Wide]) -> u32
 pub extern "C" fn bf_g128_inverse_in_place(values: &mut [Wide]) -> u32
     ensures { Inverts ghash_field values.old values.old values.new result }
 {
-    c_calls::invert_in_place::<u128, Wide, GhashKernel, u64x2>(values)
+    c_calls::invert_in_place(G128::new(), values)
 }
 
 /// Leaves the square root of each element.
@@ -155,7 +157,7 @@ pub extern "C" fn bf_g128_inverse_in_place(values: &mut [Wide]) -> u32
 pub extern "C" fn bf_g128_square_root_in_place(values: &mut [Wide]) -> u32
     ensures { TakesRoots ghash_field values.old values.old values.new result }
 {
-    in_place::change_each::<u128, Wide, GhashKernel, _>(values, &SquareRoot)
+    in_place::change_each(G128::new(), values, &SquareRoot)
 }
 
 /// Raises each element to the power of the exponent; to the power 0 it is 1.
@@ -163,7 +165,7 @@ pub extern "C" fn bf_g128_square_root_in_place(values: &mut [Wide]) -> u32
 pub extern "C" fn bf_g128_power_in_place(values: &mut [Wide], exponent: u64) -> u32
     ensures { RaisesTo ghash_field exponent values.old values.old values.new result }
 {
-    c_calls::raise_in_place::<u128, Wide, GhashKernel, u64x2>(values, exponent)
+    c_calls::raise_in_place(G128::new(), values, exponent)
 }
 
 /// The generator of the field's multiplicative group that the library names.
@@ -186,15 +188,7 @@ pub extern "C" fn bf_g128_matrix_multiply(
 ) -> u32
     ensures { MultipliesMatrices ghash_field rows inner columns left.now right.now product.old product.new result }
 {
-    c_calls::matrices::multiply(
-        Words::<u128, Wide, GhashKernel, u64x2>::new(),
-        left,
-        right,
-        product,
-        rows,
-        inner,
-        columns,
-    )
+    c_calls::matrices::multiply(G128::new(), left, right, product, rows, inner, columns)
 }
 
 /// Brings a matrix of rows rows of columns elements to reduced row echelon form; rank is its rank, the first rank of the rows places of
@@ -209,14 +203,7 @@ pub extern "C" fn bf_g128_matrix_row_reduce(
 ) -> u32
     ensures { ReducesRows ghash_field rows columns matrix.old pivots.old rank.old matrix.new pivots.new rank.new result }
 {
-    c_calls::matrices::row_reduce(
-        Words::<u128, Wide, GhashKernel, u64x2>::new(),
-        matrix,
-        rows,
-        columns,
-        pivots,
-        rank,
-    )
+    c_calls::matrices::row_reduce(G128::new(), matrix, rows, columns, pivots, rank)
 }
 
 /// The rank of a matrix of rows rows of columns elements, in as much space and rows places, which may be written whatever the status.
@@ -231,15 +218,7 @@ pub extern "C" fn bf_g128_matrix_rank(
 ) -> u32
     ensures { TakesRank ghash_field rows columns matrix.now (length space.old) (length places.old) rank.old rank.new result }
 {
-    c_calls::matrices::rank(
-        Words::<u128, Wide, GhashKernel, u64x2>::new(),
-        matrix,
-        rows,
-        columns,
-        space,
-        places,
-        rank,
-    )
+    c_calls::matrices::rank(G128::new(), matrix, rows, columns, space, places, rank)
 }
 
 /// The determinant of a matrix of size rows of size elements, in as much space, which may be written whatever the status; 1 of no rows.
@@ -252,13 +231,7 @@ pub extern "C" fn bf_g128_matrix_determinant(
 ) -> u32
     ensures { TakesDeterminant ghash_field size matrix.now (length space.old) determinant.old determinant.new result }
 {
-    c_calls::matrices::determinant(
-        Words::<u128, Wide, GhashKernel, u64x2>::new(),
-        matrix,
-        size,
-        space,
-        determinant,
-    )
+    c_calls::matrices::determinant(G128::new(), matrix, size, space, determinant)
 }
 
 /// The inverse of a matrix of size rows of size elements, in space for two of these and size places, which may be written whatever the
@@ -273,14 +246,7 @@ pub extern "C" fn bf_g128_matrix_inverse(
 ) -> u32
     ensures { InvertsMatrix ghash_field size matrix.now (length space.old) (length places.old) inverse.old inverse.new result }
 {
-    c_calls::matrices::inverse(
-        Words::<u128, Wide, GhashKernel, u64x2>::new(),
-        matrix,
-        size,
-        inverse,
-        space,
-        places,
-    )
+    c_calls::matrices::inverse(G128::new(), matrix, size, inverse, space, places)
 }
 
 /// A solution x of matrix * x = right, of rows equations in columns unknowns, in space for rows times columns + 1 elements and rows
@@ -299,7 +265,7 @@ pub extern "C" fn bf_g128_matrix_solve(
         (length places.old) solution.old solution.new result }
 {
     c_calls::matrices::solve(
-        Words::<u128, Wide, GhashKernel, u64x2>::new(),
+        G128::new(),
         matrix,
         rows,
         columns,

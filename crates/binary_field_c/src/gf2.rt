@@ -10,12 +10,14 @@ use c_calls::operations::{Square, SquareRoot, Sum};
 use c_calls::{Bits1, Tower, Words, in_place, slices};
 use std::simd::prelude::*;
 
+type Gf2 = Words<u8, u8, Tower<Bits1>, u64x2>;
+
 /// The sum of the elements at each place.
 #[unsafe(no_mangle)]
 pub extern "C" fn bf_gf2_add(left: &[u8], right: &[u8], sums: &mut [u8]) -> u32
     ensures { Adds (level_field 0) left.now right.now sums.old sums.new result }
 {
-    slices::write_each_of_two::<u8, u8, Tower<Bits1>, _>(left, right, sums, &Sum)
+    slices::write_each_of_two(Gf2::new(), left, right, sums, &Sum)
 }
 
 /// The product of the elements at each place.
@@ -23,7 +25,7 @@ pub extern "C" fn bf_gf2_add(left: &[u8], right: &[u8], sums: &mut [u8]) -> u32
 pub extern "C" fn bf_gf2_multiply(left: &[u8], right: &[u8], products: &mut [u8]) -> u32
     ensures { Multiplies (level_field 0) left.now right.now products.old products.new result }
 {
-    c_calls::multiply::<u8, u8, Tower<Bits1>, u64x2>(left, right, products)
+    c_calls::multiply(Gf2::new(), left, right, products)
 }
 
 /// The product of each element and the scalar.
@@ -31,7 +33,7 @@ pub extern "C" fn bf_gf2_multiply(left: &[u8], right: &[u8], products: &mut [u8]
 pub extern "C" fn bf_gf2_multiply_by(values: &[u8], scalar: u8, products: &mut [u8]) -> u32
     ensures { MultipliesBy (level_field 0) scalar values.now products.old products.new result }
 {
-    c_calls::multiply_by::<u8, u8, Tower<Bits1>, u64x2>(values, scalar, products)
+    c_calls::multiply_by(Gf2::new(), values, scalar, products)
 }
 
 /// Adds to each element of sums the scalar times the value at its place.
@@ -39,7 +41,7 @@ pub extern "C" fn bf_gf2_multiply_by(values: &[u8], scalar: u8, products: &mut [
 pub extern "C" fn bf_gf2_add_scaled(sums: &mut [u8], scalar: u8, values: &[u8]) -> u32
     ensures { AddsScaled (level_field 0) scalar values.now sums.old sums.new result }
 {
-    c_calls::add_scaled::<u8, u8, Tower<Bits1>, u64x2>(sums, scalar, values)
+    c_calls::add_scaled(Gf2::new(), sums, scalar, values)
 }
 
 /// The square of each element.
@@ -47,7 +49,7 @@ pub extern "C" fn bf_gf2_add_scaled(sums: &mut [u8], scalar: u8, values: &[u8]) 
 pub extern "C" fn bf_gf2_square(values: &[u8], squares: &mut [u8]) -> u32
     ensures { Squares (level_field 0) values.now squares.old squares.new result }
 {
-    slices::write_each::<u8, u8, Tower<Bits1>, _>(values, squares, &Square, false)
+    slices::write_each(Gf2::new(), values, squares, &Square, false)
 }
 
 /// The inverse of each element, and 0 for 0.
@@ -55,7 +57,7 @@ pub extern "C" fn bf_gf2_square(values: &[u8], squares: &mut [u8]) -> u32
 pub extern "C" fn bf_gf2_inverse(values: &[u8], inverses: &mut [u8]) -> u32
     ensures { Inverts (level_field 0) values.now inverses.old inverses.new result }
 {
-    c_calls::invert::<u8, u8, Tower<Bits1>, u64x2>(values, inverses)
+    c_calls::invert(Gf2::new(), values, inverses)
 }
 
 /// The same as inverse.
@@ -63,7 +65,7 @@ pub extern "C" fn bf_gf2_inverse(values: &[u8], inverses: &mut [u8]) -> u32
 pub extern "C" fn bf_gf2_batch_inverse(values: &[u8], inverses: &mut [u8]) -> u32
     ensures { Inverts (level_field 0) values.now inverses.old inverses.new result }
 {
-    c_calls::batch_invert::<u8, u8, Tower<Bits1>, u64x2>(values, inverses)
+    c_calls::batch_invert(Gf2::new(), values, inverses)
 }
 
 /// The square root of each element.
@@ -71,7 +73,7 @@ pub extern "C" fn bf_gf2_batch_inverse(values: &[u8], inverses: &mut [u8]) -> u3
 pub extern "C" fn bf_gf2_square_root(values: &[u8], roots: &mut [u8]) -> u32
     ensures { TakesRoots (level_field 0) values.now roots.old roots.new result }
 {
-    slices::write_each::<u8, u8, Tower<Bits1>, _>(values, roots, &SquareRoot, false)
+    slices::write_each(Gf2::new(), values, roots, &SquareRoot, false)
 }
 
 /// Each element to the power of the exponent; to the power 0 it is 1.
@@ -79,7 +81,7 @@ pub extern "C" fn bf_gf2_square_root(values: &[u8], roots: &mut [u8]) -> u32
 pub extern "C" fn bf_gf2_power(values: &[u8], exponent: u64, powers: &mut [u8]) -> u32
     ensures { RaisesTo (level_field 0) exponent values.now powers.old powers.new result }
 {
-    c_calls::raise::<u8, u8, Tower<Bits1>, u64x2>(values, exponent, powers)
+    c_calls::raise(Gf2::new(), values, exponent, powers)
 }
 
 /// The product of all elements, 1 of none.
@@ -87,7 +89,7 @@ pub extern "C" fn bf_gf2_power(values: &[u8], exponent: u64, powers: &mut [u8]) 
 pub extern "C" fn bf_gf2_product(values: &[u8], product: &mut u8) -> u32
     ensures { TakesProduct (level_field 0) values.now product.old product.new result }
 {
-    slices::product::<u8, u8, Tower<Bits1>>(values, product)
+    slices::product(Gf2::new(), values, product)
 }
 
 /// The sum of the products at each place, 0 of none.
@@ -95,7 +97,7 @@ pub extern "C" fn bf_gf2_product(values: &[u8], product: &mut u8) -> u32
 pub extern "C" fn bf_gf2_dot_product(left: &[u8], right: &[u8], sum: &mut u8) -> u32
     ensures { TakesDotProduct (level_field 0) left.now right.now sum.old sum.new result }
 {
-    c_calls::dot_product::<u8, u8, Tower<Bits1>, u64x2>(left, right, sum)
+    c_calls::dot_product(Gf2::new(), left, right, sum)
 }
 
 /// The value at each point of the polynomial with these coefficients, the constant one first; any number of coefficients.
@@ -103,7 +105,7 @@ pub extern "C" fn bf_gf2_dot_product(left: &[u8], right: &[u8], sum: &mut u8) ->
 pub extern "C" fn bf_gf2_evaluate(coefficients: &[u8], points: &[u8], values: &mut [u8]) -> u32
     ensures { Evaluates (level_field 0) coefficients.now points.now values.old values.new result }
 {
-    c_calls::evaluate::<u8, u8, Tower<Bits1>, u64x2>(coefficients, points, values)
+    c_calls::evaluate(Gf2::new(), coefficients, points, values)
 }
 
 /// Adds to each element of sums the value at its place.
@@ -111,7 +113,7 @@ pub extern "C" fn bf_gf2_evaluate(coefficients: &[u8], points: &[u8], values: &m
 pub extern "C" fn bf_gf2_add_in_place(sums: &mut [u8], values: &[u8]) -> u32
     ensures { Adds (level_field 0) sums.old values.now sums.old sums.new result }
 {
-    in_place::change_each_by::<u8, u8, Tower<Bits1>, _>(sums, values, &Sum)
+    in_place::change_each_by(Gf2::new(), sums, values, &Sum)
 }
 
 /// Multiplies each element of products by the value at its place.
@@ -119,7 +121,7 @@ pub extern "C" fn bf_gf2_add_in_place(sums: &mut [u8], values: &[u8]) -> u32
 pub extern "C" fn bf_gf2_multiply_in_place(products: &mut [u8], values: &[u8]) -> u32
     ensures { Multiplies (level_field 0) products.old values.now products.old products.new result }
 {
-    c_calls::multiply_in_place::<u8, u8, Tower<Bits1>, u64x2>(products, values)
+    c_calls::multiply_in_place(Gf2::new(), products, values)
 }
 
 /// Multiplies each element by the scalar.
@@ -127,7 +129,7 @@ pub extern "C" fn bf_gf2_multiply_in_place(products: &mut [u8], values: &[u8]) -
 pub extern "C" fn bf_gf2_multiply_by_in_place(values: &mut [u8], scalar: u8) -> u32
     ensures { MultipliesBy (level_field 0) scalar values.old values.old values.new result }
 {
-    c_calls::multiply_by_in_place::<u8, u8, Tower<Bits1>, u64x2>(values, scalar)
+    c_calls::multiply_by_in_place(Gf2::new(), values, scalar)
 }
 
 /// Squares each element.
@@ -135,7 +137,7 @@ pub extern "C" fn bf_gf2_multiply_by_in_place(values: &mut [u8], scalar: u8) -> 
 pub extern "C" fn bf_gf2_square_in_place(values: &mut [u8]) -> u32
     ensures { Squares (level_field 0) values.old values.old values.new result }
 {
-    in_place::change_each::<u8, u8, Tower<Bits1>, _>(values, &Square)
+    in_place::change_each(Gf2::new(), values, &Square)
 }
 
 /// Leaves the inverse of each element, and 0 of 0.
@@ -143,7 +145,7 @@ pub extern "C" fn bf_gf2_square_in_place(values: &mut [u8]) -> u32
 pub extern "C" fn bf_gf2_inverse_in_place(values: &mut [u8]) -> u32
     ensures { Inverts (level_field 0) values.old values.old values.new result }
 {
-    c_calls::invert_in_place::<u8, u8, Tower<Bits1>, u64x2>(values)
+    c_calls::invert_in_place(Gf2::new(), values)
 }
 
 /// Leaves the square root of each element.
@@ -151,7 +153,7 @@ pub extern "C" fn bf_gf2_inverse_in_place(values: &mut [u8]) -> u32
 pub extern "C" fn bf_gf2_square_root_in_place(values: &mut [u8]) -> u32
     ensures { TakesRoots (level_field 0) values.old values.old values.new result }
 {
-    in_place::change_each::<u8, u8, Tower<Bits1>, _>(values, &SquareRoot)
+    in_place::change_each(Gf2::new(), values, &SquareRoot)
 }
 
 /// Raises each element to the power of the exponent; to the power 0 it is 1.
@@ -159,7 +161,7 @@ pub extern "C" fn bf_gf2_square_root_in_place(values: &mut [u8]) -> u32
 pub extern "C" fn bf_gf2_power_in_place(values: &mut [u8], exponent: u64) -> u32
     ensures { RaisesTo (level_field 0) exponent values.old values.old values.new result }
 {
-    c_calls::raise_in_place::<u8, u8, Tower<Bits1>, u64x2>(values, exponent)
+    c_calls::raise_in_place(Gf2::new(), values, exponent)
 }
 
 /// The generator of the field's multiplicative group that the library names.
@@ -182,15 +184,7 @@ pub extern "C" fn bf_gf2_matrix_multiply(
 ) -> u32
     ensures { MultipliesMatrices (level_field 0) rows inner columns left.now right.now product.old product.new result }
 {
-    c_calls::matrices::multiply(
-        Words::<u8, u8, Tower<Bits1>, u64x2>::new(),
-        left,
-        right,
-        product,
-        rows,
-        inner,
-        columns,
-    )
+    c_calls::matrices::multiply(Gf2::new(), left, right, product, rows, inner, columns)
 }
 
 /// Brings a matrix of rows rows of columns elements to reduced row echelon form; rank is its rank, the first rank of the rows places of
@@ -205,14 +199,7 @@ pub extern "C" fn bf_gf2_matrix_row_reduce(
 ) -> u32
     ensures { ReducesRows (level_field 0) rows columns matrix.old pivots.old rank.old matrix.new pivots.new rank.new result }
 {
-    c_calls::matrices::row_reduce(
-        Words::<u8, u8, Tower<Bits1>, u64x2>::new(),
-        matrix,
-        rows,
-        columns,
-        pivots,
-        rank,
-    )
+    c_calls::matrices::row_reduce(Gf2::new(), matrix, rows, columns, pivots, rank)
 }
 
 /// The rank of a matrix of rows rows of columns elements, in as much space and rows places, which may be written whatever the status.
@@ -227,15 +214,7 @@ pub extern "C" fn bf_gf2_matrix_rank(
 ) -> u32
     ensures { TakesRank (level_field 0) rows columns matrix.now (length space.old) (length places.old) rank.old rank.new result }
 {
-    c_calls::matrices::rank(
-        Words::<u8, u8, Tower<Bits1>, u64x2>::new(),
-        matrix,
-        rows,
-        columns,
-        space,
-        places,
-        rank,
-    )
+    c_calls::matrices::rank(Gf2::new(), matrix, rows, columns, space, places, rank)
 }
 
 /// The determinant of a matrix of size rows of size elements, in as much space, which may be written whatever the status; 1 of no rows.
@@ -248,13 +227,7 @@ pub extern "C" fn bf_gf2_matrix_determinant(
 ) -> u32
     ensures { TakesDeterminant (level_field 0) size matrix.now (length space.old) determinant.old determinant.new result }
 {
-    c_calls::matrices::determinant(
-        Words::<u8, u8, Tower<Bits1>, u64x2>::new(),
-        matrix,
-        size,
-        space,
-        determinant,
-    )
+    c_calls::matrices::determinant(Gf2::new(), matrix, size, space, determinant)
 }
 
 /// The inverse of a matrix of size rows of size elements, in space for two of these and size places, which may be written whatever the
@@ -269,14 +242,7 @@ pub extern "C" fn bf_gf2_matrix_inverse(
 ) -> u32
     ensures { InvertsMatrix (level_field 0) size matrix.now (length space.old) (length places.old) inverse.old inverse.new result }
 {
-    c_calls::matrices::inverse(
-        Words::<u8, u8, Tower<Bits1>, u64x2>::new(),
-        matrix,
-        size,
-        inverse,
-        space,
-        places,
-    )
+    c_calls::matrices::inverse(Gf2::new(), matrix, size, inverse, space, places)
 }
 
 /// A solution x of matrix * x = right, of rows equations in columns unknowns, in space for rows times columns + 1 elements and rows
@@ -295,7 +261,7 @@ pub extern "C" fn bf_gf2_matrix_solve(
         (length places.old) solution.old solution.new result }
 {
     c_calls::matrices::solve(
-        Words::<u8, u8, Tower<Bits1>, u64x2>::new(),
+        Gf2::new(),
         matrix,
         rows,
         columns,

@@ -10,12 +10,14 @@ use c_calls::operations::{Square, SquareRoot, Sum};
 use c_calls::{Bits64, Tower, Words, in_place, slices};
 use std::simd::prelude::*;
 
+type T64 = Words<u64, u64, Tower<Bits64>, u64x2>;
+
 /// The sum of the elements at each place.
 #[unsafe(no_mangle)]
 pub extern "C" fn bf_t64_add(left: &[u64], right: &[u64], sums: &mut [u64]) -> u32
     ensures { Adds (level_field 6) left.now right.now sums.old sums.new result }
 {
-    slices::write_each_of_two::<u64, u64, Tower<Bits64>, _>(left, right, sums, &Sum)
+    slices::write_each_of_two(T64::new(), left, right, sums, &Sum)
 }
 
 /// The product of the elements at each place.
@@ -23,7 +25,7 @@ pub extern "C" fn bf_t64_add(left: &[u64], right: &[u64], sums: &mut [u64]) -> u
 pub extern "C" fn bf_t64_multiply(left: &[u64], right: &[u64], products: &mut [u64]) -> u32
     ensures { Multiplies (level_field 6) left.now right.now products.old products.new result }
 {
-    c_calls::multiply::<u64, u64, Tower<Bits64>, u64x2>(left, right, products)
+    c_calls::multiply(T64::new(), left, right, products)
 }
 
 /// The product of each element and the scalar.
@@ -31,7 +33,7 @@ pub extern "C" fn bf_t64_multiply(left: &[u64], right: &[u64], products: &mut [u
 pub extern "C" fn bf_t64_multiply_by(values: &[u64], scalar: u64, products: &mut [u64]) -> u32
     ensures { MultipliesBy (level_field 6) scalar values.now products.old products.new result }
 {
-    c_calls::multiply_by::<u64, u64, Tower<Bits64>, u64x2>(values, scalar, products)
+    c_calls::multiply_by(T64::new(), values, scalar, products)
 }
 
 /// Adds to each element of sums the scalar times the value at its place.
@@ -39,7 +41,7 @@ pub extern "C" fn bf_t64_multiply_by(values: &[u64], scalar: u64, products: &mut
 pub extern "C" fn bf_t64_add_scaled(sums: &mut [u64], scalar: u64, values: &[u64]) -> u32
     ensures { AddsScaled (level_field 6) scalar values.now sums.old sums.new result }
 {
-    c_calls::add_scaled::<u64, u64, Tower<Bits64>, u64x2>(sums, scalar, values)
+    c_calls::add_scaled(T64::new(), sums, scalar, values)
 }
 
 /// The square of each element.
@@ -47,7 +49,7 @@ pub extern "C" fn bf_t64_add_scaled(sums: &mut [u64], scalar: u64, values: &[u64
 pub extern "C" fn bf_t64_square(values: &[u64], squares: &mut [u64]) -> u32
     ensures { Squares (level_field 6) values.now squares.old squares.new result }
 {
-    slices::write_each::<u64, u64, Tower<Bits64>, _>(values, squares, &Square, false)
+    slices::write_each(T64::new(), values, squares, &Square, false)
 }
 
 /// The inverse of each element, and 0 for 0.
@@ -55,7 +57,7 @@ pub extern "C" fn bf_t64_square(values: &[u64], squares: &mut [u64]) -> u32
 pub extern "C" fn bf_t64_inverse(values: &[u64], inverses: &mut [u64]) -> u32
     ensures { Inverts (level_field 6) values.now inverses.old inverses.new result }
 {
-    c_calls::invert::<u64, u64, Tower<Bits64>, u64x2>(values, inverses)
+    c_calls::invert(T64::new(), values, inverses)
 }
 
 /// The same as inverse.
@@ -63,7 +65,7 @@ pub extern "C" fn bf_t64_inverse(values: &[u64], inverses: &mut [u64]) -> u32
 pub extern "C" fn bf_t64_batch_inverse(values: &[u64], inverses: &mut [u64]) -> u32
     ensures { Inverts (level_field 6) values.now inverses.old inverses.new result }
 {
-    c_calls::batch_invert::<u64, u64, Tower<Bits64>, u64x2>(values, inverses)
+    c_calls::batch_invert(T64::new(), values, inverses)
 }
 
 /// The square root of each element.
@@ -71,7 +73,7 @@ pub extern "C" fn bf_t64_batch_inverse(values: &[u64], inverses: &mut [u64]) -> 
 pub extern "C" fn bf_t64_square_root(values: &[u64], roots: &mut [u64]) -> u32
     ensures { TakesRoots (level_field 6) values.now roots.old roots.new result }
 {
-    slices::write_each::<u64, u64, Tower<Bits64>, _>(values, roots, &SquareRoot, false)
+    slices::write_each(T64::new(), values, roots, &SquareRoot, false)
 }
 
 /// Each element to the power of the exponent; to the power 0 it is 1.
@@ -79,7 +81,7 @@ pub extern "C" fn bf_t64_square_root(values: &[u64], roots: &mut [u64]) -> u32
 pub extern "C" fn bf_t64_power(values: &[u64], exponent: u64, powers: &mut [u64]) -> u32
     ensures { RaisesTo (level_field 6) exponent values.now powers.old powers.new result }
 {
-    c_calls::raise::<u64, u64, Tower<Bits64>, u64x2>(values, exponent, powers)
+    c_calls::raise(T64::new(), values, exponent, powers)
 }
 
 /// The product of all elements, 1 of none.
@@ -87,7 +89,7 @@ pub extern "C" fn bf_t64_power(values: &[u64], exponent: u64, powers: &mut [u64]
 pub extern "C" fn bf_t64_product(values: &[u64], product: &mut u64) -> u32
     ensures { TakesProduct (level_field 6) values.now product.old product.new result }
 {
-    slices::product::<u64, u64, Tower<Bits64>>(values, product)
+    slices::product(T64::new(), values, product)
 }
 
 /// The sum of the products at each place, 0 of none.
@@ -95,7 +97,7 @@ pub extern "C" fn bf_t64_product(values: &[u64], product: &mut u64) -> u32
 pub extern "C" fn bf_t64_dot_product(left: &[u64], right: &[u64], sum: &mut u64) -> u32
     ensures { TakesDotProduct (level_field 6) left.now right.now sum.old sum.new result }
 {
-    c_calls::dot_product::<u64, u64, Tower<Bits64>, u64x2>(left, right, sum)
+    c_calls::dot_product(T64::new(), left, right, sum)
 }
 
 /// The value at each point of the polynomial with these coefficients, the constant one first; any number of coefficients.
@@ -103,7 +105,7 @@ pub extern "C" fn bf_t64_dot_product(left: &[u64], right: &[u64], sum: &mut u64)
 pub extern "C" fn bf_t64_evaluate(coefficients: &[u64], points: &[u64], values: &mut [u64]) -> u32
     ensures { Evaluates (level_field 6) coefficients.now points.now values.old values.new result }
 {
-    c_calls::evaluate::<u64, u64, Tower<Bits64>, u64x2>(coefficients, points, values)
+    c_calls::evaluate(T64::new(), coefficients, points, values)
 }
 
 /// Adds to each element of sums the value at its place.
@@ -111,7 +113,7 @@ pub extern "C" fn bf_t64_evaluate(coefficients: &[u64], points: &[u64], values: 
 pub extern "C" fn bf_t64_add_in_place(sums: &mut [u64], values: &[u64]) -> u32
     ensures { Adds (level_field 6) sums.old values.now sums.old sums.new result }
 {
-    in_place::change_each_by::<u64, u64, Tower<Bits64>, _>(sums, values, &Sum)
+    in_place::change_each_by(T64::new(), sums, values, &Sum)
 }
 
 /// Multiplies each element of products by the value at its place.
@@ -119,7 +121,7 @@ pub extern "C" fn bf_t64_add_in_place(sums: &mut [u64], values: &[u64]) -> u32
 pub extern "C" fn bf_t64_multiply_in_place(products: &mut [u64], values: &[u64]) -> u32
     ensures { Multiplies (level_field 6) products.old values.now products.old products.new result }
 {
-    c_calls::multiply_in_place::<u64, u64, Tower<Bits64>, u64x2>(products, values)
+    c_calls::multiply_in_place(T64::new(), products, values)
 }
 
 /// Multiplies each element by the scalar.
@@ -127,7 +129,7 @@ pub extern "C" fn bf_t64_multiply_in_place(products: &mut [u64], values: &[u64])
 pub extern "C" fn bf_t64_multiply_by_in_place(values: &mut [u64], scalar: u64) -> u32
     ensures { MultipliesBy (level_field 6) scalar values.old values.old values.new result }
 {
-    c_calls::multiply_by_in_place::<u64, u64, Tower<Bits64>, u64x2>(values, scalar)
+    c_calls::multiply_by_in_place(T64::new(), values, scalar)
 }
 
 /// Squares each element.
@@ -135,7 +137,7 @@ pub extern "C" fn bf_t64_multiply_by_in_place(values: &mut [u64], scalar: u64) -
 pub extern "C" fn bf_t64_square_in_place(values: &mut [u64]) -> u32
     ensures { Squares (level_field 6) values.old values.old values.new result }
 {
-    in_place::change_each::<u64, u64, Tower<Bits64>, _>(values, &Square)
+    in_place::change_each(T64::new(), values, &Square)
 }
 
 /// Leaves the inverse of each element, and 0 of 0.
@@ -143,7 +145,7 @@ pub extern "C" fn bf_t64_square_in_place(values: &mut [u64]) -> u32
 pub extern "C" fn bf_t64_inverse_in_place(values: &mut [u64]) -> u32
     ensures { Inverts (level_field 6) values.old values.old values.new result }
 {
-    c_calls::invert_in_place::<u64, u64, Tower<Bits64>, u64x2>(values)
+    c_calls::invert_in_place(T64::new(), values)
 }
 
 /// Leaves the square root of each element.
@@ -151,7 +153,7 @@ pub extern "C" fn bf_t64_inverse_in_place(values: &mut [u64]) -> u32
 pub extern "C" fn bf_t64_square_root_in_place(values: &mut [u64]) -> u32
     ensures { TakesRoots (level_field 6) values.old values.old values.new result }
 {
-    in_place::change_each::<u64, u64, Tower<Bits64>, _>(values, &SquareRoot)
+    in_place::change_each(T64::new(), values, &SquareRoot)
 }
 
 /// Raises each element to the power of the exponent; to the power 0 it is 1.
@@ -159,7 +161,7 @@ pub extern "C" fn bf_t64_square_root_in_place(values: &mut [u64]) -> u32
 pub extern "C" fn bf_t64_power_in_place(values: &mut [u64], exponent: u64) -> u32
     ensures { RaisesTo (level_field 6) exponent values.old values.old values.new result }
 {
-    c_calls::raise_in_place::<u64, u64, Tower<Bits64>, u64x2>(values, exponent)
+    c_calls::raise_in_place(T64::new(), values, exponent)
 }
 
 /// The generator of the field's multiplicative group that the library names.
@@ -182,15 +184,7 @@ pub extern "C" fn bf_t64_matrix_multiply(
 ) -> u32
     ensures { MultipliesMatrices (level_field 6) rows inner columns left.now right.now product.old product.new result }
 {
-    c_calls::matrices::multiply(
-        Words::<u64, u64, Tower<Bits64>, u64x2>::new(),
-        left,
-        right,
-        product,
-        rows,
-        inner,
-        columns,
-    )
+    c_calls::matrices::multiply(T64::new(), left, right, product, rows, inner, columns)
 }
 
 /// Brings a matrix of rows rows of columns elements to reduced row echelon form; rank is its rank, the first rank of the rows places of
@@ -205,14 +199,7 @@ pub extern "C" fn bf_t64_matrix_row_reduce(
 ) -> u32
     ensures { ReducesRows (level_field 6) rows columns matrix.old pivots.old rank.old matrix.new pivots.new rank.new result }
 {
-    c_calls::matrices::row_reduce(
-        Words::<u64, u64, Tower<Bits64>, u64x2>::new(),
-        matrix,
-        rows,
-        columns,
-        pivots,
-        rank,
-    )
+    c_calls::matrices::row_reduce(T64::new(), matrix, rows, columns, pivots, rank)
 }
 
 /// The rank of a matrix of rows rows of columns elements, in as much space and rows places, which may be written whatever the status.
@@ -227,15 +214,7 @@ pub extern "C" fn bf_t64_matrix_rank(
 ) -> u32
     ensures { TakesRank (level_field 6) rows columns matrix.now (length space.old) (length places.old) rank.old rank.new result }
 {
-    c_calls::matrices::rank(
-        Words::<u64, u64, Tower<Bits64>, u64x2>::new(),
-        matrix,
-        rows,
-        columns,
-        space,
-        places,
-        rank,
-    )
+    c_calls::matrices::rank(T64::new(), matrix, rows, columns, space, places, rank)
 }
 
 /// The determinant of a matrix of size rows of size elements, in as much space, which may be written whatever the status; 1 of no rows.
@@ -248,13 +227,7 @@ pub extern "C" fn bf_t64_matrix_determinant(
 ) -> u32
     ensures { TakesDeterminant (level_field 6) size matrix.now (length space.old) determinant.old determinant.new result }
 {
-    c_calls::matrices::determinant(
-        Words::<u64, u64, Tower<Bits64>, u64x2>::new(),
-        matrix,
-        size,
-        space,
-        determinant,
-    )
+    c_calls::matrices::determinant(T64::new(), matrix, size, space, determinant)
 }
 
 /// The inverse of a matrix of size rows of size elements, in space for two of these and size places, which may be written whatever the
@@ -269,14 +242,7 @@ pub extern "C" fn bf_t64_matrix_inverse(
 ) -> u32
     ensures { InvertsMatrix (level_field 6) size matrix.now (length space.old) (length places.old) inverse.old inverse.new result }
 {
-    c_calls::matrices::inverse(
-        Words::<u64, u64, Tower<Bits64>, u64x2>::new(),
-        matrix,
-        size,
-        inverse,
-        space,
-        places,
-    )
+    c_calls::matrices::inverse(T64::new(), matrix, size, inverse, space, places)
 }
 
 /// A solution x of matrix * x = right, of rows equations in columns unknowns, in space for rows times columns + 1 elements and rows
@@ -295,7 +261,7 @@ pub extern "C" fn bf_t64_matrix_solve(
         (length places.old) solution.old solution.new result }
 {
     c_calls::matrices::solve(
-        Words::<u64, u64, Tower<Bits64>, u64x2>::new(),
+        T64::new(),
         matrix,
         rows,
         columns,

@@ -10,12 +10,14 @@ use c_calls::operations::{Square, SquareRoot, Sum};
 use c_calls::{Bits8, Tower, Words, in_place, slices};
 use std::simd::prelude::*;
 
+type T8 = Words<u8, u8, Tower<Bits8>, u64x2>;
+
 /// The sum of the elements at each place.
 #[unsafe(no_mangle)]
 pub extern "C" fn bf_t8_add(left: &[u8], right: &[u8], sums: &mut [u8]) -> u32
     ensures { Adds (level_field 3) left.now right.now sums.old sums.new result }
 {
-    slices::write_each_of_two::<u8, u8, Tower<Bits8>, _>(left, right, sums, &Sum)
+    slices::write_each_of_two(T8::new(), left, right, sums, &Sum)
 }
 
 /// The product of the elements at each place.
@@ -23,7 +25,7 @@ pub extern "C" fn bf_t8_add(left: &[u8], right: &[u8], sums: &mut [u8]) -> u32
 pub extern "C" fn bf_t8_multiply(left: &[u8], right: &[u8], products: &mut [u8]) -> u32
     ensures { Multiplies (level_field 3) left.now right.now products.old products.new result }
 {
-    c_calls::multiply::<u8, u8, Tower<Bits8>, u64x2>(left, right, products)
+    c_calls::multiply(T8::new(), left, right, products)
 }
 
 /// The product of each element and the scalar.
@@ -31,7 +33,7 @@ pub extern "C" fn bf_t8_multiply(left: &[u8], right: &[u8], products: &mut [u8])
 pub extern "C" fn bf_t8_multiply_by(values: &[u8], scalar: u8, products: &mut [u8]) -> u32
     ensures { MultipliesBy (level_field 3) scalar values.now products.old products.new result }
 {
-    c_calls::multiply_by::<u8, u8, Tower<Bits8>, u64x2>(values, scalar, products)
+    c_calls::multiply_by(T8::new(), values, scalar, products)
 }
 
 /// Adds to each element of sums the scalar times the value at its place.
@@ -39,7 +41,7 @@ pub extern "C" fn bf_t8_multiply_by(values: &[u8], scalar: u8, products: &mut [u
 pub extern "C" fn bf_t8_add_scaled(sums: &mut [u8], scalar: u8, values: &[u8]) -> u32
     ensures { AddsScaled (level_field 3) scalar values.now sums.old sums.new result }
 {
-    c_calls::add_scaled::<u8, u8, Tower<Bits8>, u64x2>(sums, scalar, values)
+    c_calls::add_scaled(T8::new(), sums, scalar, values)
 }
 
 /// The square of each element.
@@ -47,7 +49,7 @@ pub extern "C" fn bf_t8_add_scaled(sums: &mut [u8], scalar: u8, values: &[u8]) -
 pub extern "C" fn bf_t8_square(values: &[u8], squares: &mut [u8]) -> u32
     ensures { Squares (level_field 3) values.now squares.old squares.new result }
 {
-    slices::write_each::<u8, u8, Tower<Bits8>, _>(values, squares, &Square, false)
+    slices::write_each(T8::new(), values, squares, &Square, false)
 }
 
 /// The inverse of each element, and 0 for 0.
@@ -55,7 +57,7 @@ pub extern "C" fn bf_t8_square(values: &[u8], squares: &mut [u8]) -> u32
 pub extern "C" fn bf_t8_inverse(values: &[u8], inverses: &mut [u8]) -> u32
     ensures { Inverts (level_field 3) values.now inverses.old inverses.new result }
 {
-    c_calls::invert::<u8, u8, Tower<Bits8>, u64x2>(values, inverses)
+    c_calls::invert(T8::new(), values, inverses)
 }
 
 /// The same as inverse.
@@ -63,7 +65,7 @@ pub extern "C" fn bf_t8_inverse(values: &[u8], inverses: &mut [u8]) -> u32
 pub extern "C" fn bf_t8_batch_inverse(values: &[u8], inverses: &mut [u8]) -> u32
     ensures { Inverts (level_field 3) values.now inverses.old inverses.new result }
 {
-    c_calls::batch_invert::<u8, u8, Tower<Bits8>, u64x2>(values, inverses)
+    c_calls::batch_invert(T8::new(), values, inverses)
 }
 
 /// The square root of each element.
@@ -71,7 +73,7 @@ pub extern "C" fn bf_t8_batch_inverse(values: &[u8], inverses: &mut [u8]) -> u32
 pub extern "C" fn bf_t8_square_root(values: &[u8], roots: &mut [u8]) -> u32
     ensures { TakesRoots (level_field 3) values.now roots.old roots.new result }
 {
-    slices::write_each::<u8, u8, Tower<Bits8>, _>(values, roots, &SquareRoot, false)
+    slices::write_each(T8::new(), values, roots, &SquareRoot, false)
 }
 
 /// Each element to the power of the exponent; to the power 0 it is 1.
@@ -79,7 +81,7 @@ pub extern "C" fn bf_t8_square_root(values: &[u8], roots: &mut [u8]) -> u32
 pub extern "C" fn bf_t8_power(values: &[u8], exponent: u64, powers: &mut [u8]) -> u32
     ensures { RaisesTo (level_field 3) exponent values.now powers.old powers.new result }
 {
-    c_calls::raise::<u8, u8, Tower<Bits8>, u64x2>(values, exponent, powers)
+    c_calls::raise(T8::new(), values, exponent, powers)
 }
 
 /// The product of all elements, 1 of none.
@@ -87,7 +89,7 @@ pub extern "C" fn bf_t8_power(values: &[u8], exponent: u64, powers: &mut [u8]) -
 pub extern "C" fn bf_t8_product(values: &[u8], product: &mut u8) -> u32
     ensures { TakesProduct (level_field 3) values.now product.old product.new result }
 {
-    slices::product::<u8, u8, Tower<Bits8>>(values, product)
+    slices::product(T8::new(), values, product)
 }
 
 /// The sum of the products at each place, 0 of none.
@@ -95,7 +97,7 @@ pub extern "C" fn bf_t8_product(values: &[u8], product: &mut u8) -> u32
 pub extern "C" fn bf_t8_dot_product(left: &[u8], right: &[u8], sum: &mut u8) -> u32
     ensures { TakesDotProduct (level_field 3) left.now right.now sum.old sum.new result }
 {
-    c_calls::dot_product::<u8, u8, Tower<Bits8>, u64x2>(left, right, sum)
+    c_calls::dot_product(T8::new(), left, right, sum)
 }
 
 /// The value at each point of the polynomial with these coefficients, the constant one first; any number of coefficients.
@@ -103,7 +105,7 @@ pub extern "C" fn bf_t8_dot_product(left: &[u8], right: &[u8], sum: &mut u8) -> 
 pub extern "C" fn bf_t8_evaluate(coefficients: &[u8], points: &[u8], values: &mut [u8]) -> u32
     ensures { Evaluates (level_field 3) coefficients.now points.now values.old values.new result }
 {
-    c_calls::evaluate::<u8, u8, Tower<Bits8>, u64x2>(coefficients, points, values)
+    c_calls::evaluate(T8::new(), coefficients, points, values)
 }
 
 /// Adds to each element of sums the value at its place.
@@ -111,7 +113,7 @@ pub extern "C" fn bf_t8_evaluate(coefficients: &[u8], points: &[u8], values: &mu
 pub extern "C" fn bf_t8_add_in_place(sums: &mut [u8], values: &[u8]) -> u32
     ensures { Adds (level_field 3) sums.old values.now sums.old sums.new result }
 {
-    in_place::change_each_by::<u8, u8, Tower<Bits8>, _>(sums, values, &Sum)
+    in_place::change_each_by(T8::new(), sums, values, &Sum)
 }
 
 /// Multiplies each element of products by the value at its place.
@@ -119,7 +121,7 @@ pub extern "C" fn bf_t8_add_in_place(sums: &mut [u8], values: &[u8]) -> u32
 pub extern "C" fn bf_t8_multiply_in_place(products: &mut [u8], values: &[u8]) -> u32
     ensures { Multiplies (level_field 3) products.old values.now products.old products.new result }
 {
-    c_calls::multiply_in_place::<u8, u8, Tower<Bits8>, u64x2>(products, values)
+    c_calls::multiply_in_place(T8::new(), products, values)
 }
 
 /// Multiplies each element by the scalar.
@@ -127,7 +129,7 @@ pub extern "C" fn bf_t8_multiply_in_place(products: &mut [u8], values: &[u8]) ->
 pub extern "C" fn bf_t8_multiply_by_in_place(values: &mut [u8], scalar: u8) -> u32
     ensures { MultipliesBy (level_field 3) scalar values.old values.old values.new result }
 {
-    c_calls::multiply_by_in_place::<u8, u8, Tower<Bits8>, u64x2>(values, scalar)
+    c_calls::multiply_by_in_place(T8::new(), values, scalar)
 }
 
 /// Squares each element.
@@ -135,7 +137,7 @@ pub extern "C" fn bf_t8_multiply_by_in_place(values: &mut [u8], scalar: u8) -> u
 pub extern "C" fn bf_t8_square_in_place(values: &mut [u8]) -> u32
     ensures { Squares (level_field 3) values.old values.old values.new result }
 {
-    in_place::change_each::<u8, u8, Tower<Bits8>, _>(values, &Square)
+    in_place::change_each(T8::new(), values, &Square)
 }
 
 /// Leaves the inverse of each element, and 0 of 0.
@@ -143,7 +145,7 @@ pub extern "C" fn bf_t8_square_in_place(values: &mut [u8]) -> u32
 pub extern "C" fn bf_t8_inverse_in_place(values: &mut [u8]) -> u32
     ensures { Inverts (level_field 3) values.old values.old values.new result }
 {
-    c_calls::invert_in_place::<u8, u8, Tower<Bits8>, u64x2>(values)
+    c_calls::invert_in_place(T8::new(), values)
 }
 
 /// Leaves the square root of each element.
@@ -151,7 +153,7 @@ pub extern "C" fn bf_t8_inverse_in_place(values: &mut [u8]) -> u32
 pub extern "C" fn bf_t8_square_root_in_place(values: &mut [u8]) -> u32
     ensures { TakesRoots (level_field 3) values.old values.old values.new result }
 {
-    in_place::change_each::<u8, u8, Tower<Bits8>, _>(values, &SquareRoot)
+    in_place::change_each(T8::new(), values, &SquareRoot)
 }
 
 /// Raises each element to the power of the exponent; to the power 0 it is 1.
@@ -159,7 +161,7 @@ pub extern "C" fn bf_t8_square_root_in_place(values: &mut [u8]) -> u32
 pub extern "C" fn bf_t8_power_in_place(values: &mut [u8], exponent: u64) -> u32
     ensures { RaisesTo (level_field 3) exponent values.old values.old values.new result }
 {
-    c_calls::raise_in_place::<u8, u8, Tower<Bits8>, u64x2>(values, exponent)
+    c_calls::raise_in_place(T8::new(), values, exponent)
 }
 
 /// The generator of the field's multiplicative group that the library names.
@@ -199,14 +201,7 @@ pub extern "C" fn bf_t8_matrix_row_reduce(
 ) -> u32
     ensures { ReducesRows (level_field 3) rows columns matrix.old pivots.old rank.old matrix.new pivots.new rank.new result }
 {
-    c_calls::matrices::row_reduce(
-        Words::<u8, u8, Tower<Bits8>, u64x2>::new(),
-        matrix,
-        rows,
-        columns,
-        pivots,
-        rank,
-    )
+    c_calls::matrices::row_reduce(T8::new(), matrix, rows, columns, pivots, rank)
 }
 
 /// The rank of a matrix of rows rows of columns elements, in as much space and rows places, which may be written whatever the status.
@@ -221,15 +216,7 @@ pub extern "C" fn bf_t8_matrix_rank(
 ) -> u32
     ensures { TakesRank (level_field 3) rows columns matrix.now (length space.old) (length places.old) rank.old rank.new result }
 {
-    c_calls::matrices::rank(
-        Words::<u8, u8, Tower<Bits8>, u64x2>::new(),
-        matrix,
-        rows,
-        columns,
-        space,
-        places,
-        rank,
-    )
+    c_calls::matrices::rank(T8::new(), matrix, rows, columns, space, places, rank)
 }
 
 /// The determinant of a matrix of size rows of size elements, in as much space, which may be written whatever the status; 1 of no rows.
@@ -242,13 +229,7 @@ pub extern "C" fn bf_t8_matrix_determinant(
 ) -> u32
     ensures { TakesDeterminant (level_field 3) size matrix.now (length space.old) determinant.old determinant.new result }
 {
-    c_calls::matrices::determinant(
-        Words::<u8, u8, Tower<Bits8>, u64x2>::new(),
-        matrix,
-        size,
-        space,
-        determinant,
-    )
+    c_calls::matrices::determinant(T8::new(), matrix, size, space, determinant)
 }
 
 /// The inverse of a matrix of size rows of size elements, in space for two of these and size places, which may be written whatever the
@@ -263,14 +244,7 @@ pub extern "C" fn bf_t8_matrix_inverse(
 ) -> u32
     ensures { InvertsMatrix (level_field 3) size matrix.now (length space.old) (length places.old) inverse.old inverse.new result }
 {
-    c_calls::matrices::inverse(
-        Words::<u8, u8, Tower<Bits8>, u64x2>::new(),
-        matrix,
-        size,
-        inverse,
-        space,
-        places,
-    )
+    c_calls::matrices::inverse(T8::new(), matrix, size, inverse, space, places)
 }
 
 /// A solution x of matrix * x = right, of rows equations in columns unknowns, in space for rows times columns + 1 elements and rows
@@ -289,7 +263,7 @@ pub extern "C" fn bf_t8_matrix_solve(
         (length places.old) solution.old solution.new result }
 {
     c_calls::matrices::solve(
-        Words::<u8, u8, Tower<Bits8>, u64x2>::new(),
+        T8::new(),
         matrix,
         rows,
         columns,

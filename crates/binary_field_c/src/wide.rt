@@ -17,12 +17,26 @@ use c_calls::{
 };
 use std::simd::prelude::*;
 
+type T8 = Words<u8, u8, Tower<Bits8>, u64x4>;
+
+type T16 = Words<u16, u16, Tower<Bits16>, u64x4>;
+
+type T32 = Words<u32, u32, Tower<Bits32>, u64x4>;
+
+type T64 = Words<u64, u64, Tower<Bits64>, u64x4>;
+
+type T128 = Words<u128, Wide, Tower<Bits128>, u64x4>;
+
+type P64 = Words<u64, u64, Poly64Kernel, u64x4>;
+
+type G128 = Words<u128, Wide, GhashKernel, u64x4>;
+
 /// The same as `bf_g128_multiply`.
 #[unsafe(no_mangle)]
 pub extern "C" fn bf_g128_multiply_wide(left: &[Wide], right: &[Wide], products: &mut [Wide]) -> u32
     ensures { Multiplies ghash_field left.now right.now products.old products.new result }
 {
-    c_calls::multiply::<u128, Wide, GhashKernel, u64x4>(left, right, products)
+    c_calls::multiply(G128::new(), left, right, products)
 }
 
 /// The same as `bf_g128_multiply_in_place`.
@@ -30,7 +44,7 @@ pub extern "C" fn bf_g128_multiply_wide(left: &[Wide], right: &[Wide], products:
 pub extern "C" fn bf_g128_multiply_in_place_wide(products: &mut [Wide], values: &[Wide]) -> u32
     ensures { Multiplies ghash_field products.old values.now products.old products.new result }
 {
-    c_calls::multiply_in_place::<u128, Wide, GhashKernel, u64x4>(products, values)
+    c_calls::multiply_in_place(G128::new(), products, values)
 }
 
 /// The same as `bf_g128_multiply_by`.
@@ -42,7 +56,7 @@ pub extern "C" fn bf_g128_multiply_by_wide(
 ) -> u32
     ensures { MultipliesBy ghash_field scalar.now values.now products.old products.new result }
 {
-    c_calls::multiply_by::<u128, Wide, GhashKernel, u64x4>(values, *scalar, products)
+    c_calls::multiply_by(G128::new(), values, *scalar, products)
 }
 
 /// The same as `bf_g128_multiply_by_in_place`.
@@ -50,7 +64,7 @@ pub extern "C" fn bf_g128_multiply_by_wide(
 pub extern "C" fn bf_g128_multiply_by_in_place_wide(values: &mut [Wide], scalar: &Wide) -> u32
     ensures { MultipliesBy ghash_field scalar.now values.old values.old values.new result }
 {
-    c_calls::multiply_by_in_place::<u128, Wide, GhashKernel, u64x4>(values, *scalar)
+    c_calls::multiply_by_in_place(G128::new(), values, *scalar)
 }
 
 /// The same as `bf_g128_add_scaled`.
@@ -58,7 +72,7 @@ pub extern "C" fn bf_g128_multiply_by_in_place_wide(values: &mut [Wide], scalar:
 pub extern "C" fn bf_g128_add_scaled_wide(sums: &mut [Wide], scalar: &Wide, values: &[Wide]) -> u32
     ensures { AddsScaled ghash_field scalar.now values.now sums.old sums.new result }
 {
-    c_calls::add_scaled::<u128, Wide, GhashKernel, u64x4>(sums, *scalar, values)
+    c_calls::add_scaled(G128::new(), sums, *scalar, values)
 }
 
 /// The same as `bf_g128_dot_product`.
@@ -66,7 +80,7 @@ pub extern "C" fn bf_g128_add_scaled_wide(sums: &mut [Wide], scalar: &Wide, valu
 pub extern "C" fn bf_g128_dot_product_wide(left: &[Wide], right: &[Wide], sum: &mut Wide) -> u32
     ensures { TakesDotProduct ghash_field left.now right.now sum.old sum.new result }
 {
-    c_calls::dot_product::<u128, Wide, GhashKernel, u64x4>(left, right, sum)
+    c_calls::dot_product(G128::new(), left, right, sum)
 }
 
 /// The same as `bf_g128_butterfly_forward`.
@@ -127,7 +141,7 @@ pub extern "C" fn bf_g128_inverse_transform_wide(values: &mut [Wide], shift: &Wi
 pub extern "C" fn bf_t16_multiply_wide(left: &[u16], right: &[u16], products: &mut [u16]) -> u32
     ensures { Multiplies (level_field 4) left.now right.now products.old products.new result }
 {
-    c_calls::multiply::<u16, u16, Tower<Bits16>, u64x4>(left, right, products)
+    c_calls::multiply(T16::new(), left, right, products)
 }
 
 /// The same as `bf_t16_multiply_in_place`.
@@ -135,7 +149,7 @@ pub extern "C" fn bf_t16_multiply_wide(left: &[u16], right: &[u16], products: &m
 pub extern "C" fn bf_t16_multiply_in_place_wide(products: &mut [u16], values: &[u16]) -> u32
     ensures { Multiplies (level_field 4) products.old values.now products.old products.new result }
 {
-    c_calls::multiply_in_place::<u16, u16, Tower<Bits16>, u64x4>(products, values)
+    c_calls::multiply_in_place(T16::new(), products, values)
 }
 
 /// The same as `bf_t16_inverse`.
@@ -143,7 +157,7 @@ pub extern "C" fn bf_t16_multiply_in_place_wide(products: &mut [u16], values: &[
 pub extern "C" fn bf_t16_inverse_wide(values: &[u16], inverses: &mut [u16]) -> u32
     ensures { Inverts (level_field 4) values.now inverses.old inverses.new result }
 {
-    c_calls::invert::<u16, u16, Tower<Bits16>, u64x4>(values, inverses)
+    c_calls::invert(T16::new(), values, inverses)
 }
 
 /// The same as `bf_t16_inverse_in_place`.
@@ -151,7 +165,7 @@ pub extern "C" fn bf_t16_inverse_wide(values: &[u16], inverses: &mut [u16]) -> u
 pub extern "C" fn bf_t16_inverse_in_place_wide(values: &mut [u16]) -> u32
     ensures { Inverts (level_field 4) values.old values.old values.new result }
 {
-    c_calls::invert_in_place::<u16, u16, Tower<Bits16>, u64x4>(values)
+    c_calls::invert_in_place(T16::new(), values)
 }
 
 /// The same as `bf_t16_batch_inverse`.
@@ -159,7 +173,7 @@ pub extern "C" fn bf_t16_inverse_in_place_wide(values: &mut [u16]) -> u32
 pub extern "C" fn bf_t16_batch_inverse_wide(values: &[u16], inverses: &mut [u16]) -> u32
     ensures { Inverts (level_field 4) values.now inverses.old inverses.new result }
 {
-    c_calls::batch_invert::<u16, u16, Tower<Bits16>, u64x4>(values, inverses)
+    c_calls::batch_invert(T16::new(), values, inverses)
 }
 
 /// The same as `bf_t16_power`.
@@ -167,7 +181,7 @@ pub extern "C" fn bf_t16_batch_inverse_wide(values: &[u16], inverses: &mut [u16]
 pub extern "C" fn bf_t16_power_wide(values: &[u16], exponent: u64, powers: &mut [u16]) -> u32
     ensures { RaisesTo (level_field 4) exponent values.now powers.old powers.new result }
 {
-    c_calls::raise::<u16, u16, Tower<Bits16>, u64x4>(values, exponent, powers)
+    c_calls::raise(T16::new(), values, exponent, powers)
 }
 
 /// The same as `bf_t16_power_in_place`.
@@ -175,7 +189,7 @@ pub extern "C" fn bf_t16_power_wide(values: &[u16], exponent: u64, powers: &mut 
 pub extern "C" fn bf_t16_power_in_place_wide(values: &mut [u16], exponent: u64) -> u32
     ensures { RaisesTo (level_field 4) exponent values.old values.old values.new result }
 {
-    c_calls::raise_in_place::<u16, u16, Tower<Bits16>, u64x4>(values, exponent)
+    c_calls::raise_in_place(T16::new(), values, exponent)
 }
 
 /// The same as `bf_t32_multiply`.
@@ -183,7 +197,7 @@ pub extern "C" fn bf_t16_power_in_place_wide(values: &mut [u16], exponent: u64) 
 pub extern "C" fn bf_t32_multiply_wide(left: &[u32], right: &[u32], products: &mut [u32]) -> u32
     ensures { Multiplies (level_field 5) left.now right.now products.old products.new result }
 {
-    c_calls::multiply::<u32, u32, Tower<Bits32>, u64x4>(left, right, products)
+    c_calls::multiply(T32::new(), left, right, products)
 }
 
 /// The same as `bf_t32_multiply_in_place`.
@@ -191,7 +205,7 @@ pub extern "C" fn bf_t32_multiply_wide(left: &[u32], right: &[u32], products: &m
 pub extern "C" fn bf_t32_multiply_in_place_wide(products: &mut [u32], values: &[u32]) -> u32
     ensures { Multiplies (level_field 5) products.old values.now products.old products.new result }
 {
-    c_calls::multiply_in_place::<u32, u32, Tower<Bits32>, u64x4>(products, values)
+    c_calls::multiply_in_place(T32::new(), products, values)
 }
 
 /// The same as `bf_t32_inverse`.
@@ -199,7 +213,7 @@ pub extern "C" fn bf_t32_multiply_in_place_wide(products: &mut [u32], values: &[
 pub extern "C" fn bf_t32_inverse_wide(values: &[u32], inverses: &mut [u32]) -> u32
     ensures { Inverts (level_field 5) values.now inverses.old inverses.new result }
 {
-    c_calls::invert::<u32, u32, Tower<Bits32>, u64x4>(values, inverses)
+    c_calls::invert(T32::new(), values, inverses)
 }
 
 /// The same as `bf_t32_inverse_in_place`.
@@ -207,7 +221,7 @@ pub extern "C" fn bf_t32_inverse_wide(values: &[u32], inverses: &mut [u32]) -> u
 pub extern "C" fn bf_t32_inverse_in_place_wide(values: &mut [u32]) -> u32
     ensures { Inverts (level_field 5) values.old values.old values.new result }
 {
-    c_calls::invert_in_place::<u32, u32, Tower<Bits32>, u64x4>(values)
+    c_calls::invert_in_place(T32::new(), values)
 }
 
 /// The same as `bf_t32_batch_inverse`.
@@ -215,7 +229,7 @@ pub extern "C" fn bf_t32_inverse_in_place_wide(values: &mut [u32]) -> u32
 pub extern "C" fn bf_t32_batch_inverse_wide(values: &[u32], inverses: &mut [u32]) -> u32
     ensures { Inverts (level_field 5) values.now inverses.old inverses.new result }
 {
-    c_calls::batch_invert::<u32, u32, Tower<Bits32>, u64x4>(values, inverses)
+    c_calls::batch_invert(T32::new(), values, inverses)
 }
 
 /// The same as `bf_t32_power`.
@@ -223,7 +237,7 @@ pub extern "C" fn bf_t32_batch_inverse_wide(values: &[u32], inverses: &mut [u32]
 pub extern "C" fn bf_t32_power_wide(values: &[u32], exponent: u64, powers: &mut [u32]) -> u32
     ensures { RaisesTo (level_field 5) exponent values.now powers.old powers.new result }
 {
-    c_calls::raise::<u32, u32, Tower<Bits32>, u64x4>(values, exponent, powers)
+    c_calls::raise(T32::new(), values, exponent, powers)
 }
 
 /// The same as `bf_t32_power_in_place`.
@@ -231,7 +245,7 @@ pub extern "C" fn bf_t32_power_wide(values: &[u32], exponent: u64, powers: &mut 
 pub extern "C" fn bf_t32_power_in_place_wide(values: &mut [u32], exponent: u64) -> u32
     ensures { RaisesTo (level_field 5) exponent values.old values.old values.new result }
 {
-    c_calls::raise_in_place::<u32, u32, Tower<Bits32>, u64x4>(values, exponent)
+    c_calls::raise_in_place(T32::new(), values, exponent)
 }
 
 /// The same as `bf_t64_multiply`.
@@ -239,7 +253,7 @@ pub extern "C" fn bf_t32_power_in_place_wide(values: &mut [u32], exponent: u64) 
 pub extern "C" fn bf_t64_multiply_wide(left: &[u64], right: &[u64], products: &mut [u64]) -> u32
     ensures { Multiplies (level_field 6) left.now right.now products.old products.new result }
 {
-    c_calls::multiply::<u64, u64, Tower<Bits64>, u64x4>(left, right, products)
+    c_calls::multiply(T64::new(), left, right, products)
 }
 
 /// The same as `bf_t64_multiply_in_place`.
@@ -247,7 +261,7 @@ pub extern "C" fn bf_t64_multiply_wide(left: &[u64], right: &[u64], products: &m
 pub extern "C" fn bf_t64_multiply_in_place_wide(products: &mut [u64], values: &[u64]) -> u32
     ensures { Multiplies (level_field 6) products.old values.now products.old products.new result }
 {
-    c_calls::multiply_in_place::<u64, u64, Tower<Bits64>, u64x4>(products, values)
+    c_calls::multiply_in_place(T64::new(), products, values)
 }
 
 /// The same as `bf_t64_inverse`.
@@ -255,7 +269,7 @@ pub extern "C" fn bf_t64_multiply_in_place_wide(products: &mut [u64], values: &[
 pub extern "C" fn bf_t64_inverse_wide(values: &[u64], inverses: &mut [u64]) -> u32
     ensures { Inverts (level_field 6) values.now inverses.old inverses.new result }
 {
-    c_calls::invert::<u64, u64, Tower<Bits64>, u64x4>(values, inverses)
+    c_calls::invert(T64::new(), values, inverses)
 }
 
 /// The same as `bf_t64_inverse_in_place`.
@@ -263,7 +277,7 @@ pub extern "C" fn bf_t64_inverse_wide(values: &[u64], inverses: &mut [u64]) -> u
 pub extern "C" fn bf_t64_inverse_in_place_wide(values: &mut [u64]) -> u32
     ensures { Inverts (level_field 6) values.old values.old values.new result }
 {
-    c_calls::invert_in_place::<u64, u64, Tower<Bits64>, u64x4>(values)
+    c_calls::invert_in_place(T64::new(), values)
 }
 
 /// The same as `bf_t64_batch_inverse`.
@@ -271,7 +285,7 @@ pub extern "C" fn bf_t64_inverse_in_place_wide(values: &mut [u64]) -> u32
 pub extern "C" fn bf_t64_batch_inverse_wide(values: &[u64], inverses: &mut [u64]) -> u32
     ensures { Inverts (level_field 6) values.now inverses.old inverses.new result }
 {
-    c_calls::batch_invert::<u64, u64, Tower<Bits64>, u64x4>(values, inverses)
+    c_calls::batch_invert(T64::new(), values, inverses)
 }
 
 /// The same as `bf_t64_power`.
@@ -279,7 +293,7 @@ pub extern "C" fn bf_t64_batch_inverse_wide(values: &[u64], inverses: &mut [u64]
 pub extern "C" fn bf_t64_power_wide(values: &[u64], exponent: u64, powers: &mut [u64]) -> u32
     ensures { RaisesTo (level_field 6) exponent values.now powers.old powers.new result }
 {
-    c_calls::raise::<u64, u64, Tower<Bits64>, u64x4>(values, exponent, powers)
+    c_calls::raise(T64::new(), values, exponent, powers)
 }
 
 /// The same as `bf_t64_power_in_place`.
@@ -287,7 +301,7 @@ pub extern "C" fn bf_t64_power_wide(values: &[u64], exponent: u64, powers: &mut 
 pub extern "C" fn bf_t64_power_in_place_wide(values: &mut [u64], exponent: u64) -> u32
     ensures { RaisesTo (level_field 6) exponent values.old values.old values.new result }
 {
-    c_calls::raise_in_place::<u64, u64, Tower<Bits64>, u64x4>(values, exponent)
+    c_calls::raise_in_place(T64::new(), values, exponent)
 }
 
 /// The same as `bf_t128_multiply`.
@@ -295,7 +309,7 @@ pub extern "C" fn bf_t64_power_in_place_wide(values: &mut [u64], exponent: u64) 
 pub extern "C" fn bf_t128_multiply_wide(left: &[Wide], right: &[Wide], products: &mut [Wide]) -> u32
     ensures { Multiplies wide_level_field left.now right.now products.old products.new result }
 {
-    c_calls::multiply::<u128, Wide, Tower<Bits128>, u64x4>(left, right, products)
+    c_calls::multiply(T128::new(), left, right, products)
 }
 
 /// The same as `bf_t128_multiply_in_place`.
@@ -303,7 +317,7 @@ pub extern "C" fn bf_t128_multiply_wide(left: &[Wide], right: &[Wide], products:
 pub extern "C" fn bf_t128_multiply_in_place_wide(products: &mut [Wide], values: &[Wide]) -> u32
     ensures { Multiplies wide_level_field products.old values.now products.old products.new result }
 {
-    c_calls::multiply_in_place::<u128, Wide, Tower<Bits128>, u64x4>(products, values)
+    c_calls::multiply_in_place(T128::new(), products, values)
 }
 
 /// The same as `bf_t128_inverse`.
@@ -311,7 +325,7 @@ pub extern "C" fn bf_t128_multiply_in_place_wide(products: &mut [Wide], values: 
 pub extern "C" fn bf_t128_inverse_wide(values: &[Wide], inverses: &mut [Wide]) -> u32
     ensures { Inverts wide_level_field values.now inverses.old inverses.new result }
 {
-    c_calls::invert::<u128, Wide, Tower<Bits128>, u64x4>(values, inverses)
+    c_calls::invert(T128::new(), values, inverses)
 }
 
 /// The same as `bf_t128_inverse_in_place`.
@@ -319,7 +333,7 @@ pub extern "C" fn bf_t128_inverse_wide(values: &[Wide], inverses: &mut [Wide]) -
 pub extern "C" fn bf_t128_inverse_in_place_wide(values: &mut [Wide]) -> u32
     ensures { Inverts wide_level_field values.old values.old values.new result }
 {
-    c_calls::invert_in_place::<u128, Wide, Tower<Bits128>, u64x4>(values)
+    c_calls::invert_in_place(T128::new(), values)
 }
 
 /// The same as `bf_t128_batch_inverse`.
@@ -327,7 +341,7 @@ pub extern "C" fn bf_t128_inverse_in_place_wide(values: &mut [Wide]) -> u32
 pub extern "C" fn bf_t128_batch_inverse_wide(values: &[Wide], inverses: &mut [Wide]) -> u32
     ensures { Inverts wide_level_field values.now inverses.old inverses.new result }
 {
-    c_calls::batch_invert::<u128, Wide, Tower<Bits128>, u64x4>(values, inverses)
+    c_calls::batch_invert(T128::new(), values, inverses)
 }
 
 /// The same as `bf_t128_power`.
@@ -335,7 +349,7 @@ pub extern "C" fn bf_t128_batch_inverse_wide(values: &[Wide], inverses: &mut [Wi
 pub extern "C" fn bf_t128_power_wide(values: &[Wide], exponent: u64, powers: &mut [Wide]) -> u32
     ensures { RaisesTo wide_level_field exponent values.now powers.old powers.new result }
 {
-    c_calls::raise::<u128, Wide, Tower<Bits128>, u64x4>(values, exponent, powers)
+    c_calls::raise(T128::new(), values, exponent, powers)
 }
 
 /// The same as `bf_t128_power_in_place`.
@@ -343,7 +357,7 @@ pub extern "C" fn bf_t128_power_wide(values: &[Wide], exponent: u64, powers: &mu
 pub extern "C" fn bf_t128_power_in_place_wide(values: &mut [Wide], exponent: u64) -> u32
     ensures { RaisesTo wide_level_field exponent values.old values.old values.new result }
 {
-    c_calls::raise_in_place::<u128, Wide, Tower<Bits128>, u64x4>(values, exponent)
+    c_calls::raise_in_place(T128::new(), values, exponent)
 }
 
 /// The same as `bf_p64_multiply`.
@@ -351,7 +365,7 @@ pub extern "C" fn bf_t128_power_in_place_wide(values: &mut [Wide], exponent: u64
 pub extern "C" fn bf_p64_multiply_wide(left: &[u64], right: &[u64], products: &mut [u64]) -> u32
     ensures { Multiplies poly64_field left.now right.now products.old products.new result }
 {
-    c_calls::multiply::<u64, u64, Poly64Kernel, u64x4>(left, right, products)
+    c_calls::multiply(P64::new(), left, right, products)
 }
 
 /// The same as `bf_p64_multiply_in_place`.
@@ -359,7 +373,7 @@ pub extern "C" fn bf_p64_multiply_wide(left: &[u64], right: &[u64], products: &m
 pub extern "C" fn bf_p64_multiply_in_place_wide(products: &mut [u64], values: &[u64]) -> u32
     ensures { Multiplies poly64_field products.old values.now products.old products.new result }
 {
-    c_calls::multiply_in_place::<u64, u64, Poly64Kernel, u64x4>(products, values)
+    c_calls::multiply_in_place(P64::new(), products, values)
 }
 
 /// The same as `bf_p64_inverse`.
@@ -367,7 +381,7 @@ pub extern "C" fn bf_p64_multiply_in_place_wide(products: &mut [u64], values: &[
 pub extern "C" fn bf_p64_inverse_wide(values: &[u64], inverses: &mut [u64]) -> u32
     ensures { Inverts poly64_field values.now inverses.old inverses.new result }
 {
-    c_calls::invert::<u64, u64, Poly64Kernel, u64x4>(values, inverses)
+    c_calls::invert(P64::new(), values, inverses)
 }
 
 /// The same as `bf_p64_inverse_in_place`.
@@ -375,7 +389,7 @@ pub extern "C" fn bf_p64_inverse_wide(values: &[u64], inverses: &mut [u64]) -> u
 pub extern "C" fn bf_p64_inverse_in_place_wide(values: &mut [u64]) -> u32
     ensures { Inverts poly64_field values.old values.old values.new result }
 {
-    c_calls::invert_in_place::<u64, u64, Poly64Kernel, u64x4>(values)
+    c_calls::invert_in_place(P64::new(), values)
 }
 
 /// The same as `bf_p64_batch_inverse`.
@@ -383,7 +397,7 @@ pub extern "C" fn bf_p64_inverse_in_place_wide(values: &mut [u64]) -> u32
 pub extern "C" fn bf_p64_batch_inverse_wide(values: &[u64], inverses: &mut [u64]) -> u32
     ensures { Inverts poly64_field values.now inverses.old inverses.new result }
 {
-    c_calls::batch_invert::<u64, u64, Poly64Kernel, u64x4>(values, inverses)
+    c_calls::batch_invert(P64::new(), values, inverses)
 }
 
 /// The same as `bf_p64_power`.
@@ -391,7 +405,7 @@ pub extern "C" fn bf_p64_batch_inverse_wide(values: &[u64], inverses: &mut [u64]
 pub extern "C" fn bf_p64_power_wide(values: &[u64], exponent: u64, powers: &mut [u64]) -> u32
     ensures { RaisesTo poly64_field exponent values.now powers.old powers.new result }
 {
-    c_calls::raise::<u64, u64, Poly64Kernel, u64x4>(values, exponent, powers)
+    c_calls::raise(P64::new(), values, exponent, powers)
 }
 
 /// The same as `bf_p64_power_in_place`.
@@ -399,7 +413,7 @@ pub extern "C" fn bf_p64_power_wide(values: &[u64], exponent: u64, powers: &mut 
 pub extern "C" fn bf_p64_power_in_place_wide(values: &mut [u64], exponent: u64) -> u32
     ensures { RaisesTo poly64_field exponent values.old values.old values.new result }
 {
-    c_calls::raise_in_place::<u64, u64, Poly64Kernel, u64x4>(values, exponent)
+    c_calls::raise_in_place(P64::new(), values, exponent)
 }
 
 /// The same as `bf_t8_multiply`.
@@ -407,7 +421,7 @@ pub extern "C" fn bf_p64_power_in_place_wide(values: &mut [u64], exponent: u64) 
 pub extern "C" fn bf_t8_multiply_wide(left: &[u8], right: &[u8], products: &mut [u8]) -> u32
     ensures { Multiplies (level_field 3) left.now right.now products.old products.new result }
 {
-    c_calls::multiply::<u8, u8, Tower<Bits8>, u64x4>(left, right, products)
+    c_calls::multiply(T8::new(), left, right, products)
 }
 
 /// The same as `bf_t8_multiply_in_place`.
@@ -415,7 +429,7 @@ pub extern "C" fn bf_t8_multiply_wide(left: &[u8], right: &[u8], products: &mut 
 pub extern "C" fn bf_t8_multiply_in_place_wide(products: &mut [u8], values: &[u8]) -> u32
     ensures { Multiplies (level_field 3) products.old values.now products.old products.new result }
 {
-    c_calls::multiply_in_place::<u8, u8, Tower<Bits8>, u64x4>(products, values)
+    c_calls::multiply_in_place(T8::new(), products, values)
 }
 
 /// The same as `bf_g128_inverse`.
@@ -423,7 +437,7 @@ pub extern "C" fn bf_t8_multiply_in_place_wide(products: &mut [u8], values: &[u8
 pub extern "C" fn bf_g128_inverse_wide(values: &[Wide], inverses: &mut [Wide]) -> u32
     ensures { Inverts ghash_field values.now inverses.old inverses.new result }
 {
-    c_calls::invert::<u128, Wide, GhashKernel, u64x4>(values, inverses)
+    c_calls::invert(G128::new(), values, inverses)
 }
 
 /// The same as `bf_g128_inverse_in_place`.
@@ -431,7 +445,7 @@ pub extern "C" fn bf_g128_inverse_wide(values: &[Wide], inverses: &mut [Wide]) -
 pub extern "C" fn bf_g128_inverse_in_place_wide(values: &mut [Wide]) -> u32
     ensures { Inverts ghash_field values.old values.old values.new result }
 {
-    c_calls::invert_in_place::<u128, Wide, GhashKernel, u64x4>(values)
+    c_calls::invert_in_place(G128::new(), values)
 }
 
 /// The same as `bf_g128_batch_inverse`.
@@ -439,7 +453,7 @@ pub extern "C" fn bf_g128_inverse_in_place_wide(values: &mut [Wide]) -> u32
 pub extern "C" fn bf_g128_batch_inverse_wide(values: &[Wide], inverses: &mut [Wide]) -> u32
     ensures { Inverts ghash_field values.now inverses.old inverses.new result }
 {
-    c_calls::batch_invert::<u128, Wide, GhashKernel, u64x4>(values, inverses)
+    c_calls::batch_invert(G128::new(), values, inverses)
 }
 
 /// The same as `bf_g128_matrix_multiply`.
@@ -454,15 +468,7 @@ pub extern "C" fn bf_g128_matrix_multiply_wide(
 ) -> u32
     ensures { MultipliesMatrices ghash_field rows inner columns left.now right.now product.old product.new result }
 {
-    c_calls::matrices::multiply(
-        Words::<u128, Wide, GhashKernel, u64x4>::new(),
-        left,
-        right,
-        product,
-        rows,
-        inner,
-        columns,
-    )
+    c_calls::matrices::multiply(G128::new(), left, right, product, rows, inner, columns)
 }
 
 /// The same as `bf_g128_matrix_row_reduce`.
@@ -476,14 +482,7 @@ pub extern "C" fn bf_g128_matrix_row_reduce_wide(
 ) -> u32
     ensures { ReducesRows ghash_field rows columns matrix.old pivots.old rank.old matrix.new pivots.new rank.new result }
 {
-    c_calls::matrices::row_reduce(
-        Words::<u128, Wide, GhashKernel, u64x4>::new(),
-        matrix,
-        rows,
-        columns,
-        pivots,
-        rank,
-    )
+    c_calls::matrices::row_reduce(G128::new(), matrix, rows, columns, pivots, rank)
 }
 
 /// The same as `bf_g128_matrix_rank`.
@@ -498,15 +497,7 @@ pub extern "C" fn bf_g128_matrix_rank_wide(
 ) -> u32
     ensures { TakesRank ghash_field rows columns matrix.now (length space.old) (length places.old) rank.old rank.new result }
 {
-    c_calls::matrices::rank(
-        Words::<u128, Wide, GhashKernel, u64x4>::new(),
-        matrix,
-        rows,
-        columns,
-        space,
-        places,
-        rank,
-    )
+    c_calls::matrices::rank(G128::new(), matrix, rows, columns, space, places, rank)
 }
 
 /// The same as `bf_g128_matrix_determinant`.
@@ -519,13 +510,7 @@ pub extern "C" fn bf_g128_matrix_determinant_wide(
 ) -> u32
     ensures { TakesDeterminant ghash_field size matrix.now (length space.old) determinant.old determinant.new result }
 {
-    c_calls::matrices::determinant(
-        Words::<u128, Wide, GhashKernel, u64x4>::new(),
-        matrix,
-        size,
-        space,
-        determinant,
-    )
+    c_calls::matrices::determinant(G128::new(), matrix, size, space, determinant)
 }
 
 /// The same as `bf_g128_matrix_inverse`.
@@ -539,14 +524,7 @@ pub extern "C" fn bf_g128_matrix_inverse_wide(
 ) -> u32
     ensures { InvertsMatrix ghash_field size matrix.now (length space.old) (length places.old) inverse.old inverse.new result }
 {
-    c_calls::matrices::inverse(
-        Words::<u128, Wide, GhashKernel, u64x4>::new(),
-        matrix,
-        size,
-        inverse,
-        space,
-        places,
-    )
+    c_calls::matrices::inverse(G128::new(), matrix, size, inverse, space, places)
 }
 
 /// The same as `bf_g128_matrix_solve`.
@@ -564,7 +542,7 @@ pub extern "C" fn bf_g128_matrix_solve_wide(
         (length places.old) solution.old solution.new result }
 {
     c_calls::matrices::solve(
-        Words::<u128, Wide, GhashKernel, u64x4>::new(),
+        G128::new(),
         matrix,
         rows,
         columns,

@@ -13,7 +13,10 @@ use Rattle.c_calls.proofs.LowNumbers.{low_elements}
 abbrev pub entries_at : ℕ → List ℕ → ℕ → ℕ → ℕ
 entries_at columns numbers i j = slice_index numbers (i * columns + j)
 
-module _ {W : Type 0} (field : WordField W) (low : W → ℕ) (is_low : (x : W) → low x ≡ low_number field.number field.width x) where
+module _ {W : Type 0} (field : WordField W) where
+  abbrev low : W → ℕ
+  low = low_number field.number field.width
+
   -- a product
   pub product_is : (rows inner columns : ℕ) (left right target product : List W) → AreElements field left → AreElements field right
       → map field.number product ≡ map low target
@@ -24,11 +27,11 @@ module _ {W : Type 0} (field : WordField W) (low : W → ℕ) (is_low : (x : W) 
       subst
       (λ (ns : List ℕ).
       IsMatrixProduct field.times rows inner columns (entries_at inner ns) (entries field columns right) (entries field columns product))
-      (low_elements field low is_low left left_fits)
+      (low_elements field left left_fits)
       (subst
       (λ (ns : List ℕ).
       IsMatrixProduct field.times rows inner columns (entry_of low inner left) (entries_at columns ns) (entries field columns product))
-      (low_elements field low is_low right right_fits)
+      (low_elements field right right_fits)
       (subst
       (λ (ns : List ℕ).
       IsMatrixProduct field.times rows inner columns (entry_of low inner left) (entry_of low columns right) (entries_at columns ns))
@@ -48,7 +51,7 @@ module _ {W : Type 0} (field : WordField W) (low : W → ℕ) (is_low : (x : W) 
         reduced = subst (λ (ns : List ℕ). IsReducedEchelon rows columns rank (slice_index pivots) (entries_at columns ns)) (sym now) reduced;
         space =
             subst (λ (ns : List ℕ). HaveSameRowSpace field.times rows columns (entries_at columns ns) (entries field columns new))
-            (low_elements field low is_low old old_fits)
+            (low_elements field old old_fits)
             (subst (λ (ns : List ℕ). HaveSameRowSpace field.times rows columns (entry_of low columns old) (entries_at columns ns)) (sym now)
             space);
       }
@@ -63,7 +66,7 @@ module _ {W : Type 0} (field : WordField W) (low : W → ℕ) (is_low : (x : W) 
     entry_of low columns target,
     reduced,
     subst (λ (ns : List ℕ). HaveSameRowSpace field.times rows columns (entries_at columns ns) (entry_of low columns target))
-        (ap (λ (l : List W). map low l) same ∙ low_elements field low is_low words fits) space,
+        (ap (λ (l : List W). map low l) same ∙ low_elements field words fits) space,
   )
 
   -- a determinant, which it has too
@@ -72,4 +75,4 @@ module _ {W : Type 0} (field : WordField W) (low : W → ℕ) (is_low : (x : W) 
   determinant_is size value words copy fits same is =
       is
       ∙ ap (λ (ns : List ℕ). determinant_of field.times size (entries_at size ns))
-      (ap (λ (l : List W). map low l) same ∙ low_elements field low is_low words fits)
+      (ap (λ (l : List W). map low l) same ∙ low_elements field words fits)

@@ -12,57 +12,31 @@ use Rattle.any_field.specs.Contexts.{field_product, with_top}
 use Rattle.any_field.specs.Orders.{TableIsPrime}
 use Rattle.any_field.specs.Values.{IsEmbeddingOf, binary_value}
 use Rattle.many_words.specs.Fields.{WordField}
-use Rattle.c_calls.specs.Calls.{CallOf, CallOnEach, MultipliesBy}
+use Rattle.c_calls.specs.Calls.{CallOnEach}
 use Rattle.c_calls.specs.ChosenFields.{Embeds, FindsARoot, NamesAField, OverField, TakesPrimitive, residue_field}
 use Rattle.c_calls.specs.Fields.{wide_number}
 use Rattle.c_calls.specs.declared.field_words.ChosenField.{ChosenField}
 use Rattle.c_calls.specs.declared.status.TheConstants.{OK, REDUCIBLE, UNSOLVABLE}
 use Rattle.c_calls.specs.declared.wide.Wide.{Wide}
 
-module _ {T : Type 0} (words : ChosenField) where
-  -- a call over the field whose degree and tail are those of the words
-  pub over-known : {old new : T} {status : ℕ} (call : ℕ → ℕ → Type 0) (degree tail : ℕ)
-      → (degree ≡ words.degree) × (tail ≡ wide_number words.tail) × NamesAField words
-      → call degree tail → (status ≢ OK → new ≡ old) → OverField words (call words.degree (wide_number words.tail)) old new status
-  over-known call degree tail known made kept =
-      record {
-        named = λ _. subst (λ (n : ℕ). call words.degree n) known.1 (subst (λ (n : ℕ). call n tail) known.0 made);
-        reducible = λ none. absurd (none known.2);
-        kept = kept;
-      }
+-- words that name a field, and words that name none
+pub over_named : {T call : Type 0} {words : ChosenField} {old new : T} {status : ℕ} → NamesAField words → call → (status ≢ OK → new ≡ old)
+    → OverField words call old new status
+over_named named made kept = record { named = λ _. made; reducible = λ none. absurd (none named); kept = kept }
 
-  -- words that name none
-  pub over-none : {old : T} {call : Type 0} → (NamesAField words → ⊥) → OverField words call old old REDUCIBLE
-  over-none none = record { named = λ is. absurd (none is); reducible = λ _. refl; kept = λ _. refl }
+pub over_none : {T call : Type 0} {words : ChosenField} {old : T} → (NamesAField words → ⊥) → OverField words call old old REDUCIBLE
+over_none none = record { named = λ is. absurd (none is); reducible = λ _. refl; kept = λ _. refl }
 
--- one more word is an element
-pub beside-elements : {T given fits elements written : Type 0} {old new : T} {status : ℕ} → given → CallOf fits elements written old new status
-    → CallOf fits (given × elements) written old new status
-beside-elements is call =
+-- an operation whose result is known where something holds, once that does
+pub each-given : {W given : Type 0} (field : WordField W) (xs : List W) {old new : List W} {status : ℕ} (relates : ℕ → ℕ → Type 0) → given
+    → CallOnEach field (λ x y. given → relates x y) xs old new status → CallOnEach field relates xs old new status
+each-given field xs relates is call =
     record {
       length = call.length;
-      element = λ fit none. call.element fit (λ all. none (is, all));
-      ok = λ fit both. call.ok fit both.1;
+      element = call.element;
+      ok = λ fit all. let done = call.ok fit all in (done.0, λ k within d. done.1 k within d is);
       kept = call.kept;
     }
-
--- the products by a number are those by the word that holds it, once that is known to be an element
-pub multiples-written : (degree tail : ℕ) (scalar : Wide) (number : ℕ) (xs old new : List Wide) (status : ℕ)
-    → number ≡ wide_number scalar → number < 2 ^ degree
-    → CallOnEach (residue_field degree tail) (λ x y. y ≡ field_product degree tail x number) xs old new status
-    → MultipliesBy (residue_field degree tail) scalar xs old new status
-multiples-written degree tail scalar number xs old new status is fits call =
-    beside-elements (subst (λ (n : ℕ). n < 2 ^ degree) is fits)
-    (subst (λ (n : ℕ). CallOnEach (residue_field degree tail) (λ x y. y ≡ field_product degree tail x n) xs old new status) is call)
-
--- the same numbers under other names
-pub multiples-named : (degree tail number d t n : ℕ) (field : WordField Wide) (xs old new : List Wide) (status : ℕ)
-    → d ≡ degree → t ≡ tail → n ≡ number → CallOnEach field (λ x y. y ≡ field_product d t x n) xs old new status
-    → CallOnEach field (λ x y. y ≡ field_product degree tail x number) xs old new status
-multiples-named degree tail number d t n field xs old new status same_degree same_tail same_number call =
-    subst (λ (z : ℕ). CallOnEach field (λ x y. y ≡ field_product degree tail x z) xs old new status) same_number
-    (subst (λ (z : ℕ). CallOnEach field (λ x y. y ≡ field_product degree z x n) xs old new status) same_tail
-    (subst (λ (z : ℕ). CallOnEach field (λ x y. y ≡ field_product z t x n) xs old new status) same_degree call))
 
 -- ---- roots, and images by them
 

@@ -23,11 +23,14 @@ inverse_same times n A B A' B' left right inverse = (
       (λ k below. ap₂ times (sym (right i k inside below)) (sym (left k j below within))),
 )
 
-module _ {W : Type 0} (field : WordField W) (low : W → ℕ) (is_low : (x : W) → low x ≡ low_number field.number field.width x) where
+module _ {W : Type 0} (field : WordField W) where
+  abbrev low : W → ℕ
+  low = low_number field.number field.width
+
   -- an entry of a matrix of elements
   pub low_entry : (columns : ℕ) (words : List W) → AreElements field words → (i j : ℕ)
       → entry_of low columns words i j ≡ entries field columns words i j
-  low_entry columns words fits i j = ap (λ (ns : List ℕ). slice_index ns (i * columns + j)) (low_elements field low is_low words fits)
+  low_entry columns words fits i j = ap (λ (ns : List ℕ). slice_index ns (i * columns + j)) (low_elements field words fits)
 
   -- an entry of it where it was put into the first columns
   pub first_entry : (columns count : ℕ) (words old : List W) → AreElements field words → (put : ℕ → ℕ → ℕ) (i j : ℕ) → j < count
@@ -62,7 +65,7 @@ module _ {W : Type 0} (field : WordField W) (low : W → ℕ) (is_low : (x : W) 
         ∙ put-inside columns 1 (λ k. entry_of low 1 right i (0 + k)) (entry_of low (columns + 1) first i) columns (omega arith) (omega arith)
         ∙ ap (entry_of low 1 right i) none
         ∙ ap (slice_index (map low right)) at
-        ∙ ap (λ (ns : List ℕ). slice_index ns i) (low_elements field low is_low right right_fit)
+        ∙ ap (λ (ns : List ℕ). slice_index ns i) (low_elements field right right_fit)
 
     sums : (x : ℕ → ℕ) (i : ℕ) → i < rows
         → sum_below (λ j. field.times (entry_of low (columns + 1) both i j) (x j)) columns

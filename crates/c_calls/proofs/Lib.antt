@@ -2,7 +2,7 @@ mod BinaryCalls
 mod ByteMatrices
 mod Calls
 mod ChosenCalls
-mod ChosenScalars
+mod ChosenRings
 mod LogarithmCalls
 mod CodeCalls
 mod Endings

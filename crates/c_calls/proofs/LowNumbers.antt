@@ -56,18 +56,26 @@ module _ {W : Type 0} (number : W → ℕ) (width : ℕ) where
         ∙ xor_mod a (times s x) width
         ∙ ap (bit_xor (a % 2 ^ width)) (mod-eq_of_lt (ring.below s x) ∙ sym (low-factors s x))
 
-module _ {W : Type 0} (field : WordField W) (low : W → ℕ) (is_low : (x : W) → low x ≡ low_number field.number field.width x) where
+-- a word of which only the low bits were left has them still
+pub low_again : {W : Type 0} (number : W → ℕ) (width : ℕ) (old new : W) → number new ≡ low_number number width old
+    → low_number number width new ≡ low_number number width old
+low_again number width old new is = ap (λ (n : ℕ). n % 2 ^ width) is ∙ mod-eq_of_lt (low_number-lt number width old)
+
+module _ {W : Type 0} (field : WordField W) where
+  abbrev low : W → ℕ
+  low = low_number field.number field.width
+
   -- words that are elements are their low bits
   pub low_elements : (words : List W) → AreElements field words → map low words ≡ map field.number words
   low_elements words fits =
-      same_numbers low field.number words words refl (λ k below d. is_low (get_or words k d) ∙ mod-eq_of_lt (fits k below d))
+      same_numbers low field.number words words refl (λ k below d. mod-eq_of_lt (fits k below d))
 
   -- words of which only the low bits were left
   module _ (old new : List W) (long : length new ≡ length old)
       (left : (k : ℕ) → k < length old → (d : W) → field.number (get_or new k d) ≡ low (get_or old k d)) where
     pub now_elements : AreElements field new
     now_elements k below d =
-        subst (λ (n : ℕ). n < 2 ^ field.width) (sym (left k (omega (arith, below, long)) d ∙ is_low (get_or old k d)))
+        subst (λ (n : ℕ). n < 2 ^ field.width) (sym (left k (omega (arith, below, long)) d))
         (low_number-lt field.number field.width (get_or old k d))
 
     pub now_numbers : map field.number new ≡ map low old
@@ -91,65 +99,56 @@ module _ {W : Type 0} (field : WordField W) (low : W → ℕ) (is_low : (x : W) 
         now_elements mid ys long left k below d,
         subst (λ (n : ℕ). IsInverseOrZero field.times (field.number (get_or xs k d)) n) (get_or-map low mid k d 0 there ∙ sym is)
             (subst (λ (n : ℕ). IsInverseOrZero field.times n (slice_index (map low mid) k))
-            (get_or-map low xs k d 0 inside ∙ is_low (get_or xs k d) ∙ mod-eq_of_lt (fits k inside d))
+            (get_or-map low xs k d 0 inside ∙ mod-eq_of_lt (fits k inside d))
             (inverses.each k (omega (arith, inside, count)))),
       )
 
--- a word of which only the low bits were left has them still
-pub low_again : {W : Type 0} (number : W → ℕ) (width : ℕ) (old new : W) → number new ≡ low_number number width old
-    → low_number number width new ≡ low_number number width old
-low_again number width old new is = ap (λ (n : ℕ). n % 2 ^ width) is ∙ mod-eq_of_lt (low_number-lt number width old)
+  -- what calls over many words give, by their low bits
+  module _ (ring : IsRing field.width 1 field.times) where
+    -- products by a scalar
+    pub low_multiples : (scalar : W) (xs ys : List W) → length ys ≡ length xs
+        → Each field (λ x y. y ≡ field.times x (field.number scalar)) xs ys
+        → map low ys ≡ map (λ x. field.times (low scalar) x) (map low xs)
+    low_multiples scalar [] [] long each = refl
+    low_multiples scalar [] (y ∷ ys) long each = absurd (omega (arith, long))
+    low_multiples scalar (x ∷ xs) [] long each = absurd (omega (arith, long))
+    low_multiples scalar (x ∷ xs) (y ∷ ys) long each =
+        ap₂ (λ (n : ℕ) (ns : List ℕ). n ∷ ns)
+        (low-is field.number field.width y _ (each 0 (omega arith) y) (ring.below (field.number x) (field.number scalar))
+        ∙ sym (low-factors field.number field.width field.times ring (field.number x) (field.number scalar))
+        ∙ ring.comm (low x) (low scalar))
+        (low_multiples scalar xs ys (omega (arith, long)) (λ k below d. each (suc k) (omega (arith, below)) d))
 
--- ---- what calls over many words give, by their low bits
+    -- sums with multiples
+    pub low_sums : (scalar : W) (values old new : List W) → length values ≡ length old → length new ≡ length old
+        → EachOfTwo field (λ sum x next. next ≡ bit_xor sum (field.times (field.number scalar) x)) old values new
+        → AreScaledSums field.times (low scalar) (map low values) (map low old) (map low new)
+    low_sums scalar values old new same long sums k below =
+        let count = length-map old low in
+        let inside : k < length old = omega (arith, below, count) in
+        get_or-map low new k scalar 0 (omega (arith, inside, long))
+        ∙ low-scaled field.number field.width field.times ring (field.number (get_or old k scalar)) (field.number scalar)
+        (field.number (get_or values k scalar)) (field.number (get_or new k scalar)) (sums k (omega (arith, inside, long)) scalar)
+        ∙ sym (ap₂ (λ (x y : ℕ). bit_xor x (field.times (low scalar) y)) (get_or-map low old k scalar 0 inside)
+        (get_or-map low values k scalar 0 (omega (arith, inside, same))))
 
-module _ {W : Type 0} (field : WordField W) (ring : IsRing field.width 1 field.times) where
-  abbrev low : W → ℕ
-  low = low_number field.number field.width
-
-  -- products by a scalar
-  pub low_multiples : (scalar : W) (xs ys : List W) → length ys ≡ length xs
-      → Each field (λ x y. y ≡ field.times x (field.number scalar)) xs ys
-      → map low ys ≡ map (λ x. field.times (low scalar) x) (map low xs)
-  low_multiples scalar [] [] long each = refl
-  low_multiples scalar [] (y ∷ ys) long each = absurd (omega (arith, long))
-  low_multiples scalar (x ∷ xs) [] long each = absurd (omega (arith, long))
-  low_multiples scalar (x ∷ xs) (y ∷ ys) long each =
-      ap₂ (λ (n : ℕ) (ns : List ℕ). n ∷ ns)
-      (low-is field.number field.width y _ (each 0 (omega arith) y) (ring.below (field.number x) (field.number scalar))
-      ∙ sym (low-factors field.number field.width field.times ring (field.number x) (field.number scalar))
-      ∙ ring.comm (low x) (low scalar))
-      (low_multiples scalar xs ys (omega (arith, long)) (λ k below d. each (suc k) (omega (arith, below)) d))
-
-  -- sums with multiples
-  pub low_sums : (scalar : W) (values old new : List W) → length values ≡ length old → length new ≡ length old
-      → EachOfTwo field (λ sum x next. next ≡ bit_xor sum (field.times (field.number scalar) x)) old values new
-      → AreScaledSums field.times (low scalar) (map low values) (map low old) (map low new)
-  low_sums scalar values old new same long sums k below =
-      let count = length-map old low in
-      let inside : k < length old = omega (arith, below, count) in
-      get_or-map low new k scalar 0 (omega (arith, inside, long))
-      ∙ low-scaled field.number field.width field.times ring (field.number (get_or old k scalar)) (field.number scalar)
-      (field.number (get_or values k scalar)) (field.number (get_or new k scalar)) (sums k (omega (arith, inside, long)) scalar)
-      ∙ sym (ap₂ (λ (x y : ℕ). bit_xor x (field.times (low scalar) y)) (get_or-map low old k scalar 0 inside)
-      (get_or-map low values k scalar 0 (omega (arith, inside, same))))
-
-  -- inverses
-  pub low_inverses : (xs ys : List W) → length ys ≡ length xs → AreElements field xs → HoldInverses field xs ys
-      → AreInverses field.times (map low xs) (map low ys)
-  low_inverses xs ys long fits hold = record {
-    count = length-map ys low ∙ long ∙ sym (length-map xs low);
-    each = λ i below. let count = length-map xs low in at xs refl i (omega (arith, below, count));
-  }
-    where
-      at : (zs : List W) → zs ≡ xs → (i : ℕ) → i < length zs
-          → IsInverseOrZero field.times (slice_index (map low xs) i) (slice_index (map low ys) i)
-      at [] is i below = absurd (omega (arith, below))
-      at (z ∷ zs) is i below =
-          let same : length (z ∷ zs) ≡ length xs = ap (λ (l : List W). length l) is in
-          let inside : i < length xs = omega (arith, below, same) in
-          let there : i < length ys = omega (arith, inside, long) in
-          let held = hold i there z in
-          let left = get_or-map low xs i z 0 inside ∙ mod-eq_of_lt (fits i inside z) in
-          let right = get_or-map low ys i z 0 there ∙ mod-eq_of_lt held.0 in
-          subst (λ (n : ℕ). IsInverseOrZero field.times n (slice_index (map low ys) i)) (sym left)
-          (subst (λ (n : ℕ). IsInverseOrZero field.times (field.number (get_or xs i z)) n) (sym right) held.1)
+    -- inverses
+    pub low_inverses : (xs ys : List W) → length ys ≡ length xs → AreElements field xs → HoldInverses field xs ys
+        → AreInverses field.times (map low xs) (map low ys)
+    low_inverses xs ys long fits hold = record {
+      count = length-map ys low ∙ long ∙ sym (length-map xs low);
+      each = λ i below. let count = length-map xs low in at xs refl i (omega (arith, below, count));
+    }
+      where
+        at : (zs : List W) → zs ≡ xs → (i : ℕ) → i < length zs
+            → IsInverseOrZero field.times (slice_index (map low xs) i) (slice_index (map low ys) i)
+        at [] is i below = absurd (omega (arith, below))
+        at (z ∷ zs) is i below =
+            let same : length (z ∷ zs) ≡ length xs = ap (λ (l : List W). length l) is in
+            let inside : i < length xs = omega (arith, below, same) in
+            let there : i < length ys = omega (arith, inside, long) in
+            let held = hold i there z in
+            let left = get_or-map low xs i z 0 inside ∙ mod-eq_of_lt (fits i inside z) in
+            let right = get_or-map low ys i z 0 there ∙ mod-eq_of_lt held.0 in
+            subst (λ (n : ℕ). IsInverseOrZero field.times n (slice_index (map low ys) i)) (sym left)
+            (subst (λ (n : ℕ). IsInverseOrZero field.times (field.number (get_or xs i z)) n) (sym right) held.1)

@@ -12,9 +12,9 @@ ghost use Rattle.c_calls.specs.Codes.{AreCorrectedTo, AreSyndromes, IsCorrectedT
 ghost use Rattle.c_calls.specs.Fields.{wide_number};
 ghost use Rattle.c_calls.specs.declared.status.TheConstants.{CODE, REDUCIBLE};
 
+use crate::chosen_words::field_of_words;
 use crate::codes::{NOT_CORRECTED, list_places};
 use crate::field_words::ChosenField;
-use crate::fields::field_of_words;
 use crate::shapes::has_shape;
 use crate::status;
 use error_codes::{FieldCode, SymbolField, WordField};

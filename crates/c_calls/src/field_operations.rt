@@ -1,271 +1,122 @@
-// Operations on one element and on two of a field that a caller chooses, which calls over slices apply.
-ghost use Rattle.std.specs.Prelude.{◌≡◌, ◌≢◌, ◌%◌, ◌<◌, ◌^◌, ℕ, bit_xor};
-ghost use Rattle.field_base.specs.Powers.{power, sum_of_squarings};
+// Operations on elements of a field that a caller chooses, which calls over slices apply besides those over any field.
+ghost use Rattle.std.specs.Prelude.{◌≡◌, ◌≢◌, ◌%◌, ◌<◌, ◌^◌};
+ghost use Rattle.field_base.specs.Powers.{sum_of_squarings};
 ghost use Rattle.any_field.specs.Contexts.{field_product};
 ghost use Rattle.any_field.specs.Values.{binary_value};
 ghost use Rattle.c_calls.specs.ChosenElements.{IsNormOver, IsOrderIfAny, IsTraceOver};
+ghost use Rattle.c_calls.specs.ChosenFields.{chosen_field};
 
-use any_field::{BinaryExtension, Embedding, Images, Multiples};
+use crate::chosen_words::ChosenWords;
+use crate::operations::{AtOne, AtTwo};
+use crate::wide::Wide;
+use any_field::{Embedding, Images};
+use field_base::{Holds, Reads};
 
-/// An operation on one element.
-pub(crate) trait AtOne {
-    // The bits of its operand, and how its result is related to that.
-    ghost width: { Self → ℕ };
-
-    ghost gives: { Self → ℕ → ℕ → Type 0 };
-
-    /// Its result at an element.
-    fn at(&self, x: u128) -> u128
-        requires { x < 2 ^ width self.now }
-        ensures { gives self.now x result };
-}
-
-/// An operation on two elements.
-pub(crate) trait AtTwo {
-    // The bits of its operands, and how its result is related to them.
-    ghost width: { Self → ℕ };
-
-    ghost gives: { Self → ℕ → ℕ → ℕ → Type 0 };
-
-    /// Its result at two elements.
-    fn at(&self, x: u128, y: u128) -> u128
-        requires left { x < 2 ^ width self.now }
-        requires right { y < 2 ^ width self.now }
-        ensures { gives self.now x y result };
-}
-
-/// The product by a scalar.
-#[derive(Drop)]
-pub(crate) struct Multiple {
-    pub(crate) field: BinaryExtension,
-    pub(crate) scalar: u128,
-}
-
-impl AtOne for Multiple {
-    ghost width = { λ operation. operation.field.degree };
-
-    ghost gives = { λ operation x y. y ≡ field_product operation.field.degree operation.field.tail x operation.scalar };
-
-    fn at(&self, x: u128) -> u128 {
-        self.field.multiply(x, self.scalar)
-    }
-}
-
-/// The product by a scalar, by tables.
-#[derive(Drop)]
-pub(crate) struct Mapped {
-    pub(crate) multiples: Multiples,
-}
-
-impl AtOne for Mapped {
-    ghost width = { λ operation. operation.multiples.field.degree };
-
-    ghost gives = { λ operation x y. y ≡ field_product operation.multiples.field.degree operation.multiples.field.tail x
-        operation.multiples.scalar };
-
-    #[inline]
-    fn at(&self, x: u128) -> u128 {
-        self.multiples.of(x)
-    }
-}
-
-/// The image by an embedding.
+/// The image by an embedding of the field.
 #[derive(Drop)]
 pub(crate) struct Embedded {
     pub(crate) map: Embedding,
 }
 
-impl AtOne for Embedded {
-    ghost width = { λ operation. operation.map.source.degree };
+impl AtOne<ChosenWords> for Embedded {
+    ghost gives = { λ operation field x y. operation.map.source.degree ≡ field.named.degree → y ≡ binary_value
+        (field_product operation.map.target.degree operation.map.target.tail) operation.map.root x };
 
-    ghost gives = { λ operation x y. y ≡ binary_value (field_product operation.map.target.degree operation.map.target.tail)
-        operation.map.root x };
-
-    fn at(&self, x: u128) -> u128 {
-        self.map.image(x)
+    fn at(&self, field: ChosenWords, x: Wide) -> Wide {
+        Wide::of_stored(self.map.image(x.stored()))
     }
 }
 
-/// The image by an embedding, by tables.
+/// The image by an embedding of the field, by tables.
 #[derive(Drop)]
 pub(crate) struct Tabled {
+    pub(crate) source: ChosenWords,
     pub(crate) images: Images,
+    ghost same: { images.map.source.degree ≡ source.named.degree },
 }
 
-impl AtOne for Tabled {
-    ghost width = { λ operation. operation.images.map.source.degree };
-
-    ghost gives = { λ operation x y. y ≡ binary_value
+impl AtOne<ChosenWords> for Tabled {
+    ghost gives = { λ operation field x y. operation.source.named.degree ≡ field.named.degree → y ≡ binary_value
         (field_product operation.images.map.target.degree operation.images.map.target.tail) operation.images.map.root x };
 
     #[inline]
-    fn at(&self, x: u128) -> u128 {
-        self.images.of(x)
-    }
-}
-
-/// The square.
-#[derive(Drop)]
-pub(crate) struct Squared {
-    pub(crate) field: BinaryExtension,
-}
-
-impl AtOne for Squared {
-    ghost width = { λ operation. operation.field.degree };
-
-    ghost gives = { λ operation x y. y ≡ field_product operation.field.degree operation.field.tail x x };
-
-    fn at(&self, x: u128) -> u128 {
-        self.field.multiply(x, x)
-    }
-}
-
-/// The power of an exponent.
-#[derive(Drop)]
-pub(crate) struct Raised {
-    pub(crate) field: BinaryExtension,
-    pub(crate) exponent: u64,
-}
-
-impl AtOne for Raised {
-    ghost width = { λ operation. operation.field.degree };
-
-    ghost gives = { λ operation x y. y ≡ power 1 (field_product operation.field.degree operation.field.tail) x operation.exponent };
-
-    fn at(&self, x: u128) -> u128 {
-        self.field.power(x, u128::from(self.exponent))
-    }
-}
-
-/// The square root.
-#[derive(Drop)]
-pub(crate) struct Rooted {
-    pub(crate) field: BinaryExtension,
-}
-
-impl AtOne for Rooted {
-    ghost width = { λ operation. operation.field.degree };
-
-    ghost gives = { λ operation x y. (y < 2 ^ operation.field.degree)
-        × (field_product operation.field.degree operation.field.tail y y ≡ x) };
-
-    fn at(&self, x: u128) -> u128 {
-        self.field.square_root(x)
+    fn at(&self, field: ChosenWords, x: Wide) -> Wide {
+        Wide::of_stored(self.images.of(self.source.low_bits(x)))
     }
 }
 
 /// The trace over GF(2).
-#[derive(Drop)]
-pub(crate) struct Traced {
-    pub(crate) field: BinaryExtension,
-}
+pub(crate) struct Traced;
 
-impl AtOne for Traced {
-    ghost width = { λ operation. operation.field.degree };
+impl AtOne<ChosenWords> for Traced {
+    ghost gives = { λ operation field x y. y ≡ sum_of_squarings 1 (chosen_field field.named).times field.named.degree x };
 
-    ghost gives = { λ operation x y. y ≡ sum_of_squarings 1 (field_product operation.field.degree operation.field.tail)
-        operation.field.degree x };
-
-    fn at(&self, x: u128) -> u128 {
-        self.field.trace(x)
+    fn at(&self, field: ChosenWords, x: Wide) -> Wide {
+        Wide::of_stored(field.field.trace(x.stored()))
     }
 }
 
 /// The order, and 0 of 0.
-#[derive(Drop)]
-pub(crate) struct Ordered {
-    pub(crate) field: BinaryExtension,
-}
+pub(crate) struct Ordered;
 
-impl AtOne for Ordered {
-    ghost width = { λ operation. operation.field.degree };
+impl AtOne<ChosenWords> for Ordered {
+    ghost gives = { λ operation field x y. IsOrderIfAny (chosen_field field.named).times x y };
 
-    ghost gives = { λ operation x y. IsOrderIfAny (field_product operation.field.degree operation.field.tail) x y };
-
-    fn at(&self, x: u128) -> u128 {
-        match self.field.order(x) {
-            Some(order) => order,
-            None => 0,
+    fn at(&self, field: ChosenWords, x: Wide) -> Wide {
+        match field.field.order(x.stored()) {
+            Some(order) => Wide::of_stored(order),
+            None => Wide::of_stored(0),
         }
     }
 }
 
-/// The trace over a subfield.
+/// The trace over a subfield of so many bits.
 #[derive(Drop)]
 pub(crate) struct TraceOver {
-    pub(crate) field: BinaryExtension,
     pub(crate) degree: u32,
-    ghost divides: { field.degree % degree ≡ 0 },
 }
 
-impl AtOne for TraceOver {
-    ghost width = { λ operation. operation.field.degree };
+impl AtOne<ChosenWords> for TraceOver {
+    ghost gives = { λ operation field x y. field.named.degree % operation.degree ≡ 0
+        → IsTraceOver field.named.degree (chosen_field field.named).times operation.degree x y };
 
-    ghost gives = { λ operation x y. IsTraceOver operation.field.degree
-        (field_product operation.field.degree operation.field.tail) operation.degree x y };
-
-    fn at(&self, x: u128) -> u128 {
-        match self.field.trace_to(x, self.degree) {
-            Some(trace) => trace,
-            None => 0,
+    fn at(&self, field: ChosenWords, x: Wide) -> Wide {
+        match field.field.trace_to(x.stored(), self.degree) {
+            Some(trace) => Wide::of_stored(trace),
+            None => Wide::of_stored(0),
         }
     }
 }
 
-/// The norm over a subfield.
+/// The norm over a subfield of so many bits.
 #[derive(Drop)]
 pub(crate) struct NormOver {
-    pub(crate) field: BinaryExtension,
     pub(crate) degree: u32,
-    ghost divides: { field.degree % degree ≡ 0 },
 }
 
-impl AtOne for NormOver {
-    ghost width = { λ operation. operation.field.degree };
+impl AtOne<ChosenWords> for NormOver {
+    ghost gives = { λ operation field x y. field.named.degree % operation.degree ≡ 0
+        → IsNormOver field.named.degree (chosen_field field.named).times operation.degree x y };
 
-    ghost gives = { λ operation x y. IsNormOver operation.field.degree
-        (field_product operation.field.degree operation.field.tail) operation.degree x y };
-
-    fn at(&self, x: u128) -> u128 {
-        match self.field.norm_to(x, self.degree) {
-            Some(norm) => norm,
-            None => 0,
+    fn at(&self, field: ChosenWords, x: Wide) -> Wide {
+        match field.field.norm_to(x.stored(), self.degree) {
+            Some(norm) => Wide::of_stored(norm),
+            None => Wide::of_stored(0),
         }
-    }
-}
-
-/// The sum.
-#[derive(Drop)]
-pub(crate) struct Together {
-    pub(crate) field: BinaryExtension,
-}
-
-impl AtTwo for Together {
-    ghost width = { λ operation. operation.field.degree };
-
-    ghost gives = { λ operation x y z. z ≡ bit_xor x y };
-
-    fn at(&self, x: u128, y: u128) -> u128 {
-        x ^ y
     }
 }
 
 /// The quotient, and 0 where the divisor is.
-#[derive(Drop)]
-pub(crate) struct Quotient {
-    pub(crate) field: BinaryExtension,
-}
+pub(crate) struct Quotient;
 
-impl AtTwo for Quotient {
-    ghost width = { λ operation. operation.field.degree };
+impl AtTwo<ChosenWords> for Quotient {
+    ghost gives = { λ operation field x y q. (q < 2 ^ field.named.degree)
+        × (y ≢ 0 → (chosen_field field.named).times q y ≡ x) × (y ≡ 0 → q ≡ 0) };
 
-    ghost gives = { λ operation x y q. (q < 2 ^ operation.field.degree)
-        × (y ≢ 0 → field_product operation.field.degree operation.field.tail q y ≡ x) × (y ≡ 0 → q ≡ 0) };
-
-    fn at(&self, x: u128, y: u128) -> u128 {
-        match self.field.divide(x, y) {
-            Some(quotient) => quotient,
-            None => 0,
+    fn at_two(&self, field: ChosenWords, x: Wide, y: Wide) -> Wide {
+        match field.field.divide(x.stored(), y.stored()) {
+            Some(quotient) => Wide::of_stored(quotient),
+            None => Wide::of_stored(0),
         }
     }
 }

@@ -1,29 +1,27 @@
 // Calls over slices of elements of a field that the caller chooses: modulo any irreducible polynomial of degree 1 to 128.
+#![tactic(auto, using(crate::proofs::ChosenCalls::over_named, crate::proofs::ChosenCalls::over_none))]
+
 ghost use Rattle.std.specs.Prelude.{◌≡◌, ◌≢◌, ◌^◌, ◌<◌, ◌↔◌, ℕ, IfNone, IfSome, IsTrue};
 ghost use Rattle.field_base.specs.Powers.{power};
-ghost use Rattle.any_field.specs.Contexts.{IsFieldModulus, field_product};
+ghost use Rattle.any_field.specs.Contexts.{field_product};
 ghost use Rattle.any_field.specs.Values.{binary_value};
 ghost use Rattle.many_words.specs.Words.{AreElements};
-ghost use Rattle.c_calls.specs.Calls.{Adds, CallOnEach, CallOnTwo, Evaluates, Inverts, Multiplies, MultipliesBy};
+ghost use Rattle.c_calls.specs.Calls.{Adds, CallOnEach, Evaluates, Inverts, Multiplies, MultipliesBy};
 ghost use Rattle.c_calls.specs.Calls.{RaisesTo, Squares, TakesDotProduct, TakesRoots};
-ghost use Rattle.c_calls.specs.ChosenFields.{Embeds, EmbedsOver, FindsARoot, FindsARootOver, NamesAField, OverField, PreparesField};
+ghost use Rattle.c_calls.specs.ChosenFields.{Embeds, EmbedsOver, FindsARoot, FindsARootOver, OverField, PreparesField};
 ghost use Rattle.c_calls.specs.ChosenFields.{HaveLogarithms, IsLogarithm, TakesLogarithms, TakesPrimitive, TakesQuotients, TakesTraces};
-ghost use Rattle.c_calls.specs.ChosenFields.{chosen_field, residue_field};
+ghost use Rattle.c_calls.specs.ChosenFields.{chosen_field};
 ghost use Rattle.c_calls.specs.Fields.{wide_number};
 
-use crate::chosen_words::ChosenWords;
-use crate::field_operations::{
-    AtOne, AtTwo, Embedded, Mapped, Multiple, Quotient, Raised, Rooted, Squared, Tabled, Together,
-    Traced,
-};
+use crate::chosen_words::{ChosenWords, extension_of, field_of_words};
+use crate::field_operations::{Embedded, Quotient, Tabled, Traced};
 use crate::field_words::ChosenField;
+use crate::operations::{Square, SquareRoot, Sum};
+use crate::scalars::ScalarWords;
 use crate::wide::Wide;
-use crate::{status, values};
+use crate::{many, slices, status, values};
 use any_field::{BinaryExtension, Embedding, Logarithms};
 use field_base::{Holds, Reads};
-
-// From so many words on tables of the products by a scalar pay.
-const MAPPED: usize = 32;
 
 // From so many bits on, those of all words, tables of the images by an embedding pay.
 const TABLED: usize = 256;
@@ -49,310 +47,170 @@ pub fn init(field: &mut ChosenField, degree: u64, tail: Wide) -> u32
     }
 }
 
-// The field modulo x^degree + tail.
-fn extension_of(degree: u64, tail: u128) -> Option<BinaryExtension>
-    ensures some { IfSome result (λ field. (field.degree ≡ degree) × (field.tail ≡ tail) × IsFieldModulus degree tail) }
-    ensures none { IfNone result (IsFieldModulus degree tail → ⊥) }
-{
-    if degree > 128 {
-        return None;
-    }
-    match BinaryExtension::new(degree as u32, tail) {
-        Ok(field) => Some(field),
-        Err(_) => None,
-    }
-}
-
-// The field of the words. That the modulus is irreducible is tested anew.
-pub(crate) fn field_of_words(words: ChosenField) -> Option<BinaryExtension>
-    ensures some { IfSome result (λ field. (field.degree ≡ words.degree) × (field.tail ≡ wide_number words.tail) × NamesAField words) }
-    ensures none { IfNone result (NamesAField words → ⊥) }
-{
-    extension_of(words.degree, words.tail.stored())
-}
-
-// Whether every word is an element: the bits of all of them are tested at once.
-pub(crate) fn are_elements(field: BinaryExtension, words: &[Wide]) -> bool
-    ensures { IsTrue result ↔ AreElements (residue_field field.degree field.tail) words.now }
-{
-    let mut bits: u128 = 0;
-    for place in 0..words.len() {
-        bits |= words[place].stored();
-    }
-    field.is_element(bits)
-}
-
-// Whether every word of both slices is an element.
-fn are_both_elements(field: BinaryExtension, left: &[Wide], right: &[Wide]) -> bool
-    ensures { IsTrue result ↔ (AreElements (residue_field field.degree field.tail) left.now
-        × AreElements (residue_field field.degree field.tail) right.now) }
-{
-    are_elements(field, left) && are_elements(field, right)
-}
-
-// Writes the result of the operation at the word at each place.
-pub(crate) fn write_at_each<O: AtOne>(
-    field: BinaryExtension,
-    words: &[Wide],
-    results: &mut [Wide],
-    operation: &O,
-) -> u32
-    requires { O.width operation.now ≡ field.degree }
-    ensures { CallOnEach (residue_field field.degree field.tail) (O.gives operation.now) words.now results.old results.new result }
-{
-    if words.len() != results.len() {
-        return status::LENGTH;
-    }
-    if !are_elements(field, words) {
-        return status::NOT_AN_ELEMENT;
-    }
-    for place in 0..results.len() {
-        results[place] = Wide::of_stored(operation.at(words[place].stored()));
-    }
-    status::OK
-}
-
-// Writes the result of the operation at the words of two slices at each place.
-fn write_at_two<O: AtTwo>(
-    field: BinaryExtension,
-    left: &[Wide],
-    right: &[Wide],
-    results: &mut [Wide],
-    operation: &O,
-) -> u32
-    requires { O.width operation.now ≡ field.degree }
-    ensures { CallOnTwo (residue_field field.degree field.tail) (O.gives operation.now) left.now right.now results.old results.new result }
-{
-    if left.len() != results.len() || right.len() != results.len() {
-        return status::LENGTH;
-    }
-    if !are_both_elements(field, left, right) {
-        return status::NOT_AN_ELEMENT;
-    }
-    for place in 0..results.len() {
-        results[place] = Wide::of_stored(operation.at(left[place].stored(), right[place].stored()));
-    }
-    status::OK
-}
-
 /// Writes the sum of the elements at each place.
-pub fn add(field: ChosenField, left: &[Wide], right: &[Wide], sums: &mut [Wide]) -> u32
-    ensures { OverField field (Adds (chosen_field field) left.now right.now sums.old sums.new result) sums.old sums.new result }
+pub fn add(named: ChosenField, left: &[Wide], right: &[Wide], sums: &mut [Wide]) -> u32
+    ensures { OverField named (Adds (chosen_field named) left.now right.now sums.old sums.new result) sums.old sums.new result }
 {
-    match field_of_words(field) {
+    match field_of_words(named) {
         None => status::REDUCIBLE,
-        Some(found) => write_at_two(found, left, right, sums, &Together { field: found }),
-    }
-}
-
-/// Writes the product of the elements at each place.
-pub fn multiply(field: ChosenField, left: &[Wide], right: &[Wide], products: &mut [Wide]) -> u32
-    ensures { OverField field (Multiplies (chosen_field field) left.now right.now products.old products.new result)
-        products.old products.new result }
-{
-    match field_of_words(field) {
-        None => status::REDUCIBLE,
-        Some(found) => write_products(found, left, right, products),
-    }
-}
-
-// Writes the product of the elements at each place.
-fn write_products(
-    field: BinaryExtension,
-    left: &[Wide],
-    right: &[Wide],
-    products: &mut [Wide],
-) -> u32
-    ensures { Multiplies (residue_field field.degree field.tail) left.now right.now products.old products.new result }
-{
-    if left.len() != products.len() || right.len() != products.len() {
-        return status::LENGTH;
-    }
-    if !are_both_elements(field, left, right) {
-        return status::NOT_AN_ELEMENT;
-    }
-    products.copy_from_slice(left);
-    field.multiply_words(products, right);
-    status::OK
-}
-
-/// Writes the product of each element and the scalar.
-pub fn multiply_by(field: ChosenField, words: &[Wide], scalar: Wide, products: &mut [Wide]) -> u32
-    ensures { OverField field (MultipliesBy (chosen_field field) scalar words.now products.old products.new result)
-        products.old products.new result }
-{
-    match field_of_words(field) {
-        None => status::REDUCIBLE,
-        Some(found) => write_multiples(found, words, scalar, products),
-    }
-}
-
-// Writes the product of each element and the scalar.
-fn write_multiples(
-    field: BinaryExtension,
-    words: &[Wide],
-    scalar: Wide,
-    products: &mut [Wide],
-) -> u32
-    ensures { MultipliesBy (residue_field field.degree field.tail) scalar words.now products.old products.new result }
-{
-    if words.len() != products.len() {
-        return status::LENGTH;
-    }
-    let number = scalar.stored();
-    if !field.is_element(number) {
-        return status::NOT_AN_ELEMENT;
-    }
-    if words.len() < MAPPED {
-        let operation = Multiple {
-            field,
-            scalar: number,
-        };
-        return write_at_each(field, words, products, &operation);
-    }
-    write_by_tables(field, words, number, products)
-}
-
-// Writes the product of each element and the number, by tables.
-fn write_by_tables(
-    field: BinaryExtension,
-    words: &[Wide],
-    number: u128,
-    products: &mut [Wide],
-) -> u32
-    ensures { CallOnEach (residue_field field.degree field.tail) (λ x y. y ≡ field_product field.degree field.tail x number)
-        words.now products.old products.new result }
-{
-    let operation = Mapped {
-        multiples: field.multiples(number),
-    };
-    write_at_each(field, words, products, &operation)
-}
-
-/// Writes the quotient of the elements at each place, and 0 where the divisor is 0.
-pub fn divide(field: ChosenField, left: &[Wide], right: &[Wide], quotients: &mut [Wide]) -> u32
-    ensures { OverField field (TakesQuotients (chosen_field field) left.now right.now quotients.old quotients.new result)
-        quotients.old quotients.new result }
-{
-    match field_of_words(field) {
-        None => status::REDUCIBLE,
-        Some(found) => write_at_two(found, left, right, quotients, &Quotient { field: found }),
-    }
-}
-
-/// Writes the sum of the products of the elements at each place, which is 0 of none.
-pub fn dot_product(field: ChosenField, left: &[Wide], right: &[Wide], sum: &mut Wide) -> u32
-    ensures { OverField field (TakesDotProduct (chosen_field field) left.now right.now sum.old sum.new result) sum.old sum.new result }
-{
-    match field_of_words(field) {
-        None => status::REDUCIBLE,
-        Some(found) => write_dot_product(found, left, right, sum),
-    }
-}
-
-// Writes the sum of the products at each place.
-fn write_dot_product(field: BinaryExtension, left: &[Wide], right: &[Wide], sum: &mut Wide) -> u32
-    ensures { TakesDotProduct (residue_field field.degree field.tail) left.now right.now sum.old sum.new result }
-{
-    if left.len() != right.len() {
-        return status::LENGTH;
-    }
-    if !are_both_elements(field, left, right) {
-        return status::NOT_AN_ELEMENT;
-    }
-    *sum = Wide::of_stored(field.dot_product_of_words(left, right));
-    status::OK
-}
-
-/// Writes the value at each point of the polynomial with these coefficients, the constant one first.
-pub fn evaluate(
-    field: ChosenField,
-    coefficients: &[Wide],
-    points: &[Wide],
-    values: &mut [Wide],
-) -> u32
-    ensures { OverField field (Evaluates (chosen_field field) coefficients.now points.now values.old values.new result)
-        values.old values.new result }
-{
-    match field_of_words(field) {
-        None => status::REDUCIBLE,
-        Some(found) => values::evaluate(ChosenWords { field: found }, coefficients, points, values),
-    }
-}
-
-/// Writes the square of each element.
-pub fn square(field: ChosenField, words: &[Wide], squares: &mut [Wide]) -> u32
-    ensures { OverField field (Squares (chosen_field field) words.now squares.old squares.new result) squares.old squares.new result }
-{
-    match field_of_words(field) {
-        None => status::REDUCIBLE,
-        Some(found) => write_at_each(found, words, squares, &Squared { field: found }),
-    }
-}
-
-/// Writes the inverse of each element, and 0 for 0.
-pub fn inverse(field: ChosenField, words: &[Wide], inverses: &mut [Wide]) -> u32
-    ensures { OverField field (Inverts (chosen_field field) words.now inverses.old inverses.new result) inverses.old inverses.new result }
-{
-    match field_of_words(field) {
-        None => status::REDUCIBLE,
-        Some(found) => values::invert(ChosenWords { field: found }, words, inverses),
-    }
-}
-
-/// Writes the square root of each element.
-pub fn square_root(field: ChosenField, words: &[Wide], roots: &mut [Wide]) -> u32
-    ensures { OverField field (TakesRoots (chosen_field field) words.now roots.old roots.new result) roots.old roots.new result }
-{
-    match field_of_words(field) {
-        None => status::REDUCIBLE,
-        Some(found) => write_at_each(found, words, roots, &Rooted { field: found }),
-    }
-}
-
-/// Writes each element to the power of the exponent; to the power of 0 it is 1.
-pub fn power(field: ChosenField, words: &[Wide], exponent: u64, powers: &mut [Wide]) -> u32
-    ensures { OverField field (RaisesTo (chosen_field field) exponent words.now powers.old powers.new result) powers.old powers.new result }
-{
-    match field_of_words(field) {
-        None => status::REDUCIBLE,
-        Some(found) => write_at_each(
-            found,
-            words,
-            powers,
-            &Raised {
-                field: found,
-                exponent,
-            },
+        Some(field) => slices::write_each_of_two(
+            ChosenWords { named, field },
+            left,
+            right,
+            sums,
+            &Sum,
         ),
     }
 }
 
-/// Writes the trace of each element over GF(2): 0 or 1.
-pub fn trace(field: ChosenField, words: &[Wide], traces: &mut [Wide]) -> u32
-    ensures { OverField field (TakesTraces (chosen_field field) words.now traces.old traces.new result) traces.old traces.new result }
+/// Writes the product of the elements at each place.
+pub fn multiply(named: ChosenField, left: &[Wide], right: &[Wide], products: &mut [Wide]) -> u32
+    ensures { OverField named (Multiplies (chosen_field named) left.now right.now products.old products.new result)
+        products.old products.new result }
 {
-    match field_of_words(field) {
+    match field_of_words(named) {
         None => status::REDUCIBLE,
-        Some(found) => write_at_each(found, words, traces, &Traced { field: found }),
+        Some(field) => many::multiply(ChosenWords { named, field }, left, right, products),
+    }
+}
+
+/// Writes the product of each element and the scalar.
+pub fn multiply_by(named: ChosenField, words: &[Wide], scalar: Wide, products: &mut [Wide]) -> u32
+    ensures { OverField named (MultipliesBy (chosen_field named) scalar words.now products.old products.new result)
+        products.old products.new result }
+{
+    match field_of_words(named) {
+        None => status::REDUCIBLE,
+        Some(field) => many::multiply_by(ChosenWords { named, field }, words, scalar, products),
+    }
+}
+
+/// Writes the quotient of the elements at each place, and 0 where the divisor is 0.
+pub fn divide(named: ChosenField, left: &[Wide], right: &[Wide], quotients: &mut [Wide]) -> u32
+    ensures { OverField named (TakesQuotients (chosen_field named) left.now right.now quotients.old quotients.new result)
+        quotients.old quotients.new result }
+{
+    match field_of_words(named) {
+        None => status::REDUCIBLE,
+        Some(field) => slices::write_each_of_two(
+            ChosenWords { named, field },
+            left,
+            right,
+            quotients,
+            &Quotient,
+        ),
+    }
+}
+
+/// Writes the sum of the products of the elements at each place, which is 0 of none.
+pub fn dot_product(named: ChosenField, left: &[Wide], right: &[Wide], sum: &mut Wide) -> u32
+    ensures { OverField named (TakesDotProduct (chosen_field named) left.now right.now sum.old sum.new result) sum.old sum.new result }
+{
+    match field_of_words(named) {
+        None => status::REDUCIBLE,
+        Some(field) => many::dot_product(ChosenWords { named, field }, left, right, sum),
+    }
+}
+
+/// Writes the value at each point of the polynomial with these coefficients, the constant one first.
+pub fn evaluate(
+    named: ChosenField,
+    coefficients: &[Wide],
+    points: &[Wide],
+    values: &mut [Wide],
+) -> u32
+    ensures { OverField named (Evaluates (chosen_field named) coefficients.now points.now values.old values.new result)
+        values.old values.new result }
+{
+    match field_of_words(named) {
+        None => status::REDUCIBLE,
+        Some(field) => values::evaluate(ChosenWords { named, field }, coefficients, points, values),
+    }
+}
+
+/// Writes the square of each element.
+pub fn square(named: ChosenField, words: &[Wide], squares: &mut [Wide]) -> u32
+    ensures { OverField named (Squares (chosen_field named) words.now squares.old squares.new result) squares.old squares.new result }
+{
+    match field_of_words(named) {
+        None => status::REDUCIBLE,
+        Some(field) => slices::write_each(
+            ChosenWords { named, field },
+            words,
+            squares,
+            &Square,
+            false,
+        ),
+    }
+}
+
+/// Writes the inverse of each element, and 0 for 0.
+pub fn inverse(named: ChosenField, words: &[Wide], inverses: &mut [Wide]) -> u32
+    ensures { OverField named (Inverts (chosen_field named) words.now inverses.old inverses.new result) inverses.old inverses.new result }
+{
+    match field_of_words(named) {
+        None => status::REDUCIBLE,
+        Some(field) => many::batch_invert(ChosenWords { named, field }, words, inverses),
+    }
+}
+
+/// Writes the square root of each element.
+pub fn square_root(named: ChosenField, words: &[Wide], roots: &mut [Wide]) -> u32
+    ensures { OverField named (TakesRoots (chosen_field named) words.now roots.old roots.new result) roots.old roots.new result }
+{
+    match field_of_words(named) {
+        None => status::REDUCIBLE,
+        Some(field) => slices::write_each(
+            ChosenWords { named, field },
+            words,
+            roots,
+            &SquareRoot,
+            false,
+        ),
+    }
+}
+
+/// Writes each element to the power of the exponent; to the power of 0 it is 1.
+pub fn power(named: ChosenField, words: &[Wide], exponent: u64, powers: &mut [Wide]) -> u32
+    ensures { OverField named (RaisesTo (chosen_field named) exponent words.now powers.old powers.new result) powers.old powers.new result }
+{
+    match field_of_words(named) {
+        None => status::REDUCIBLE,
+        Some(field) => many::raise(ChosenWords { named, field }, words, exponent, powers),
+    }
+}
+
+/// Writes the trace of each element over GF(2): 0 or 1.
+pub fn trace(named: ChosenField, words: &[Wide], traces: &mut [Wide]) -> u32
+    ensures { OverField named (TakesTraces (chosen_field named) words.now traces.old traces.new result) traces.old traces.new result }
+{
+    match field_of_words(named) {
+        None => status::REDUCIBLE,
+        Some(field) => slices::write_each(
+            ChosenWords { named, field },
+            words,
+            traces,
+            &Traced,
+            false,
+        ),
     }
 }
 
 /// Writes the least primitive element, which is below 65,536 in every field that has been looked at; `UNSOLVABLE` where none is.
-pub fn primitive_element(field: ChosenField, element: &mut Wide) -> u32
-    ensures { OverField field (TakesPrimitive (chosen_field field) element.old element.new result) element.old element.new result }
+pub fn primitive_element(named: ChosenField, element: &mut Wide) -> u32
+    ensures { OverField named (TakesPrimitive (chosen_field named) element.old element.new result) element.old element.new result }
 {
-    match field_of_words(field) {
+    match field_of_words(named) {
         None => status::REDUCIBLE,
-        Some(found) => write_primitive(found, element),
+        Some(field) => write_primitive(ChosenWords { named, field }, element),
     }
 }
 
 // Writes the least primitive element.
-fn write_primitive(field: BinaryExtension, element: &mut Wide) -> u32
-    ensures { TakesPrimitive (residue_field field.degree field.tail) element.old element.new result }
+fn write_primitive(field: ChosenWords, element: &mut Wide) -> u32
+    ensures { TakesPrimitive (chosen_field field.named) element.old element.new result }
 {
-    match field.primitive_element() {
+    match field.field.primitive_element() {
         None => status::UNSOLVABLE,
         Some(found) => {
             *element = Wide::of_stored(found);
@@ -363,36 +221,28 @@ fn write_primitive(field: BinaryExtension, element: &mut Wide) -> u32
 
 /// Writes the logarithm of each element to the base: an exponent to which the power of the base is the element, the least one where the
 /// numbers of the table of primes are prime. `UNSOLVABLE` exactly where an element is no power of the base.
-pub fn logarithm(field: ChosenField, words: &[Wide], base: Wide, logarithms: &mut [Wide]) -> u32
-    ensures { OverField field (TakesLogarithms (chosen_field field) base words.now logarithms.old logarithms.new result)
+pub fn logarithm(named: ChosenField, words: &[Wide], base: Wide, logarithms: &mut [Wide]) -> u32
+    ensures { OverField named (TakesLogarithms (chosen_field named) base words.now logarithms.old logarithms.new result)
         logarithms.old logarithms.new result }
 {
-    match field_of_words(field) {
+    match field_of_words(named) {
         None => status::REDUCIBLE,
-        Some(found) => write_logarithms(found, words, base, logarithms),
+        Some(field) => write_logarithms(ChosenWords { named, field }, words, base, logarithms),
     }
 }
 
 // Writes the logarithm of each element to the base.
-fn write_logarithms(
-    field: BinaryExtension,
-    words: &[Wide],
-    base: Wide,
-    logarithms: &mut [Wide],
-) -> u32
-    ensures { TakesLogarithms (residue_field field.degree field.tail) base words.now logarithms.old logarithms.new result }
+fn write_logarithms(field: ChosenWords, words: &[Wide], base: Wide, logarithms: &mut [Wide]) -> u32
+    ensures { TakesLogarithms (chosen_field field.named) base words.now logarithms.old logarithms.new result }
 {
     if words.len() != logarithms.len() {
         return status::LENGTH;
     }
+    if !field.is_element(base) || !field.are_elements(words) {
+        return status::NOT_AN_ELEMENT;
+    }
     let base_number = base.stored();
-    if !field.is_element(base_number) {
-        return status::NOT_AN_ELEMENT;
-    }
-    if !are_elements(field, words) {
-        return status::NOT_AN_ELEMENT;
-    }
-    let to = logarithms_to(field, base_number);
+    let to = logarithms_to(field.field, base_number);
     if !have_logarithms(field, to, words, base_number) {
         return status::UNSOLVABLE;
     }
@@ -415,15 +265,10 @@ fn logarithms_to(field: BinaryExtension, base: u128) -> Option<Logarithms>
 }
 
 // Whether every word is a power of the base.
-fn have_logarithms(
-    field: BinaryExtension,
-    to: Option<Logarithms>,
-    words: &[Wide],
-    base: u128,
-) -> bool
-    requires elements { AreElements (residue_field field.degree field.tail) words.now }
-    requires same { IfSome to (λ known. (known.field ≡ field) × (known.base ≡ base)) }
-    ensures { IsTrue result ↔ HaveLogarithms (residue_field field.degree field.tail) base words.now }
+fn have_logarithms(field: ChosenWords, to: Option<Logarithms>, words: &[Wide], base: u128) -> bool
+    requires elements { AreElements (chosen_field field.named) words.now }
+    requires same { IfSome to (λ known. (known.field ≡ field.field) × (known.base ≡ base)) }
+    ensures { IsTrue result ↔ HaveLogarithms (chosen_field field.named) base words.now }
 {
     for place in 0..words.len() {
         let x = words[place].stored();
@@ -436,11 +281,11 @@ fn have_logarithms(
 }
 
 // The logarithm of an element that has one.
-fn known_logarithm(field: BinaryExtension, to: Option<Logarithms>, x: u128, base: u128) -> u128
-    requires fits { x < 2 ^ field.degree }
-    requires same { IfSome to (λ known. (known.field ≡ field) × (known.base ≡ base)) }
-    requires power { (e : ℕ) × (power 1 (field_product field.degree field.tail) base e ≡ x) }
-    ensures { IsLogarithm (field_product field.degree field.tail) base x result }
+fn known_logarithm(field: ChosenWords, to: Option<Logarithms>, x: u128, base: u128) -> u128
+    requires fits { x < 2 ^ field.named.degree }
+    requires same { IfSome to (λ known. (known.field ≡ field.field) × (known.base ≡ base)) }
+    requires power { (e : ℕ) × (power 1 (chosen_field field.named).times base e ≡ x) }
+    ensures { IsLogarithm (chosen_field field.named).times base x result }
 {
     match logarithm_of(field, to, x, base) {
         None => 0,
@@ -449,14 +294,14 @@ fn known_logarithm(field: BinaryExtension, to: Option<Logarithms>, x: u128, base
 }
 
 // The logarithm of an element: along the powers where the order of the base is not found.
-fn logarithm_of(field: BinaryExtension, to: Option<Logarithms>, x: u128, base: u128) -> Option<u128>
-    requires fits { x < 2 ^ field.degree }
-    requires same { IfSome to (λ known. (known.field ≡ field) × (known.base ≡ base)) }
-    ensures found { IfSome result (λ e. IsLogarithm (field_product field.degree field.tail) base x e) }
-    ensures none { IfNone result ((k : ℕ) → power 1 (field_product field.degree field.tail) base k ≢ x) }
+fn logarithm_of(field: ChosenWords, to: Option<Logarithms>, x: u128, base: u128) -> Option<u128>
+    requires fits { x < 2 ^ field.named.degree }
+    requires same { IfSome to (λ known. (known.field ≡ field.field) × (known.base ≡ base)) }
+    ensures found { IfSome result (λ e. IsLogarithm (chosen_field field.named).times base x e) }
+    ensures none { IfNone result ((k : ℕ) → power 1 (chosen_field field.named).times base k ≢ x) }
 {
     match to {
-        None => field.logarithm(x, base),
+        None => field.field.logarithm(x, base),
         Some(known) => known.of(x),
     }
 }
@@ -468,26 +313,42 @@ pub fn embedding(source: ChosenField, target: ChosenField, root: &mut Wide) -> u
 {
     match field_of_words(source) {
         None => status::REDUCIBLE,
-        Some(found) => root_in_field_of(found, target, root),
+        Some(field) => root_in_field_of(
+            ChosenWords {
+                named: source,
+                field,
+            },
+            target,
+            root,
+        ),
     }
 }
 
 // Writes a root of the modulus of one field in the field of the words.
-fn root_in_field_of(source: BinaryExtension, target: ChosenField, root: &mut Wide) -> u32
-    ensures { OverField target (FindsARoot source.degree source.tail target.degree (wide_number target.tail) root.old root.new result)
+fn root_in_field_of(source: ChosenWords, target: ChosenField, root: &mut Wide) -> u32
+    ensures { OverField target (FindsARoot source.named.degree (wide_number source.named.tail)
+        target.degree (wide_number target.tail) root.old root.new result)
         root.old root.new result }
 {
     match field_of_words(target) {
         None => status::REDUCIBLE,
-        Some(found) => write_root(source, found, root),
+        Some(field) => write_root(
+            source,
+            ChosenWords {
+                named: target,
+                field,
+            },
+            root,
+        ),
     }
 }
 
 // Writes a root of the modulus of one field in another.
-fn write_root(source: BinaryExtension, target: BinaryExtension, root: &mut Wide) -> u32
-    ensures { FindsARoot source.degree source.tail target.degree target.tail root.old root.new result }
+fn write_root(source: ChosenWords, target: ChosenWords, root: &mut Wide) -> u32
+    ensures { FindsARoot source.named.degree (wide_number source.named.tail)
+        target.named.degree (wide_number target.named.tail) root.old root.new result }
 {
-    match Embedding::find(source, target) {
+    match Embedding::find(source.field, target.field) {
         None => status::UNSOLVABLE,
         Some(map) => {
             *root = Wide::of_stored(map.root());
@@ -509,38 +370,58 @@ pub fn embed(
 {
     match field_of_words(source) {
         None => status::REDUCIBLE,
-        Some(found) => embed_in_field_of(found, target, root, words, images),
+        Some(field) => embed_in_field_of(
+            ChosenWords {
+                named: source,
+                field,
+            },
+            target,
+            root,
+            words,
+            images,
+        ),
     }
 }
 
 // Writes the images in the field of the words.
 fn embed_in_field_of(
-    source: BinaryExtension,
+    source: ChosenWords,
     target: ChosenField,
     root: Wide,
     words: &[Wide],
     images: &mut [Wide],
 ) -> u32
-    ensures { OverField target (Embeds source.degree source.tail target.degree (wide_number target.tail) root words.now
+    ensures { OverField target (Embeds source.named.degree (wide_number source.named.tail)
+        target.degree (wide_number target.tail) root words.now
         images.old images.new result) images.old images.new result }
 {
     match field_of_words(target) {
         None => status::REDUCIBLE,
-        Some(found) => write_images(source, found, root, words, images),
+        Some(field) => write_images(
+            source,
+            ChosenWords {
+                named: target,
+                field,
+            },
+            root,
+            words,
+            images,
+        ),
     }
 }
 
 // Writes the images by the embedding that takes x to the root.
 fn write_images(
-    source: BinaryExtension,
-    target: BinaryExtension,
+    source: ChosenWords,
+    target: ChosenWords,
     root: Wide,
     words: &[Wide],
     images: &mut [Wide],
 ) -> u32
-    ensures { Embeds source.degree source.tail target.degree target.tail root words.now images.old images.new result }
+    ensures { Embeds source.named.degree (wide_number source.named.tail)
+        target.named.degree (wide_number target.named.tail) root words.now images.old images.new result }
 {
-    match Embedding::new(source, target, root.stored()) {
+    match Embedding::new(source.field, target.field, root.stored()) {
         None => status::UNSOLVABLE,
         Some(map) => {
             map.is_embedding();
@@ -550,26 +431,27 @@ fn write_images(
 }
 
 // Writes the images by a map.
-fn write_mapped(source: BinaryExtension, map: Embedding, words: &[Wide], images: &mut [Wide]) -> u32
-    requires { map.source.degree ≡ source.degree }
-    ensures { CallOnEach (residue_field source.degree source.tail)
+fn write_mapped(source: ChosenWords, map: Embedding, words: &[Wide], images: &mut [Wide]) -> u32
+    requires { map.source.degree ≡ source.named.degree }
+    ensures { CallOnEach (chosen_field source.named)
         (λ x y. y ≡ binary_value (field_product map.target.degree map.target.tail) map.root x) words.now images.old images.new result }
 {
-    let bits = words.len().saturating_mul(source.degree() as usize);
+    let bits = words.len().saturating_mul(source.field.degree() as usize);
     if bits < TABLED {
-        return write_at_each(source, words, images, &Embedded { map });
+        return slices::write_each(source, words, images, &Embedded { map }, false);
     }
     write_tabled(source, map, words, images)
 }
 
 // Writes the images by tables of a map.
-fn write_tabled(source: BinaryExtension, map: Embedding, words: &[Wide], images: &mut [Wide]) -> u32
-    requires { map.source.degree ≡ source.degree }
-    ensures { CallOnEach (residue_field source.degree source.tail)
+fn write_tabled(source: ChosenWords, map: Embedding, words: &[Wide], images: &mut [Wide]) -> u32
+    requires { map.source.degree ≡ source.named.degree }
+    ensures { CallOnEach (chosen_field source.named)
         (λ x y. y ≡ binary_value (field_product map.target.degree map.target.tail) map.root x) words.now images.old images.new result }
 {
     let operation = Tabled {
+        source,
         images: map.images(),
     };
-    write_at_each(source, words, images, &operation)
+    slices::write_each(source, words, images, &operation, false)
 }

@@ -1,45 +1,64 @@
-// Arithmetic on slices of words in place, over any field whose elements are words: each result takes the place of an operand. The contracts
-// are those of the functions over slices apart, whose first operand is here what the slice held before.
+// Arithmetic on slices of words in place, over any field: each result takes the place of an operand. The contracts are those of the
+// functions over slices apart, whose first operand is here what the slice held before.
+ghost use Rattle.std.specs.Prelude.{◌≡◌, length};
 ghost use Rattle.c_calls.specs.Calls.{CallOnEach, CallOnTwo};
-ghost use Rattle.many_words.specs.Fields.{field_of};
+ghost use Rattle.many_words.specs.Words.{AreElements, Each, EachOfTwo};
 
-use crate::slices::{are_both_elements, are_elements};
+use crate::operations::{AtOne, AtTwo};
+use crate::scalars::ScalarWords;
+use crate::slices::are_both_elements;
 use crate::status;
-use field_base::{FieldKernel, Holds, Stored};
-use many_words::operations::{OnOne, OnTwo};
-use many_words::{change_all, change_all_by};
 
 /// Leaves the result of the operation at each word.
 #[inline]
-pub fn change_each<R: Stored, W: Holds<R>, K: FieldKernel<R>, O: OnOne<R, W, K>>(
-    words: &mut [W],
+pub fn change_each<S: ScalarWords, O: AtOne<S>>(
+    field: S,
+    words: &mut [S::Word],
     operation: &O,
 ) -> u32
-    ensures { CallOnEach (field_of W.number K.width K.product K.generator) (O.gives operation.now) words.old words.old words.new result }
+    ensures { CallOnEach (S.field field) (O.gives operation.now field) words.old words.old words.new result }
 {
-    if !are_elements::<R, W, K>(words) {
+    if !field.are_elements(words) {
         return status::NOT_AN_ELEMENT;
     }
-    change_all::<R, W, K, O>(words, operation);
+    change_all(field, words, operation);
     status::OK
+}
+
+/// Leaves the result of the operation at each word, an element.
+#[inline]
+pub(crate) fn change_all<S: ScalarWords, O: AtOne<S>>(
+    field: S,
+    words: &mut [S::Word],
+    operation: &O,
+)
+    requires { AreElements (S.field field) words.old }
+    ensures long { length words.new ≡ length words.old }
+    ensures results { Each (S.field field) (O.gives operation.now field) words.old words.new }
+{
+    for place in 0..words.len() {
+        words[place] = operation.at(field, words[place]);
+    }
 }
 
 /// Leaves the result of the operation at each word and the other word at its place.
 #[inline]
-pub fn change_each_by<R: Stored, W: Holds<R>, K: FieldKernel<R>, O: OnTwo<R, W, K>>(
-    words: &mut [W],
-    others: &[W],
+pub fn change_each_by<S: ScalarWords, O: AtTwo<S>>(
+    field: S,
+    words: &mut [S::Word],
+    others: &[S::Word],
     operation: &O,
 ) -> u32
-    ensures { CallOnTwo (field_of W.number K.width K.product K.generator) (O.gives operation.now) words.old others.now words.old words.new
-        result }
+    ensures { CallOnTwo (S.field field) (O.gives operation.now field) words.old others.now words.old words.new result }
 {
     if others.len() != words.len() {
         return status::LENGTH;
     }
-    if !are_both_elements::<R, W, K>(words, others) {
+    if !are_both_elements(field, words, others) {
         return status::NOT_AN_ELEMENT;
     }
-    change_all_by::<R, W, K, O>(words, others, operation);
+    for place in 0..words.len() {
+        words[place] = operation.at_two(field, words[place], others[place]);
+    }
     status::OK
 }

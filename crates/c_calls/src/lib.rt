@@ -22,6 +22,7 @@ pub mod in_place;
 pub mod interleaved_codes;
 mod linear;
 mod lines;
+mod low_bits;
 mod many;
 pub mod matrices;
 mod messages;
@@ -45,8 +46,8 @@ pub use crate::field_words::ChosenField;
 pub use crate::linear::{map_bytes, map_wide};
 pub use crate::lines::answer_line;
 pub use crate::many::{
-    add_scaled, batch_invert, dot_product, evaluate, invert, invert_in_place, multiply,
-    multiply_by, multiply_by_in_place, multiply_in_place, raise, raise_in_place,
+    add_scaled, batch_invert, dot_product, invert, invert_in_place, multiply, multiply_by,
+    multiply_by_in_place, multiply_in_place, raise, raise_in_place,
 };
 pub use crate::messages::{
     gcm_ghash, gcm_hash_end, hash, hash_begin, hash_end, hash_pad, hash_update, tags_are_equal,
@@ -62,6 +63,7 @@ pub use crate::transforms::{
     butterfly_forward, butterfly_inverse, inverse_transform, inverse_transform_level, low_stages,
     transform, transform_level,
 };
+pub use crate::values::evaluate;
 pub use crate::wide::Wide;
 pub use crate::words::Cubic;
 pub use field_base::Holds;

@@ -1,237 +1,206 @@
 // Calls over many words of a field: each compares lengths, looks at each word and returns a status, and what computes the words stands in
-// `many_words`, once for all fields.
-ghost use Rattle.c_calls.specs.Calls.{AddsScaled, Evaluates, Inverts, Multiplies, MultipliesBy, RaisesTo, TakesDotProduct};
-ghost use Rattle.many_words.specs.Fields.{field_of};
+// `many_words`, once for all fields of kernels, and in `any_field` for those that a caller chooses.
+ghost use Rattle.c_calls.specs.Calls.{AddsScaled, Inverts, Multiplies, MultipliesBy, RaisesTo, TakesDotProduct};
 
-use crate::scalars::Words;
-use crate::slices::{are_both_elements, are_elements, write_each, write_each_of_two};
+use crate::operations::{Inverse, Power, Product, Scaled};
+use crate::scalars::ScalarWords;
+use crate::slices::{are_both_elements, write_all, write_each, write_each_of_two};
 use crate::{status, values};
-use bit_slices::Vector;
-use field_base::{Holds, Stored};
-use ghash_slices::Width;
-use many_words::operations::{Inverse, Power, Product, Scaled};
-use many_words::{Many, fields};
-use std::simd::prelude::*;
 
 /// Writes the product of the words at each place.
 #[inline]
-pub fn multiply<R: Stored, W: Holds<R>, K: Many<R, W>, V: Width + Vector>(
-    left: &[W],
-    right: &[W],
-    products: &mut [W],
+pub fn multiply<S: ScalarWords>(
+    field: S,
+    left: &[S::Word],
+    right: &[S::Word],
+    products: &mut [S::Word],
 ) -> u32
-    ensures { Multiplies (field_of W.number K.width K.product K.generator) left.now right.now products.old products.new result }
+    ensures { Multiplies (S.field field) left.now right.now products.old products.new result }
 {
-    if left.len() < K::sizes::<V>().multiplied {
-        return write_each_of_two::<R, W, K, Product>(left, right, products, &Product);
+    if left.len() < field.sizes().multiplied {
+        return write_each_of_two(field, left, right, products, &Product);
     }
     if left.len() != products.len() || right.len() != products.len() {
         return status::LENGTH;
     }
-    if !are_both_elements::<R, W, K>(left, right) {
+    if !are_both_elements(field, left, right) {
         return status::NOT_AN_ELEMENT;
     }
     products.copy_from_slice(left);
-    many_words::multiply::<R, W, K, V>(products, right);
+    field.multiply_each(products, right);
     status::OK
 }
 
 /// Multiplies each product by the word at its place.
 #[inline]
-pub fn multiply_in_place<R: Stored, W: Holds<R>, K: Many<R, W>, V: Width + Vector>(
-    products: &mut [W],
-    words: &[W],
+pub fn multiply_in_place<S: ScalarWords>(
+    field: S,
+    products: &mut [S::Word],
+    words: &[S::Word],
 ) -> u32
-    ensures { Multiplies (field_of W.number K.width K.product K.generator) products.old words.now products.old
-        products.new result }
+    ensures { Multiplies (S.field field) products.old words.now products.old products.new result }
 {
     if words.len() != products.len() {
         return status::LENGTH;
     }
-    if !are_both_elements::<R, W, K>(products, words) {
+    if !are_both_elements(field, products, words) {
         return status::NOT_AN_ELEMENT;
     }
-    many_words::multiply::<R, W, K, V>(products, words);
+    field.multiply_each(products, words);
     status::OK
 }
 
 /// Writes the product of each word and the scalar.
 #[inline]
-pub fn multiply_by<R: Stored, W: Holds<R>, K: Many<R, W>, V: Width>(
-    words: &[W],
-    scalar: W,
-    products: &mut [W],
+pub fn multiply_by<S: ScalarWords>(
+    field: S,
+    words: &[S::Word],
+    scalar: S::Word,
+    products: &mut [S::Word],
 ) -> u32
-    ensures { MultipliesBy (field_of W.number K.width K.product K.generator) scalar words.now products.old products.new result }
+    ensures { MultipliesBy (S.field field) scalar words.now products.old products.new result }
 {
     if words.len() != products.len() {
         return status::LENGTH;
     }
-    if !fields::is_element::<R, W, K>(scalar) {
+    if !field.is_element(scalar) || !field.are_elements(words) {
         return status::NOT_AN_ELEMENT;
     }
-    if words.len() < K::sizes::<u64x2>().scaled {
-        return write_each::<R, W, K, Scaled<W>>(words, products, &Scaled { scalar }, false);
+    if words.len() < field.sizes().scaled {
+        write_all(field, words, products, &Scaled { scalar }, false);
+    } else {
+        field.write_multiples(words, scalar, products);
     }
-    if !are_elements::<R, W, K>(words) {
-        return status::NOT_AN_ELEMENT;
-    }
-    K::write_multiples::<V>(words, scalar, products);
     status::OK
 }
 
 /// Multiplies each word by the scalar.
 #[inline]
-pub fn multiply_by_in_place<R: Stored, W: Holds<R>, K: Many<R, W>, V: Width>(
-    words: &mut [W],
-    scalar: W,
-) -> u32
-    ensures { MultipliesBy (field_of W.number K.width K.product K.generator) scalar words.old words.old words.new result }
+pub fn multiply_by_in_place<S: ScalarWords>(field: S, words: &mut [S::Word], scalar: S::Word) -> u32
+    ensures { MultipliesBy (S.field field) scalar words.old words.old words.new result }
 {
-    if !fields::is_element::<R, W, K>(scalar) || !are_elements::<R, W, K>(words) {
+    if !field.is_element(scalar) || !field.are_elements(words) {
         return status::NOT_AN_ELEMENT;
     }
-    many_words::multiply_by::<R, W, K, V>(words, scalar);
+    field.multiply_by(words, scalar);
     status::OK
 }
 
 /// Adds to each sum the product of the scalar and the word at its place.
 #[inline]
-pub fn add_scaled<R: Stored, W: Holds<R>, K: Many<R, W>, V: Width>(
-    sums: &mut [W],
-    scalar: W,
-    words: &[W],
+pub fn add_scaled<S: ScalarWords>(
+    field: S,
+    sums: &mut [S::Word],
+    scalar: S::Word,
+    words: &[S::Word],
 ) -> u32
-    ensures { AddsScaled (field_of W.number K.width K.product K.generator) scalar words.now sums.old sums.new result }
+    ensures { AddsScaled (S.field field) scalar words.now sums.old sums.new result }
 {
     if words.len() != sums.len() {
         return status::LENGTH;
     }
-    if !fields::is_element::<R, W, K>(scalar)
-        || !are_elements::<R, W, K>(sums)
-        || !are_elements::<R, W, K>(words)
-    {
+    if !field.is_element(scalar) || !are_both_elements(field, sums, words) {
         return status::NOT_AN_ELEMENT;
     }
-    many_words::add_scaled::<R, W, K, V>(sums, scalar, words);
+    field.add_scaled(sums, scalar, words);
     status::OK
 }
 
 /// Writes the sum of the products at each place, which is 0 of none.
 #[inline]
-pub fn dot_product<R: Stored, W: Holds<R>, K: Many<R, W>, V: Width + Vector>(
-    left: &[W],
-    right: &[W],
-    sum: &mut W,
+pub fn dot_product<S: ScalarWords>(
+    field: S,
+    left: &[S::Word],
+    right: &[S::Word],
+    sum: &mut S::Word,
 ) -> u32
-    ensures { TakesDotProduct (field_of W.number K.width K.product K.generator) left.now right.now sum.old sum.new result }
+    ensures { TakesDotProduct (S.field field) left.now right.now sum.old sum.new result }
 {
     if left.len() != right.len() {
         return status::LENGTH;
     }
-    if !are_both_elements::<R, W, K>(left, right) {
+    if !are_both_elements(field, left, right) {
         return status::NOT_AN_ELEMENT;
     }
-    *sum = W::of_stored(K::dot_product::<V, W>(left, right));
+    *sum = field.dot_product(left, right);
     status::OK
 }
 
 /// Writes each word to the power of the exponent; to the power of 0 it is 1.
 #[inline]
-pub fn raise<R: Stored, W: Holds<R>, K: Many<R, W>, V: Width + Vector>(
-    words: &[W],
+pub fn raise<S: ScalarWords>(
+    field: S,
+    words: &[S::Word],
     exponent: u64,
-    powers: &mut [W],
+    powers: &mut [S::Word],
 ) -> u32
-    ensures { RaisesTo (field_of W.number K.width K.product K.generator) exponent words.now powers.old powers.new result }
+    ensures { RaisesTo (S.field field) exponent words.now powers.old powers.new result }
 {
-    if words.len() < K::sizes::<V>().multiplied {
-        return write_each::<R, W, K, Power>(words, powers, &Power { exponent }, false);
+    if words.len() < field.sizes().multiplied {
+        return write_each(field, words, powers, &Power { exponent }, false);
     }
     if words.len() != powers.len() {
         return status::LENGTH;
     }
-    if !are_elements::<R, W, K>(words) {
+    if !field.are_elements(words) {
         return status::NOT_AN_ELEMENT;
     }
     powers.copy_from_slice(words);
-    many_words::raise::<R, W, K, V>(powers, exponent);
+    field.raise_each(powers, exponent);
     status::OK
 }
 
 /// Raises each word to the power of the exponent; to the power of 0 it is 1.
 #[inline]
-pub fn raise_in_place<R: Stored, W: Holds<R>, K: Many<R, W>, V: Width + Vector>(
-    words: &mut [W],
-    exponent: u64,
-) -> u32
-    ensures { RaisesTo (field_of W.number K.width K.product K.generator) exponent words.old words.old words.new result }
+pub fn raise_in_place<S: ScalarWords>(field: S, words: &mut [S::Word], exponent: u64) -> u32
+    ensures { RaisesTo (S.field field) exponent words.old words.old words.new result }
 {
-    if !are_elements::<R, W, K>(words) {
+    if !field.are_elements(words) {
         return status::NOT_AN_ELEMENT;
     }
-    many_words::raise::<R, W, K, V>(words, exponent);
+    field.raise_each(words, exponent);
     status::OK
 }
 
 /// Writes the inverse of each word, and 0 for 0.
 #[inline]
-pub fn invert<R: Stored, W: Holds<R>, K: Many<R, W>, V: Vector>(
-    words: &[W],
-    inverses: &mut [W],
-) -> u32
-    ensures { Inverts (field_of W.number K.width K.product K.generator) words.now inverses.old inverses.new result }
+pub fn invert<S: ScalarWords>(field: S, words: &[S::Word], inverses: &mut [S::Word]) -> u32
+    ensures { Inverts (S.field field) words.now inverses.old inverses.new result }
 {
-    if words.len() < K::sizes::<V>().inverted {
-        return write_each::<R, W, K, Inverse>(words, inverses, &Inverse, false);
+    if words.len() < field.sizes().inverted {
+        return write_each(field, words, inverses, &Inverse, false);
     }
     if words.len() != inverses.len() {
         return status::LENGTH;
     }
-    if !are_elements::<R, W, K>(words) {
+    if !field.are_elements(words) {
         return status::NOT_AN_ELEMENT;
     }
     inverses.copy_from_slice(words);
-    many_words::invert::<R, W, K, V>(inverses);
+    field.invert_each(inverses);
     status::OK
 }
 
 /// Leaves the inverse of each word, and 0 of 0.
 #[inline]
-pub fn invert_in_place<R: Stored, W: Holds<R>, K: Many<R, W>, V: Vector>(words: &mut [W]) -> u32
-    ensures { Inverts (field_of W.number K.width K.product K.generator) words.old words.old words.new result }
+pub fn invert_in_place<S: ScalarWords>(field: S, words: &mut [S::Word]) -> u32
+    ensures { Inverts (S.field field) words.old words.old words.new result }
 {
-    if !are_elements::<R, W, K>(words) {
+    if !field.are_elements(words) {
         return status::NOT_AN_ELEMENT;
     }
-    many_words::invert::<R, W, K, V>(words);
+    field.invert_each(words);
     status::OK
 }
 
 /// Writes the inverse of each word, and 0 for 0. Few words are a batch where that takes less: the inverse of one product, and three products
 /// a word. It takes no memory.
 #[inline]
-pub fn batch_invert<R: Stored, W: Holds<R>, K: Many<R, W>, V: Width + Vector>(
-    words: &[W],
-    inverses: &mut [W],
-) -> u32
-    ensures { Inverts (field_of W.number K.width K.product K.generator) words.now inverses.old inverses.new result }
+pub fn batch_invert<S: ScalarWords>(field: S, words: &[S::Word], inverses: &mut [S::Word]) -> u32
+    ensures { Inverts (S.field field) words.now inverses.old inverses.new result }
 {
-    if words.len() >= K::LEAST_IN_BATCH {
-        return invert::<R, W, K, V>(words, inverses);
+    if words.len() >= S::LEAST_INVERTED {
+        return invert(field, words, inverses);
     }
-    values::invert(Words::<R, W, K, V>::new(), words, inverses)
-}
-
-/// Writes the value at each point of the polynomial with these coefficients, the constant one first. From 128 coefficients on it goes by
-/// blocks of so many and the power x^128 of a point, so that the products of a block are by one scalar.
-#[inline]
-pub fn evaluate<R: Stored, W: Holds<R>, K: Many<R, W>, V: Width + Vector>(
-    coefficients: &[W],
-    points: &[W],
-    values: &mut [W],
-) -> u32
-    ensures { Evaluates (field_of W.number K.width K.product K.generator) coefficients.now points.now values.old values.new result }
-{
-    values::evaluate(Words::<R, W, K, V>::new(), coefficients, points, values)
+    values::invert(field, words, inverses)
 }

@@ -1,11 +1,11 @@
 // Products, eliminations, inverses, determinants and linear equations of matrices of words, over any field, row after row in a slice.
-ghost use Rattle.std.specs.Prelude.{◌≡◌, ◌↔◌, IsTrue, length};
-ghost use Rattle.many_words.specs.Fields.{field_of};
-ghost use Rattle.many_words.specs.Words.{AreElements};
+ghost use Rattle.std.specs.Prelude.{◌↔◌, IsTrue, length};
 ghost use Rattle.c_calls.specs.Matrices.{HaveEquationLengths, InvertsMatrix, MultipliesMatrices, ReducesRows, SolvesEquations};
 ghost use Rattle.c_calls.specs.Matrices.{TakesDeterminant, TakesRank};
 
+use crate::low_bits::{LowBits, truncate_all};
 use crate::shapes::{has_shape, have_product_shapes};
+use crate::slices::are_both_elements;
 use crate::{ScalarWords, status};
 use field_slices::matrices::{
     ColumnCopy, copy_columns, invert_beside, multiply_into, solve_augmented,
@@ -14,14 +14,14 @@ use field_slices::matrices::{
 /// Writes the product of `left`, of `rows` rows of `inner` words, and `right`, of `inner` rows of `columns` words.
 pub fn multiply<S: ScalarWords>(
     field: S,
-    left: &[S::Value],
-    right: &[S::Value],
-    product: &mut [S::Value],
+    left: &[S::Word],
+    right: &[S::Word],
+    product: &mut [S::Word],
     rows: u64,
     inner: u64,
     columns: u64,
 ) -> u32
-    ensures { MultipliesMatrices (field_of S.whole (S.width field) (S.product field) (S.generator field)) rows inner columns left.now
+    ensures { MultipliesMatrices (S.field field) rows inner columns left.now
         right.now product.old product.new result }
 {
     let (rows, inner, columns) = (rows as usize, inner as usize, columns as usize);
@@ -31,8 +31,16 @@ pub fn multiply<S: ScalarWords>(
     if !are_both_elements(field, left, right) {
         return status::NOT_AN_ELEMENT;
     }
-    multiply_into(field, product, left, right, rows, inner, columns);
-    field.truncate_all(product);
+    multiply_into(
+        LowBits { field },
+        product,
+        left,
+        right,
+        rows,
+        inner,
+        columns,
+    );
+    truncate_all(field, product);
     status::OK
 }
 
@@ -40,13 +48,13 @@ pub fn multiply<S: ScalarWords>(
 /// `pivots`, which has a place for each row, become the columns of the leading entries, and the others stay.
 pub fn row_reduce<S: ScalarWords>(
     field: S,
-    matrix: &mut [S::Value],
+    matrix: &mut [S::Word],
     rows: u64,
     columns: u64,
     pivots: &mut [usize],
     rank: &mut usize,
 ) -> u32
-    ensures { ReducesRows (field_of S.whole (S.width field) (S.product field) (S.generator field)) rows columns matrix.old pivots.old
+    ensures { ReducesRows (S.field field) rows columns matrix.old pivots.old
         rank.old matrix.new pivots.new rank.new result }
 {
     let (rows, columns) = (rows as usize, columns as usize);
@@ -56,8 +64,8 @@ pub fn row_reduce<S: ScalarWords>(
     if !field.are_elements(matrix) {
         return status::NOT_AN_ELEMENT;
     }
-    *rank = field_slices::matrices::row_reduce(field, matrix, rows, columns, pivots);
-    field.truncate_all(matrix);
+    *rank = field_slices::matrices::row_reduce(LowBits { field }, matrix, rows, columns, pivots);
+    truncate_all(field, matrix);
     status::OK
 }
 
@@ -65,14 +73,14 @@ pub fn row_reduce<S: ScalarWords>(
 /// left in space and places, whatever the status.
 pub fn rank<S: ScalarWords>(
     field: S,
-    matrix: &[S::Value],
+    matrix: &[S::Word],
     rows: u64,
     columns: u64,
-    space: &mut [S::Value],
+    space: &mut [S::Word],
     places: &mut [usize],
     rank: &mut usize,
 ) -> u32
-    ensures { TakesRank (field_of S.whole (S.width field) (S.product field) (S.generator field)) rows columns matrix.now (length space.old)
+    ensures { TakesRank (S.field field) rows columns matrix.now (length space.old)
         (length places.old) rank.old rank.new result }
 {
     let (rows, columns) = (rows as usize, columns as usize);
@@ -86,7 +94,7 @@ pub fn rank<S: ScalarWords>(
         return status::NOT_AN_ELEMENT;
     }
     space.copy_from_slice(matrix);
-    *rank = field_slices::matrices::row_reduce(field, space, rows, columns, places);
+    *rank = field_slices::matrices::row_reduce(LowBits { field }, space, rows, columns, places);
     status::OK
 }
 
@@ -94,12 +102,12 @@ pub fn rank<S: ScalarWords>(
 /// left in space, whatever the status.
 pub fn determinant<S: ScalarWords>(
     field: S,
-    matrix: &[S::Value],
+    matrix: &[S::Word],
     size: u64,
-    space: &mut [S::Value],
-    determinant: &mut S::Value,
+    space: &mut [S::Word],
+    determinant: &mut S::Word,
 ) -> u32
-    ensures { TakesDeterminant (field_of S.whole (S.width field) (S.product field) (S.generator field)) size matrix.now (length space.old)
+    ensures { TakesDeterminant (S.field field) size matrix.now (length space.old)
         determinant.old determinant.new result }
 {
     let size = size as usize;
@@ -110,7 +118,7 @@ pub fn determinant<S: ScalarWords>(
         return status::NOT_AN_ELEMENT;
     }
     space.copy_from_slice(matrix);
-    let value = field_slices::matrices::determinant(field, space, size);
+    let value = field_slices::matrices::determinant(LowBits { field }, space, size);
     *determinant = field.truncated(value);
     status::OK
 }
@@ -119,13 +127,13 @@ pub fn determinant<S: ScalarWords>(
 /// none, `inverse` stays. Nothing is said of what is left in space and places, whatever the status.
 pub fn inverse<S: ScalarWords>(
     field: S,
-    matrix: &[S::Value],
+    matrix: &[S::Word],
     size: u64,
-    inverse: &mut [S::Value],
-    space: &mut [S::Value],
+    inverse: &mut [S::Word],
+    space: &mut [S::Word],
     places: &mut [usize],
 ) -> u32
-    ensures { InvertsMatrix (field_of S.whole (S.width field) (S.product field) (S.generator field)) size matrix.now (length space.old)
+    ensures { InvertsMatrix (S.field field) size matrix.now (length space.old)
         (length places.old) inverse.old inverse.new result }
 {
     let size = size as usize;
@@ -147,8 +155,8 @@ pub fn inverse<S: ScalarWords>(
         to: 0,
         count: size,
     };
-    copy_columns(field, space, matrix, left_half);
-    if !invert_beside(field, space, size, places) {
+    copy_columns(LowBits { field }, space, matrix, left_half);
+    if !invert_beside(LowBits { field }, space, size, places) {
         return status::UNSOLVABLE;
     }
     let right_half = ColumnCopy {
@@ -159,8 +167,8 @@ pub fn inverse<S: ScalarWords>(
         to: 0,
         count: size,
     };
-    copy_columns(field, inverse, space, right_half);
-    field.truncate_all(inverse);
+    copy_columns(LowBits { field }, inverse, space, right_half);
+    truncate_all(field, inverse);
     status::OK
 }
 
@@ -169,15 +177,15 @@ pub fn inverse<S: ScalarWords>(
 /// `solution` stays. Nothing is said of what is left in space and places, whatever the status.
 pub fn solve<S: ScalarWords>(
     field: S,
-    matrix: &[S::Value],
+    matrix: &[S::Word],
     rows: u64,
     columns: u64,
-    right: &[S::Value],
-    solution: &mut [S::Value],
-    space: &mut [S::Value],
+    right: &[S::Word],
+    solution: &mut [S::Word],
+    space: &mut [S::Word],
     places: &mut [usize],
 ) -> u32
-    ensures { SolvesEquations (field_of S.whole (S.width field) (S.product field) (S.generator field)) rows columns matrix.now right.now
+    ensures { SolvesEquations (S.field field) rows columns matrix.now right.now
         (length space.old) (length places.old) solution.old solution.new result }
 {
     let (rows, columns) = (rows as usize, columns as usize);
@@ -212,25 +220,13 @@ pub fn solve<S: ScalarWords>(
         to: columns,
         count: 1,
     };
-    copy_columns(field, space, matrix, coefficients);
-    copy_columns(field, space, right, right_sides);
-    if !solve_augmented(field, space, rows, width, solution, places) {
+    copy_columns(LowBits { field }, space, matrix, coefficients);
+    copy_columns(LowBits { field }, space, right, right_sides);
+    if !solve_augmented(LowBits { field }, space, rows, width, solution, places) {
         return status::UNSOLVABLE;
     }
-    field.truncate_all(solution);
+    truncate_all(field, solution);
     status::OK
-}
-
-/// Whether every word of both slices is an element.
-pub(crate) fn are_both_elements<S: ScalarWords>(
-    field: S,
-    left: &[S::Value],
-    right: &[S::Value],
-) -> bool
-    ensures { IsTrue result ↔ (AreElements (field_of S.whole (S.width field) (S.product field) (S.generator field)) left.now
-        × AreElements (field_of S.whole (S.width field) (S.product field) (S.generator field)) right.now) }
-{
-    field.are_elements(left) && field.are_elements(right)
 }
 
 // Whether so many words and places are those of equations.

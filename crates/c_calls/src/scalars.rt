@@ -1,174 +1,128 @@
-// Words as scalars: each stands for the element that its low bits are.
-ghost use Rattle.std.specs.Prelude.{◌≡◌, ◌↔◌, ◌%◌, ◌^◌, ◌<◌, ℕ, IsTrue, get_or, length, ⊤};
-ghost use Rattle.std.proofs.Common.{refl};
-ghost use Rattle.many_words.specs.Fields.{field_of};
-ghost use Rattle.many_words.specs.Words.{AreElements};
-ghost use Rattle.c_calls.specs.Low.{low_number};
-ghost use Rattle.c_calls.specs.lemmas.Low.{low_number-lt};
+// The arithmetic of a field on words, and what it computes on many of them. Calls are written over it: over kernels, whose field is known
+// when a program is built, and over fields that a caller chooses.
+ghost use Rattle.std.specs.Prelude.{◌≡◌, ◌↔◌, ◌%◌, ◌^◌, ◌<◌, IsTrue, bit_xor, length};
+ghost use Rattle.field_base.specs.Field.{IsField, IsInverseOrZero};
+ghost use Rattle.field_base.specs.Powers.{dot_of, power};
+ghost use Rattle.many_words.specs.Fields.{WordField};
+ghost use Rattle.many_words.specs.Words.{AreElements, Each, EachOfTwo, HoldInverses, IsElement};
 
-use crate::slices::are_elements;
-use bit_slices::Vector;
-use field_base::{FieldKernel, Holds, Stored};
-use field_slices::Scalars;
-use ghash_slices::Width;
-use many_words::{Many, fields};
-use std::alloc::AllocError;
-use std::marker::PhantomData;
+mod kernels;
 
-/// The arithmetic of words, each of which stands for the element that its low bits are. A word is an element where it has no other bits.
-pub trait ScalarWords: Scalars {
-    // The number that a word is, and that of the generator that the library names.
-    ghost whole: { Self.Value → ℕ };
+pub use crate::scalars::kernels::Words;
+use many_words::Sizes;
 
-    ghost generator: { Self → ℕ };
+/// The arithmetic of a field on words. A word is an element where it has no bits above the field.
+pub trait ScalarWords: Copy {
+    /// A word.
+    type Word: Copy;
+
+    /// The least number of words whose inverses take less than as a batch: by the inverse of one product, and three products each.
+    const LEAST_INVERTED: usize;
+
+    // The field: the number that a word is, and how numbers are multiplied.
+    ghost field: { Self → WordField Self.Word };
+
+    /// The word 0.
+    fn zero(self) -> Self::Word
+        ensures { (field self).number result ≡ 0 };
+
+    /// The word 1, the one of the field.
+    fn one(self) -> Self::Word
+        ensures { (field self).number result ≡ 1 };
+
+    /// Whether a word is 0.
+    fn is_zero(self, x: Self::Word) -> bool
+        ensures { IsTrue result ↔ ((field self).number x ≡ 0) };
+
+    /// Whether a word is an element.
+    fn is_element(self, x: Self::Word) -> bool
+        ensures { IsTrue result ↔ IsElement (field self) x };
 
     /// Whether every word is an element.
-    fn are_elements(self, words: &[Self::Value]) -> bool
-        ensures { IsTrue result ↔ AreElements (field_of whole (Self.width self) (Self.product self) (generator self)) words.now };
+    fn are_elements(self, words: &[Self::Word]) -> bool
+        ensures { IsTrue result ↔ AreElements (field self) words.now };
 
     /// The word without its bits above the field.
-    fn truncated(self, word: Self::Value) -> Self::Value
-        ensures { whole result ≡ Self.number self word };
+    fn truncated(self, x: Self::Word) -> Self::Word
+        ensures { (field self).number result ≡ (field self).number x % 2 ^ (field self).width };
 
-    /// Leaves each word without its bits above the field.
-    fn truncate_all(self, words: &mut [Self::Value])
+    /// The sum.
+    fn add(self, x: Self::Word, y: Self::Word) -> Self::Word
+        ensures { (field self).number result ≡ bit_xor ((field self).number x) ((field self).number y) };
+
+    /// The product.
+    fn multiply(self, x: Self::Word, y: Self::Word) -> Self::Word
+        ensures { (field self).number result ≡ (field self).times ((field self).number x) ((field self).number y) };
+
+    /// The square.
+    fn square(self, x: Self::Word) -> Self::Word
+        ensures { (field self).number result ≡ (field self).times ((field self).number x) ((field self).number x) };
+
+    /// The square root of an element.
+    fn square_root(self, x: Self::Word) -> Self::Word
+        requires { IsElement (field self) x }
+        ensures fits { IsElement (field self) result }
+        ensures root { (field self).times ((field self).number result) ((field self).number result) ≡ (field self).number x };
+
+    /// The power of the exponent; to the power of 0 it is 1.
+    fn raise(self, x: Self::Word, exponent: u64) -> Self::Word
+        ensures { (field self).number result ≡ power 1 (field self).times ((field self).number x) exponent };
+
+    /// The inverse of an element, and 0 for 0.
+    fn invert(self, x: Self::Word) -> Self::Word
+        requires { IsElement (field self) x }
+        ensures fits { IsElement (field self) result }
+        ensures inverse { IsInverseOrZero (field self).times ((field self).number x) ((field self).number result) };
+
+    /// From how many words on the calls that follow are made: fewer are computed one after another.
+    fn sizes(self) -> Sizes
+        ensures { 0 < result.block };
+
+    /// Multiplies each word by the other word at its place. The slices are of one length.
+    fn multiply_each(self, words: &mut [Self::Word], others: &[Self::Word])
+        requires { length others.now ≡ length words.old }
         ensures long { length words.new ≡ length words.old }
-        ensures low { (k : ℕ) → k < length words.old → (d : Self.Value)
-            → whole (get_or words.new k d) ≡ Self.number self (get_or words.old k d) };
+        ensures products { EachOfTwo (field self) (λ x y z. z ≡ (field self).times x y) words.old others.now words.new };
 
-    ghost low_law: { (field : Self) (x : Self.Value) → Self.number field x ≡ whole x % 2 ^ Self.width field };
-}
+    /// Multiplies each word by the scalar, an element.
+    fn multiply_by(self, words: &mut [Self::Word], scalar: Self::Word)
+        requires { IsElement (field self) scalar }
+        ensures long { length words.new ≡ length words.old }
+        ensures products { Each (field self) (λ x y. y ≡ (field self).times x ((field self).number scalar)) words.old words.new };
 
-/// The words `W` of the field of the kernel `K`, many of which are computed in vectors `V`. Each stands for its low bits, so that every
-/// word is an element.
-pub struct Words<R, W, K, V>(PhantomData<(R, W, K, V)>);
+    /// Writes the product of each word and the scalar, an element. The slices are of one length.
+    fn write_multiples(self, words: &[Self::Word], scalar: Self::Word, products: &mut [Self::Word])
+        requires same { length words.now ≡ length products.old }
+        requires scalar { IsElement (field self) scalar }
+        requires elements { AreElements (field self) words.now }
+        ensures { Each (field self) (λ x y. y ≡ (field self).times x ((field self).number scalar)) words.now products.new };
 
-impl<R, W, K, V> Words<R, W, K, V> {
-    /// That arithmetic.
-    pub const fn new() -> Words<R, W, K, V> {
-        Words(PhantomData)
-    }
-}
+    /// Adds to each sum the product of the scalar, an element, and the word at its place. The slices are of one length.
+    fn add_scaled(self, sums: &mut [Self::Word], scalar: Self::Word, words: &[Self::Word])
+        requires same { length words.now ≡ length sums.old }
+        requires scalar { IsElement (field self) scalar }
+        ensures long { length sums.new ≡ length sums.old }
+        ensures sums { EachOfTwo (field self) (λ sum x next. next ≡ bit_xor sum ((field self).times ((field self).number scalar) x))
+            sums.old words.now sums.new };
 
-impl<R, W, K, V> Clone for Words<R, W, K, V> {
-    ghost is_clone = { λ x y. y ≡ x };
+    /// Raises each word, an element, to the power of the exponent; to the power of 0 it is 1.
+    fn raise_each(self, words: &mut [Self::Word], exponent: u64)
+        requires { AreElements (field self) words.old }
+        ensures long { length words.new ≡ length words.old }
+        ensures powers { Each (field self) (λ x y. y ≡ power 1 (field self).times x exponent) words.old words.new };
 
-    ghost is_infallible = { λ _. ⊤ };
+    /// Leaves the inverse of each word, an element, and 0 of 0.
+    fn invert_each(self, words: &mut [Self::Word])
+        requires { AreElements (field self) words.old }
+        ensures long { length words.new ≡ length words.old }
+        ensures inverses { HoldInverses (field self) words.old words.new };
 
-    fn clone(&self) -> Result<Words<R, W, K, V>, AllocError> {
-        Ok(*self)
-    }
-}
+    /// The sum of the products at each place, which is 0 of none. The slices are of one length.
+    fn dot_product(self, left: &[Self::Word], right: &[Self::Word]) -> Self::Word
+        requires { length left.now ≡ length right.now }
+        ensures { (field self).number result ≡ dot_of (field self).times (field self).number left.now right.now };
 
-impl<R, W, K, V> Copy for Words<R, W, K, V> {}
+    ghost wide_law: { (words : Self) → 0 < (field words).width };
 
-impl<R: Stored, W: Holds<R>, K: Many<R, W>, V: Width + Vector> Scalars for Words<R, W, K, V> {
-    type Value = W;
-
-    ghost width = { λ _. K.width };
-
-    ghost product = { λ _. K.product };
-
-    ghost number = { λ _. low_number W.number K.width };
-
-    #[inline(always)]
-    fn zero(self) -> W {
-        fields::zero::<R, W>()
-    }
-
-    #[inline(always)]
-    fn one(self) -> W {
-        fields::one::<R, W>()
-    }
-
-    #[inline(always)]
-    fn is_zero(self, x: W) -> bool {
-        fields::is_zero::<R, W>(truncated::<R, W, K>(x))
-    }
-
-    #[inline(always)]
-    fn add(self, x: W, y: W) -> W {
-        fields::add::<R, W>(x, y)
-    }
-
-    #[inline(always)]
-    fn multiply(self, x: W, y: W) -> W {
-        fields::multiply::<R, W, K>(x, y)
-    }
-
-    #[inline(always)]
-    fn invert(self, x: W) -> W {
-        fields::invert::<R, W, K>(truncated::<R, W, K>(x))
-    }
-
-    #[inline]
-    fn add_scaled(self, sums: &mut [W], scalar: W, values: &[W]) {
-        many_words::add_scaled::<R, W, K, V>(sums, truncated::<R, W, K>(scalar), values);
-    }
-
-    #[inline]
-    fn multiply_by(self, values: &mut [W], scalar: W) {
-        many_words::multiply_by::<R, W, K, V>(values, truncated::<R, W, K>(scalar));
-    }
-
-    #[inline(always)]
-    fn least_inverted(self) -> usize {
-        K::LEAST_IN_BATCH
-    }
-
-    #[inline]
-    fn invert_each(self, values: &[W], inverses: &mut [W]) {
-        inverses.copy_from_slice(values);
-        truncate_all::<R, W, K>(inverses);
-        many_words::invert::<R, W, K, V>(inverses);
-    }
-
-    ghost wide_law = { λ _. K.wide_law };
-
-    ghost field_law = { λ _. K.field_law };
-
-    ghost range_law = { λ _. low_number-lt W.number K.width };
-}
-
-impl<R: Stored, W: Holds<R>, K: Many<R, W>, V: Width + Vector> ScalarWords for Words<R, W, K, V> {
-    ghost whole = { W.number };
-
-    ghost generator = { λ _. K.generator };
-
-    #[inline]
-    fn are_elements(self, words: &[W]) -> bool {
-        are_elements::<R, W, K>(words)
-    }
-
-    #[inline]
-    fn truncated(self, word: W) -> W {
-        truncated::<R, W, K>(word)
-    }
-
-    #[inline]
-    fn truncate_all(self, words: &mut [W]) {
-        truncate_all::<R, W, K>(words);
-    }
-
-    ghost low_law = { λ _ _. refl };
-}
-
-// The word without its bits above the field.
-#[inline]
-fn truncated<R: Stored, W: Holds<R>, K: FieldKernel<R>>(word: W) -> W
-    ensures { W.number result ≡ W.number word % 2 ^ K.width }
-{
-    W::of_stored(K::truncate(word.stored()))
-}
-
-// Leaves each word without its bits above the field. Where an element has as many bits as a word, nothing is left of the loop.
-#[inline]
-fn truncate_all<R: Stored, W: Holds<R>, K: FieldKernel<R>>(words: &mut [W])
-    ensures long { length words.new ≡ length words.old }
-    ensures low { (k : ℕ) → k < length words.old → (d : _)
-        → W.number (get_or words.new k d) ≡ W.number (get_or words.old k d) % 2 ^ K.width }
-{
-    for place in 0..words.len() {
-        words[place] = truncated::<R, W, K>(words[place]);
-    }
+    ghost field_law: { (words : Self) → IsField (field words).width (field words).times };
 }

@@ -1,25 +1,24 @@
 // Values of polynomials and inverses of words, over any field.
 ghost use Rattle.std.specs.Prelude.{◌≡◌, length};
 ghost use Rattle.field_base.specs.Powers.{value_of};
-ghost use Rattle.many_words.specs.Fields.{field_of};
 ghost use Rattle.many_words.specs.Words.{AreElements, HoldInverses, IsElement};
 ghost use Rattle.c_calls.specs.Calls.{Evaluates, Inverts};
 
-use crate::matrices::are_both_elements;
+use crate::low_bits::{LowBits, truncate_all};
 use crate::scalars::ScalarWords;
+use crate::slices::are_both_elements;
 use crate::status;
 
 /// Writes the value at each point of the polynomial with these coefficients, the constant one first. From 128 coefficients on it goes by
 /// blocks of so many and the power x^128 of a point, so that the products of a block are by one scalar.
 #[inline]
-pub(crate) fn evaluate<S: ScalarWords>(
+pub fn evaluate<S: ScalarWords>(
     field: S,
-    coefficients: &[S::Value],
-    points: &[S::Value],
-    values: &mut [S::Value],
+    coefficients: &[S::Word],
+    points: &[S::Word],
+    values: &mut [S::Word],
 ) -> u32
-    ensures { Evaluates (field_of S.whole (S.width field) (S.product field) (S.generator field)) coefficients.now points.now
-        values.old values.new result }
+    ensures { Evaluates (S.field field) coefficients.now points.now values.old values.new result }
 {
     if points.len() != values.len() {
         return status::LENGTH;
@@ -34,20 +33,20 @@ pub(crate) fn evaluate<S: ScalarWords>(
 }
 
 // The value at a point of the polynomial with these coefficients.
-fn value_at<S: ScalarWords>(field: S, coefficients: &[S::Value], point: S::Value) -> S::Value
-    requires coefficients { AreElements (field_of S.whole (S.width field) (S.product field) (S.generator field)) coefficients.now }
-    requires point { IsElement (field_of S.whole (S.width field) (S.product field) (S.generator field)) point }
-    ensures { S.whole result ≡ value_of 1 (S.product field) S.whole coefficients.now (S.whole point) }
+fn value_at<S: ScalarWords>(field: S, coefficients: &[S::Word], point: S::Word) -> S::Word
+    requires coefficients { AreElements (S.field field) coefficients.now }
+    requires point { IsElement (S.field field) point }
+    ensures { (S.field field).number result ≡ value_of 1 (S.field field).times (S.field field).number coefficients.now
+        ((S.field field).number point) }
 {
-    field.truncated(field_slices::value_at(field, coefficients, point))
+    field.truncated(field_slices::value_at(LowBits { field }, coefficients, point))
 }
 
 /// Writes the inverse of each word, and 0 for 0: by one inverse and three products a word, or by what the field has for so many. It takes
 /// no memory.
 #[inline]
-pub(crate) fn invert<S: ScalarWords>(field: S, words: &[S::Value], inverses: &mut [S::Value]) -> u32
-    ensures { Inverts (field_of S.whole (S.width field) (S.product field) (S.generator field)) words.now inverses.old
-        inverses.new result }
+pub(crate) fn invert<S: ScalarWords>(field: S, words: &[S::Word], inverses: &mut [S::Word]) -> u32
+    ensures { Inverts (S.field field) words.now inverses.old inverses.new result }
 {
     if words.len() != inverses.len() {
         return status::LENGTH;
@@ -61,11 +60,11 @@ pub(crate) fn invert<S: ScalarWords>(field: S, words: &[S::Value], inverses: &mu
 
 // The same of words that are elements.
 #[inline]
-fn write_inverses<S: ScalarWords>(field: S, words: &[S::Value], inverses: &mut [S::Value])
+fn write_inverses<S: ScalarWords>(field: S, words: &[S::Word], inverses: &mut [S::Word])
     requires long { length inverses.old ≡ length words.now }
-    requires elements { AreElements (field_of S.whole (S.width field) (S.product field) (S.generator field)) words.now }
-    ensures { HoldInverses (field_of S.whole (S.width field) (S.product field) (S.generator field)) words.now inverses.new }
+    requires elements { AreElements (S.field field) words.now }
+    ensures { HoldInverses (S.field field) words.now inverses.new }
 {
-    field_slices::inverses_into(field, words, inverses);
-    field.truncate_all(inverses);
+    field_slices::inverses_into(LowBits { field }, words, inverses);
+    truncate_all(field, inverses);
 }

@@ -13,7 +13,7 @@ use Rattle.reed_solomon.specs.Samples.{symbol_at}
 use Rattle.reed_solomon.specs.Shards.{IsPresent, shard_byte}
 use Rattle.reed_solomon.specs.Tables.{AreApart, AreWritten, HasRow, IsEntry, nibble_sum, row_sum}
 use Rattle.reed_solomon.proofs.NibbleTables.{nibble_product}
-use Rattle.reed_solomon.proofs.Restoring.{RestoresBefore, symbol_at-same}
+use Rattle.reed_solomon.proofs.RestoredShards.{RestoresBefore, symbol_at-same}
 use Rattle.reed_solomon.proofs.RowWriting.{written_at, written_by}
 use Rattle.reed_solomon.proofs.Samples.{below_next}
 use Rattle.reed_solomon.proofs.Writing.{apart_from}

@@ -29,11 +29,11 @@ mod NibbleTables
 mod ParityWords
 mod PreparedTables
 mod RestoreErrors
-mod Restoring
+mod RestoredShards
 mod RoundTrip
 mod RowTables
 mod RowWriting
 mod Samples
-mod Strips
+mod StripRows
 mod VectorRestoring
 mod Writing

@@ -19,7 +19,7 @@ use Rattle.reed_solomon.specs.Shards.{AreCodewords, IsEncoded, shard_byte}
 use Rattle.reed_solomon.specs.Tables.{AreRows, HasRow, row_sum}
 use Rattle.reed_solomon.proofs.ByteFields.{erasure_field}
 use Rattle.reed_solomon.proofs.GroupWriting.{row_factors, row_symbol}
-use Rattle.reed_solomon.proofs.Strips.{row_sum-drop}
+use Rattle.reed_solomon.proofs.StripRows.{row_sum-drop}
 
 -- ---- the places of the data
 

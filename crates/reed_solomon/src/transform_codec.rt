@@ -5,7 +5,8 @@ ghost use Rattle.reed_solomon.specs.Codes.{AreCodedColumns};
 ghost use Rattle.reed_solomon.specs.Locators.{lost_count};
 ghost use Rattle.reed_solomon.specs.Restoring.{AreRestoredColumns, is_missing};
 ghost use Rattle.reed_solomon.specs.TransformSizes.{CanEncode, CanRebuild, EncodeError, HaveOneSize, IsPadded, RebuildError, SizeError};
-ghost use Rattle.reed_solomon.specs.declared.transform_error.TransformCodeError.TheVariants.{TooFewDataShards, TooFewParityShards, TooManyShards};
+ghost use Rattle.reed_solomon.specs.declared.transform_error.TransformCodeError.TheVariants.{TooFewDataShards};
+ghost use Rattle.reed_solomon.specs.declared.transform_error.TransformCodeError.TheVariants.{TooFewParityShards, TooManyShards};
 
 use crate::comparing::are_coded;
 use crate::direct::{are_few, restore_places};

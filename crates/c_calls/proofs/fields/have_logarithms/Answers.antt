@@ -22,7 +22,7 @@ loop-place-preserved c =
     let place = c.loop-place.place in
     let word = c.index-words-place.result in
     below_more
-    (λ k. (d : Wide) → (e : ℕ) × (power 1 (field_product c.args.field.degree c.args.field.tail) c.args.base e ≡ wide_number (get_or words k d)))
+    (λ k. (d : Wide) → (e : ℕ) × (power 1 (field_product c.args.field.named.degree (wide_number c.args.field.named.tail)) c.args.base e ≡ wide_number (get_or words k d)))
     place c.loop-place.invariant
     (λ d. (
       _,

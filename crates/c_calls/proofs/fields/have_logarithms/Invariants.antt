@@ -8,4 +8,4 @@ use Rattle.c_calls.proofs.fields.have_logarithms.Given as goal
 abbrev pub invariant-loop-place : goal.invariant-loop-place
 invariant-loop-place l =
     (k : ℕ) → k < l.place → (d : _)
-    → (e : ℕ) × (power 1 (field_product l.fn.field.degree l.fn.field.tail) l.base e ≡ wide_number (get_or l.words k d))
+    → (e : ℕ) × (power 1 (field_product l.fn.field.named.degree (wide_number l.fn.field.named.tail)) l.base e ≡ wide_number (get_or l.words k d))

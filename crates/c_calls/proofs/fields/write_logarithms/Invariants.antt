@@ -8,5 +8,5 @@ use Rattle.c_calls.proofs.fields.write_logarithms.Given as goal
 abbrev pub invariant-loop-place : goal.invariant-loop-place
 invariant-loop-place l =
     (k : ℕ) → k < l.place → (d : _)
-    → IsLogarithm (field_product l.field.degree l.field.tail) l.base_number (wide_number (get_or l.words k d))
+    → IsLogarithm (field_product l.field.named.degree (wide_number l.field.named.tail)) l.base_number (wide_number (get_or l.words k d))
     (wide_number (get_or l.logarithms k d))

@@ -1,5 +1,4 @@
 use Rattle.std.proofs.Common.{◌∙◌}
-use Rattle.many_words.specs.Fields.{field_of}
 use Rattle.c_calls.proofs.Calls.{determinant_is}
 use Rattle.c_calls.proofs.Endings.{call_done, call_no_elements, refuted}
 use Rattle.c_calls.proofs.matrices.determinant.Goals as goal
@@ -11,12 +10,9 @@ returns-then-not-are_elements g c =
 
 pub returns : goal.returns
 returns g c =
-    let field =
-    field_of g.S.ScalarWords.whole (g.S.Scalars.width c.args.field) (g.S.Scalars.product c.args.field) (g.S.ScalarWords.generator c.args.field) in
-    let low = g.S.Scalars.number c.args.field in
-    let is_low = g.met.S.ScalarWords.low_law c.args.field in
+    let field = g.S.ScalarWords.field c.args.field in
     let shape = c.has_shape.ensures.0 c.if-not-has_shape.false in
     let fits = c.are_elements.ensures.0 c.if-not-are_elements.false in
     call_done (shape, c.if-space-matrix.false ∙ shape) fits
-    (determinant_is field low is_low c.args.size (field.number c.truncated.result) c.args.matrix.now c.copy_from_slice.new.self fits
+    (determinant_is field c.args.size (field.number c.truncated.result) c.args.matrix.now c.copy_from_slice.new.self fits
     c.copy_from_slice.ensures.after (c.truncated.ensures ∙ c.determinant-value.ensures.determinant))

@@ -2,8 +2,8 @@ use Rattle.std.proofs.Common.{ℕ, ◌+◌, ◌*◌, List, refl, sym, ◌∙◌,
 use Rattle.std.specs.Prelude.{slice_index}
 use Rattle.field_slices.specs.Matrices.{entry_of}
 use Rattle.field_slices.proofs.MatrixRows.{put-whole}
-use Rattle.many_words.specs.Fields.{field_of}
 use Rattle.c_calls.specs.Matrices.{entries}
+use Rattle.c_calls.specs.Low.{low_number}
 use Rattle.c_calls.proofs.Endings.{call_solved, call_unsolved, equations_no_elements, refuted}
 use Rattle.c_calls.proofs.Equations.{first_entry, inverse_same}
 use Rattle.c_calls.proofs.LowNumbers.{now_elements, now_numbers}
@@ -34,13 +34,10 @@ copy_columns-requires-2-clause-shape g c = c.if-inverse-matrix.false ∙ c.has_s
 
 pub returns-then-not-invert_beside : goal.returns-then-not-invert_beside
 returns-then-not-invert_beside g c =
-    let field =
-    field_of g.S.ScalarWords.whole (g.S.Scalars.width c.args.field) (g.S.Scalars.product c.args.field) (g.S.ScalarWords.generator c.args.field) in
-    let low = g.S.Scalars.number c.args.field in
-    let is_low = g.met.S.ScalarWords.low_law c.args.field in
+    let field = g.S.ScalarWords.field c.args.field in
     let n = c.args.size in
     let matrix = c.args.matrix.now in
-    let beside = entry_of low (n + n) c.copy_columns.new.target in
+    let beside = entry_of (low_number field.number field.width) (n + n) c.copy_columns.new.target in
     let shape = c.has_shape.ensures.0 c.if-not-has_shape.false in
     let fits = c.are_elements.ensures.0 c.if-not-are_elements.false in
     call_unsolved
@@ -49,21 +46,18 @@ returns-then-not-invert_beside g c =
     c.invert_beside.ensures.singular c.if-not-invert_beside.true found.0
     (inverse_same field.times n (entries field n matrix) found.0 beside found.0
     (λ i j inside within.
-    first_entry field low is_low (n + n) n matrix c.args.space.now fits beside i j within
+    first_entry field (n + n) n matrix c.args.space.now fits beside i j within
     (c.copy_columns.ensures.entries i j inside (omega (arith, within))))
     (λ i j inside within. refl) found.1).1)
     refl
 
 pub returns : goal.returns
 returns g c =
-    let field =
-    field_of g.S.ScalarWords.whole (g.S.Scalars.width c.args.field) (g.S.Scalars.product c.args.field) (g.S.ScalarWords.generator c.args.field) in
-    let low = g.S.Scalars.number c.args.field in
-    let is_low = g.met.S.ScalarWords.low_law c.args.field in
+    let field = g.S.ScalarWords.field c.args.field in
     let n = c.args.size in
     let matrix = c.args.matrix.now in
-    let beside = entry_of low (n + n) c.copy_columns.new.target in
-    let after = entry_of low (n + n) c.invert_beside.new.augmented in
+    let beside = entry_of (low_number field.number field.width) (n + n) c.copy_columns.new.target in
+    let after = entry_of (low_number field.number field.width) (n + n) c.invert_beside.new.augmented in
     let target = c.copy_columns-2.new.target in
     let new = c.truncate_all.new.words in
     let long = c.truncate_all.ensures.long in
@@ -73,13 +67,13 @@ returns g c =
     let inverses =
     inverse_same field.times n beside (λ i j. after i (n + j)) (entries field n matrix) (entries field n new)
     (λ i j inside within.
-    sym (first_entry field low is_low (n + n) n matrix c.args.space.now fits beside i j within
+    sym (first_entry field (n + n) n matrix c.args.space.now fits beside i j within
     (c.copy_columns.ensures.entries i j inside (omega (arith, within)))))
     (λ i j inside within.
-    ap (λ (ns : List ℕ). slice_index ns (i * n + j)) (now_numbers field low is_low target new long cut)
+    ap (λ (ns : List ℕ). slice_index ns (i * n + j)) (now_numbers field target new long cut)
     ∙ c.copy_columns-2.ensures.entries i j inside within
-    ∙ put-whole n (λ k. after i (n + k)) (entry_of low n c.args.inverse.now i) j within)
+    ∙ put-whole n (λ k. after i (n + k)) (entry_of (low_number field.number field.width) n c.args.inverse.now i) j within)
     (c.invert_beside.ensures.inverse c.if-not-invert_beside.false) in
     call_solved
     (shape, c.if-inverse-matrix.false ∙ shape, c.has_shape-2.ensures.0 c.if-not-has_shape-2.false, c.if-places-size.false) fits
-    (entries field n new, inverses) (now_elements field low is_low target new long cut, inverses)
+    (entries field n new, inverses) (now_elements field target new long cut, inverses)

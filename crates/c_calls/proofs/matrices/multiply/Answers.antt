@@ -1,4 +1,3 @@
-use Rattle.many_words.specs.Fields.{field_of}
 use Rattle.c_calls.proofs.Calls.{product_is}
 use Rattle.c_calls.proofs.Endings.{call_done, call_misfit, call_no_elements, refuted}
 use Rattle.c_calls.proofs.LowNumbers.{now_numbers}
@@ -24,14 +23,11 @@ returns-then-not-are_both_elements g c =
 
 pub returns : goal.returns
 returns g c =
-    let field =
-    field_of g.S.ScalarWords.whole (g.S.Scalars.width c.args.field) (g.S.Scalars.product c.args.field) (g.S.ScalarWords.generator c.args.field) in
-    let low = g.S.Scalars.number c.args.field in
-    let is_low = g.met.S.ScalarWords.low_law c.args.field in
+    let field = g.S.ScalarWords.field c.args.field in
     let target = c.multiply_into.new.target in
     let product = c.truncate_all.new.words in
     let fits = c.are_both_elements.ensures.0 c.if-not-are_both_elements.false in
     call_done (c.have_product_shapes.ensures.0 c.if-not-have_product_shapes.false)
     fits
-    (product_is field low is_low c.args.rows c.args.inner c.args.columns c.args.left.now c.args.right.now target product fits.0 fits.1
-    (now_numbers field low is_low target product c.truncate_all.ensures.long c.truncate_all.ensures.low) c.multiply_into.ensures.product)
+    (product_is field c.args.rows c.args.inner c.args.columns c.args.left.now c.args.right.now target product fits.0 fits.1
+    (now_numbers field target product c.truncate_all.ensures.long c.truncate_all.ensures.low) c.multiply_into.ensures.product)

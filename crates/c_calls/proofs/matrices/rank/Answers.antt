@@ -1,5 +1,4 @@
 use Rattle.std.proofs.Common.{length, ◌∙◌, ap}
-use Rattle.many_words.specs.Fields.{field_of}
 use Rattle.c_calls.proofs.Calls.{rank_is}
 use Rattle.c_calls.proofs.Endings.{call_done, call_no_elements, refuted}
 use Rattle.c_calls.proofs.matrices.rank.Goals as goal
@@ -18,12 +17,9 @@ row_reduce-requires-clause-room g c = c.if-places-rows.false
 
 pub returns : goal.returns
 returns g c =
-    let field =
-    field_of g.S.ScalarWords.whole (g.S.Scalars.width c.args.field) (g.S.Scalars.product c.args.field) (g.S.ScalarWords.generator c.args.field) in
-    let low = g.S.Scalars.number c.args.field in
-    let is_low = g.met.S.ScalarWords.low_law c.args.field in
+    let field = g.S.ScalarWords.field c.args.field in
     let shape = c.has_shape.ensures.0 c.if-not-has_shape.false in
     let fits = c.are_elements.ensures.0 c.if-not-are_elements.false in
     call_done (shape, c.if-space-matrix.false ∙ shape, c.if-places-rows.false) fits
-    (rank_is field low is_low c.args.rows c.args.columns c.row_reduce.result c.row_reduce.new.pivots c.args.matrix.now c.copy_from_slice.new.self
+    (rank_is field c.args.rows c.args.columns c.row_reduce.result c.row_reduce.new.pivots c.args.matrix.now c.copy_from_slice.new.self
     c.row_reduce.new.matrix fits c.copy_from_slice.ensures.after c.row_reduce.ensures.reduced c.row_reduce.ensures.space)

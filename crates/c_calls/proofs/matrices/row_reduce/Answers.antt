@@ -1,4 +1,3 @@
-use Rattle.many_words.specs.Fields.{field_of}
 use Rattle.c_calls.proofs.Calls.{reduced_is}
 use Rattle.c_calls.proofs.Endings.{call_done, call_no_elements, refuted}
 use Rattle.c_calls.proofs.LowNumbers.{now_elements, now_numbers}
@@ -17,16 +16,13 @@ row_reduce-requires-clause-room g c = c.if-pivots-rows.false
 
 pub returns : goal.returns
 returns g c =
-    let field =
-    field_of g.S.ScalarWords.whole (g.S.Scalars.width c.args.field) (g.S.Scalars.product c.args.field) (g.S.ScalarWords.generator c.args.field) in
-    let low = g.S.Scalars.number c.args.field in
-    let is_low = g.met.S.ScalarWords.low_law c.args.field in
+    let field = g.S.ScalarWords.field c.args.field in
     let target = c.row_reduce.new.matrix in
     let new = c.truncate_all.new.words in
     let long = c.truncate_all.ensures.long in
     let cut = c.truncate_all.ensures.low in
     let fits = c.are_elements.ensures.0 c.if-not-are_elements.false in
     call_done (c.has_shape.ensures.0 c.if-not-has_shape.false, c.if-pivots-rows.false) fits
-    (reduced_is field low is_low c.args.rows c.args.columns c.row_reduce.result c.args.pivots.now c.row_reduce.new.pivots c.args.matrix.now target new
-    fits (now_elements field low is_low target new long cut) (now_numbers field low is_low target new long cut) c.row_reduce.ensures.reduced
+    (reduced_is field c.args.rows c.args.columns c.row_reduce.result c.args.pivots.now c.row_reduce.new.pivots c.args.matrix.now target new
+    fits (now_elements field target new long cut) (now_numbers field target new long cut) c.row_reduce.ensures.reduced
     c.row_reduce.ensures.rest c.row_reduce.ensures.space)

@@ -1,7 +1,7 @@
 use Rattle.std.proofs.Common.{ℕ, ◌+◌, List, length, map, sym, subst, ◌∙◌, ap, arith}
 use Rattle.std.specs.Prelude.{slice_index}
 use Rattle.field_slices.specs.Matrices.{IsSolution, entry_of}
-use Rattle.many_words.specs.Fields.{field_of}
+use Rattle.c_calls.specs.Low.{low_number}
 use Rattle.c_calls.proofs.Endings.{call_solved, call_unsolved, equations_misfit, equations_no_elements, refuted}
 use Rattle.c_calls.proofs.Equations.{is_solution, solution_is}
 use Rattle.c_calls.proofs.LowNumbers.{now_elements, now_numbers}
@@ -44,39 +44,33 @@ solve_augmented-requires-clause-room g c = (c.have_lengths.ensures.0 c.if-not-ha
 
 pub returns-then-not-solve_augmented : goal.returns-then-not-solve_augmented
 returns-then-not-solve_augmented g c =
-    let field =
-    field_of g.S.ScalarWords.whole (g.S.Scalars.width c.args.field) (g.S.Scalars.product c.args.field) (g.S.ScalarWords.generator c.args.field) in
-    let low = g.S.Scalars.number c.args.field in
-    let is_low = g.met.S.ScalarWords.low_law c.args.field in
+    let field = g.S.ScalarWords.field c.args.field in
     let fits = c.are_both_elements.ensures.0 c.if-not-are_both_elements.false in
     let lengths = c.have_lengths.ensures.0 c.if-not-have_lengths.false in
-    let beside = entry_of low (c.args.columns + 1) c.copy_columns-2.new.target in
+    let beside = entry_of (low_number field.number field.width) (c.args.columns + 1) c.copy_columns-2.new.target in
     call_unsolved lengths fits
     (λ found.
     c.solve_augmented.ensures.unsolvable c.if-not-solve_augmented.true found.0
     (subst (λ (n : ℕ). IsSolution field.times c.args.rows n beside found.0) (sym lengths.unknowns)
-    (is_solution field low is_low c.args.rows c.args.columns c.args.matrix.now c.args.right.now fits.0 fits.1 c.args.space.now
+    (is_solution field c.args.rows c.args.columns c.args.matrix.now c.args.right.now fits.0 fits.1 c.args.space.now
     c.copy_columns.new.target c.copy_columns-2.new.target c.copy_columns.ensures.entries c.copy_columns-2.ensures.entries found.0 found.1)))
     (c.solve_augmented.ensures.stays c.if-not-solve_augmented.true)
 
 pub returns : goal.returns
 returns g c =
-    let field =
-    field_of g.S.ScalarWords.whole (g.S.Scalars.width c.args.field) (g.S.Scalars.product c.args.field) (g.S.ScalarWords.generator c.args.field) in
-    let low = g.S.Scalars.number c.args.field in
-    let is_low = g.met.S.ScalarWords.low_law c.args.field in
+    let field = g.S.ScalarWords.field c.args.field in
     let fits = c.are_both_elements.ensures.0 c.if-not-are_both_elements.false in
     let lengths = c.have_lengths.ensures.0 c.if-not-have_lengths.false in
-    let beside = entry_of low (c.args.columns + 1) c.copy_columns-2.new.target in
+    let beside = entry_of (low_number field.number field.width) (c.args.columns + 1) c.copy_columns-2.new.target in
     let target = c.solve_augmented.new.solution in
     let new = c.truncate_all.new.words in
     let long = c.truncate_all.ensures.long in
     let cut = c.truncate_all.ensures.low in
     let x = slice_index (map field.number new) in
     let solved =
-    solution_is field low is_low c.args.rows c.args.columns c.args.matrix.now c.args.right.now fits.0 fits.1 c.args.space.now
+    solution_is field c.args.rows c.args.columns c.args.matrix.now c.args.right.now fits.0 fits.1 c.args.space.now
     c.copy_columns.new.target c.copy_columns-2.new.target c.copy_columns.ensures.entries c.copy_columns-2.ensures.entries x
     (subst (λ (n : ℕ). IsSolution field.times c.args.rows n beside x) lengths.unknowns
-    (subst (λ (ns : List ℕ). IsSolution field.times c.args.rows (length c.args.solution.now) beside (slice_index ns)) (sym (now_numbers field low is_low target new long cut))
+    (subst (λ (ns : List ℕ). IsSolution field.times c.args.rows (length c.args.solution.now) beside (slice_index ns)) (sym (now_numbers field target new long cut))
     (c.solve_augmented.ensures.solution c.if-not-solve_augmented.false))) in
-    call_solved lengths fits (x, solved) (now_elements field low is_low target new long cut, solved)
+    call_solved lengths fits (x, solved) (now_elements field target new long cut, solved)

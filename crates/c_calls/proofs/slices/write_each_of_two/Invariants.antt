@@ -3,6 +3,6 @@ use Rattle.c_calls.proofs.slices.write_each_of_two.Given as goal
 
 abbrev pub invariant-loop-place : goal.invariant-loop-place
 invariant-loop-place g l =
-    let number = g.W.Reads.number in
+    let number = (g.S.ScalarWords.field l.field).number in
     (k : ℕ) → k < l.place → (d : _)
-    → g.O.OnTwo.gives l.operation (number (get_or l.left k d)) (number (get_or l.right k d)) (number (get_or l.results k d))
+    → g.O.AtTwo.gives l.operation l.field (number (get_or l.left k d)) (number (get_or l.right k d)) (number (get_or l.results k d))

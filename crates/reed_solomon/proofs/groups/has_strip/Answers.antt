@@ -1,6 +1,6 @@
 use Rattle.std.proofs.Common.{◌≡◌, ◌+◌, ◌-◌, ◌*◌, false, take, drop, refl, sym, ◌∙◌, arith, rules}
 use Rattle.std.proofs.lemmas.Bool.{false≢true}
-use Rattle.reed_solomon.proofs.Strips.{row_equal, rows_more}
+use Rattle.reed_solomon.proofs.StripRows.{row_equal, rows_more}
 use Rattle.reed_solomon.proofs.groups.has_strip.Goals as goal
 
 pub returns-then-ne : goal.returns-then-ne

@@ -2,7 +2,7 @@ use Rattle.std.proofs.Common.{◌≡◌, ◌+◌, ◌-◌, ◌*◌, ◌<◌, ◌
 use Rattle.std.proofs.lemmas.Bool.{false≢true}
 use Rattle.std.proofs.lemmas.List.{get_or-take, length-take-le, take_rest}
 use Rattle.reed_solomon.specs.Tables.{row_sum}
-use Rattle.reed_solomon.proofs.Strips.{columns_more, strip_equal}
+use Rattle.reed_solomon.proofs.StripRows.{columns_more, strip_equal}
 use Rattle.reed_solomon.proofs.groups.matches_group.Goals as goal
 
 -- where the rows of a strip begin

@@ -1,5 +1,5 @@
 use Rattle.std.proofs.Common.{length, slice_index, refl, arith}
-use Rattle.reed_solomon.proofs.Strips.{strip_row}
+use Rattle.reed_solomon.proofs.StripRows.{strip_row}
 use Rattle.reed_solomon.proofs.groups.put_strip.Goals as goal
 
 pub loop-row-preserved : goal.loop-row-preserved

@@ -5,7 +5,7 @@ use Rattle.reed_solomon.specs.ByteFields.{byte_times}
 use Rattle.reed_solomon.specs.declared.byte_field.ByteField.TheVariants.{Qr}
 use Rattle.reed_solomon.specs.Tables.{AreApart, HasRow}
 use Rattle.reed_solomon.proofs.GroupWriting.{apart_places, group_symbols, group_written}
-use Rattle.reed_solomon.proofs.Strips.{part_at, part_length}
+use Rattle.reed_solomon.proofs.StripRows.{part_at, part_length}
 use Rattle.reed_solomon.proofs.groups.restore_by_tables.Goals as goal
 
 pub restore_group-requires-clause-fits : goal.restore_group-requires-clause-fits

@@ -1,7 +1,7 @@
 use Rattle.std.proofs.Common.{◌≡◌, ◌+◌, ◌*◌, ◌≤◌, ℕ, List, length, take, slice_index, ◌∙◌, ap, arith}
 use Rattle.std.proofs.lemmas.List.{get_or-take, length-take-le, take_rest}
 use Rattle.reed_solomon.specs.Tables.{row_sum}
-use Rattle.reed_solomon.proofs.Strips.{strip_written}
+use Rattle.reed_solomon.proofs.StripRows.{strip_written}
 use Rattle.reed_solomon.proofs.groups.restore_group.Goals as goal
 
 pub loop-column-preserved : goal.loop-column-preserved

@@ -2,7 +2,7 @@ use Rattle.std.proofs.Common.{◌-◌, ◌≤◌, length, slice_index, arith}
 use Rattle.reed_solomon.proofs.GroupWriting.{missing_kept, missing_written}
 use Rattle.reed_solomon.proofs.MissingTables.{missing_few, sample_within, tables_agree}
 use Rattle.reed_solomon.proofs.PreparedTables.{tables_fewer}
-use Rattle.reed_solomon.proofs.Restoring.{all_restored}
+use Rattle.reed_solomon.proofs.RestoredShards.{all_restored}
 use Rattle.reed_solomon.proofs.missing.restore_missing.Goals as goal
 
 pub restore_prepared-requires-clause-listed : goal.restore_prepared-requires-clause-listed

@@ -7,7 +7,7 @@ use Rattle.reed_solomon.specs.Samples.{symbol_at}
 use Rattle.reed_solomon.specs.Tables.{AreApart, AreWritten}
 use Rattle.reed_solomon.proofs.GroupWriting.{apart_places, group_symbols, group_written}
 use Rattle.reed_solomon.proofs.PreparedTables.{group_tables, group_within}
-use Rattle.reed_solomon.proofs.Strips.{part_at, part_length}
+use Rattle.reed_solomon.proofs.StripRows.{part_at, part_length}
 use Rattle.reed_solomon.proofs.missing.restore_prepared.Goals as goal
 
 pub restore_group-requires-clause-fits : goal.restore_group-requires-clause-fits

@@ -1,7 +1,7 @@
 use Rattle.std.proofs.Common.{◌≡◌, ◌+◌, ◌*◌, ◌≤◌, ℕ, length, subst, arith}
 use Rattle.reed_solomon.specs.Parity.{parity_symbol}
 use Rattle.reed_solomon.specs.Tables.{AreWritten}
-use Rattle.reed_solomon.proofs.Strips.{strip_behind}
+use Rattle.reed_solomon.proofs.StripRows.{strip_behind}
 use Rattle.reed_solomon.proofs.parity.write_parity_group.Goals as goal
 
 pub write_parity_strip-requires-clause-within : goal.write_parity_strip-requires-clause-within

@@ -2,7 +2,7 @@ use Rattle.std.proofs.Common.{◌≡◌, ◌+◌, ◌-◌, ◌*◌, ◌<◌, ℕ
 use Rattle.std.proofs.lemmas.List.{get_or-take, length-drop, length-take-le, take_rest}
 use Rattle.reed_solomon.specs.Tables.{AreApart}
 use Rattle.reed_solomon.proofs.GroupWriting.{apart_places, columns_apart}
-use Rattle.reed_solomon.proofs.Strips.{column_symbols}
+use Rattle.reed_solomon.proofs.StripRows.{column_symbols}
 use Rattle.reed_solomon.proofs.parity.write_parity_strip.Goals as goal
 
 pub write_group-requires : goal.write_group-requires

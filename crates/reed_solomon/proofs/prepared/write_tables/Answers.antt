@@ -6,7 +6,7 @@ use Rattle.reed_solomon.specs.ByteFields.{byte_times}
 use Rattle.reed_solomon.specs.declared.byte_field.ByteField.TheVariants.{Qr}
 use Rattle.reed_solomon.specs.Tables.{HasRow}
 use Rattle.reed_solomon.proofs.PreparedTables.{AreTablesBefore, no_tables, rows_room, tables_more, tables_whole}
-use Rattle.reed_solomon.proofs.Strips.{part_at, part_length}
+use Rattle.reed_solomon.proofs.StripRows.{part_at, part_length}
 use Rattle.reed_solomon.proofs.prepared.write_tables.Goals as goal
 
 pub loop-group-init : goal.loop-group-init

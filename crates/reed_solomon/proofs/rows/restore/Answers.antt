@@ -1,6 +1,6 @@
 use Rattle.std.proofs.Common.{length, slice_index}
 use Rattle.reed_solomon.proofs.GroupWriting.{missing_written}
-use Rattle.reed_solomon.proofs.Restoring.{all_restored}
+use Rattle.reed_solomon.proofs.RestoredShards.{all_restored}
 use Rattle.reed_solomon.proofs.rows.restore.Goals as goal
 
 pub returns-clause-restored : goal.returns-clause-restored

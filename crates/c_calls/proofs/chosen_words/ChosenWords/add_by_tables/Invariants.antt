@@ -10,5 +10,5 @@ invariant-loop-place l =
     (length l.sums ≡ length l.fn.sums)
     × ((k : ℕ) → k < l.place → (d : _)
     → wide_number (get_or l.sums k d)
-    ≡ bit_xor (wide_number (get_or l.fn.sums k d)) (field_product l.self.field.degree l.self.field.tail (wide_number (get_or l.words k d)) l.scalar))
+    ≡ bit_xor (wide_number (get_or l.fn.sums k d)) (field_product l.self.named.degree (wide_number l.self.named.tail) (wide_number (get_or l.words k d)) l.scalar))
     × ((k : ℕ) → l.place ≤ k → k < length l.sums → (d : _) → get_or l.sums k d ≡ get_or l.fn.sums k d)

@@ -8,5 +8,5 @@ abbrev pub invariant-loop-place : goal.invariant-loop-place
 invariant-loop-place l =
     (length l.words ≡ length l.fn.words)
     × ((k : ℕ) → k < l.place → (d : _)
-    → wide_number (get_or l.words k d) ≡ field_product l.self.field.degree l.self.field.tail (wide_number (get_or l.fn.words k d)) l.scalar)
+    → wide_number (get_or l.words k d) ≡ field_product l.self.named.degree (wide_number l.self.named.tail) (wide_number (get_or l.fn.words k d)) l.scalar)
     × ((k : ℕ) → l.place ≤ k → k < length l.words → (d : _) → get_or l.words k d ≡ get_or l.fn.words k d)

@@ -1,19 +1,24 @@
-use Rattle.std.proofs.Common.{ℕ, ◌^◌, ◌<◌, sym, subst}
-use Rattle.any_field.proofs.WordRemainders.{context-ring}
+use Rattle.std.proofs.Common.{◌≡◌, ℕ, ◌^◌, ◌<◌, sym, subst, ◌∙◌, ap}
+use Rattle.any_field.specs.Contexts.{field_product}
+use Rattle.field_base.proofs.RingLemmas.{mod-times}
 use Rattle.c_calls.specs.Fields.{wide_number}
 use Rattle.c_calls.specs.lemmas.Low.{low_number-lt}
-use Rattle.c_calls.proofs.ChosenScalars.{product-named}
+use Rattle.c_calls.specs.lemmas.Named.{by-words}
+use Rattle.c_calls.proofs.ChosenRings.{chosen-ring}
 use Rattle.c_calls.proofs.chosen_words.ChosenWords.product_by.Goals as goal
 
 pub of-requires : goal.of-requires
 of-requires c =
-    subst (λ (d : ℕ). c.low_bits.result < 2 ^ d) (sym c.requires.degree)
-    (subst (λ (n : ℕ). n < 2 ^ c.args.self.field.degree) (sym c.low_bits.ensures)
-    (low_number-lt wide_number c.args.self.field.degree c.args.word))
+    let degree = c.args.self.named.degree in
+    subst (λ (d : ℕ). c.low_bits.result < 2 ^ d) (sym (c.requires.degree ∙ c.args.self.degree))
+    (subst (λ (n : ℕ). n < 2 ^ degree) (sym c.low_bits.ensures) (low_number-lt wide_number degree c.args.word))
 
 pub returns : goal.returns
 returns c =
-    let field = c.args.self.field in
-    let by = c.args.multiples.now in
-    product-named field.degree field.tail (context-ring field.degree field.tail field.ratio field.context) by.field.degree by.field.tail
-    (wide_number c.args.word) c.low_bits.result by.scalar c.of.result c.requires.degree c.requires.tail c.low_bits.ensures c.of.ensures
+    let self = c.args.self in
+    let degree = self.named.degree in
+    let times = field_product degree (wide_number self.named.tail) in
+    let scalar = c.args.multiples.now.scalar in
+    by-words degree (wide_number self.named.tail) (λ (d t : ℕ). c.of.result ≡ field_product d t c.low_bits.result scalar)
+    (c.requires.degree ∙ self.degree) (c.requires.tail ∙ self.tail) c.of.ensures
+    ∙ ap (λ (x : ℕ). times x scalar) c.low_bits.ensures ∙ mod-times degree 1 times (chosen-ring self) (wide_number c.args.word) scalar

@@ -1,4 +1,0 @@
-use Rattle.c_calls.proofs.field_operations.NormOverAtOne.at.Goals as goal
-
-pub returns-in-None : goal.returns-in-None
-returns-in-None c = absurd (c.in-None.ensures.none c.args.self.now.divides)
