@@ -1,5 +1,5 @@
-// Slices of elements, and slices as packings. `batch_multiplicative_inverse`, `powers_vec`, `shifted_powers_vec` and `eq_poly` of two or
-// three elements of GF(2), each granted in a heap with room, and refused in one without; nothing is left behind. `pack_slice` and
+// Slices of elements, and slices as packings. `batch_multiplicative_inverse`, `powers_vec`, `shifted_powers_vec` and `eq_poly` of 32
+// elements of GF(2), each granted in a heap with room, and refused in one without; nothing is left behind. `pack_slice` and
 // `packed_powers_vec` of 0 to 9 values, each growth refused in turn. Each has one body for every field.
 use crate::{Ending, Growing, Rest, is_refused_in_turn};
 use field_base::Gf2;
@@ -15,11 +15,11 @@ use std::test::Fail;
 
 /// Whether every call that takes memory is granted it, or every one refused.
 fn all_are<A: Allocator>(alloc: &A, granted: bool) -> bool {
-    let point = [Gf2::ONE, Gf2::ONE];
-    batch_multiplicative_inverse(alloc, &point).is_ok() == granted
-        && eq_poly(alloc, &point).is_ok() == granted
-        && powers_vec(alloc, point[0], 3).is_ok() == granted
-        && shifted_powers_vec(alloc, point[0], point[1], 3).is_ok() == granted
+    let one = Gf2::ONE;
+    batch_multiplicative_inverse(alloc, &[one; 32]).is_ok() == granted
+        && eq_poly(alloc, &[one; 5]).is_ok() == granted
+        && powers_vec(alloc, one, 32).is_ok() == granted
+        && shifted_powers_vec(alloc, one, one, 32).is_ok() == granted
 }
 
 #[test]
