@@ -1,3 +1,4 @@
+mod ShareProducts
 mod Interpolating
 mod Loops
 mod Secrecy

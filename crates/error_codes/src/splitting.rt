@@ -3,9 +3,9 @@ ghost use Rattle.std.specs.Prelude.{◌≡◌, ◌-◌, ◌*◌, ◌<◌, ◌↔
 ghost use Rattle.error_codes.specs.Refusals.{CanSplit, RefusesSplit};
 ghost use Rattle.error_codes.specs.Sharing.{share_byte, AreSplit};
 
-use crate::product::image;
+use crate::product::{columns_of, image};
 use crate::sharing_error::SharingError;
-use reed_solomon::byte_field::{ByteField, images_of};
+use reed_solomon::byte_field::ByteField;
 
 /// Splits a secret into `count` shares, any `needed` of which restore it. Share i, counted from 0, has the index i +
 /// 1, stands at i · (length of the secret) in `shares` and is as long as the secret.
@@ -92,7 +92,7 @@ fn share_byte(
     requires inside { place < length secret.now }
     ensures { result ≡ share_byte field others secret.now draws.now index place }
 {
-    let columns = images_of(field, index);
+    let columns = columns_of(field, index);
     let mut value = 0;
     for back in 0..others {
         let row = others - 1 - back;

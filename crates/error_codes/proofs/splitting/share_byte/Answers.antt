@@ -17,11 +17,11 @@ loop-back-preserved c =
       fits = xor_of_8 c.image.result _ c.image.type_inv drawn;
       so_far = next_coefficient c.args.field c.args.others (length c.args.secret.now) c.args.place c.args.index c.loop-back.value c.loop-back.back row
           c.image.result c.args.draws.now c.loop-back-test.true refl
-          (c.image.ensures ∙ c.images_of-columns.ensures c.loop-back.value c.loop-back.invariant.fits) drawn c.loop-back.invariant.so_far;
+          (c.image.ensures ∙ c.columns_of-columns.ensures c.loop-back.value c.loop-back.invariant.fits) drawn c.loop-back.invariant.so_far;
     }
 
 pub returns : goal.returns
 returns c =
     last_coefficient c.args.field c.args.others c.args.place c.args.index c.loop-back.value c.loop-back.back c.image-2.result c.args.secret.now
-    c.args.draws.now (omega arith) (c.image-2.ensures ∙ c.images_of-columns.ensures c.loop-back.value c.loop-back.invariant.fits)
+    c.args.draws.now (omega arith) (c.image-2.ensures ∙ c.columns_of-columns.ensures c.loop-back.value c.loop-back.invariant.fits)
     (c.type_inv.secret c.args.place).fits c.loop-back.invariant.so_far
